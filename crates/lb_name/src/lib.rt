@@ -1,0 +1,9 @@
+//! Domain names (RFC 1035 sections 2.3.4 and 3.1): a name is its list of labels, and it is read from a message
+//! exactly where one stands there.
+#![tactic(auto)]
+
+mod fault;
+mod name;
+
+pub use fault::NameFault;
+pub use name::Name;
