@@ -1,0 +1,9 @@
+pub use Rattle.lb_name.specs.Name
+pub use Rattle.lb_name.specs.Reading
+pub mod Words
+pub mod Numbers
+pub mod Flags
+pub mod Record
+pub mod Message
+pub mod Query
+pub mod Answer

@@ -1,0 +1,28 @@
+-- The layout of a query (RFC 1035 section 4.1), and what bytes read as.
+use Rattle.std.specs.Prelude.{◌≡◌, ℕ, ◌+◌, ◌<◌, ◌≤◌, ◌^◌, List, length, Result, Ok, Err}
+use Rattle.lb_wire.specs.Words.{word_at}
+use Rattle.lb_wire.specs.Message.{Message, Lays, count_of, question_octets}
+use Rattle.lb_wire.specs.declared.query.QueryView.{QueryView}
+use Rattle.lb_wire.specs.declared.query.QueryFault.{QueryFault}
+use Rattle.lb_wire.specs.declared.query.QueryFault.TheVariants as faults
+
+-- a message is a query: QR is 0, and it has no record
+pub record IsQuery (m : Message) : Type 0 where
+  pub flags : m.header.flags.0 < 2 ^ 15
+  pub no_record : count_of m.header ≡ 0
+
+-- the parts of a query that decide about it
+abbrev pub view_of : Message → QueryView
+view_of m = record { id = m.header.id; flags = m.header.flags; name = m.name; qtype = m.qtype; qclass = m.qclass; question_end = 12 + length (question_octets m.name m.qtype m.qclass) }
+
+-- what the bytes read as: the parts of the one query that they are; or Short, with fewer than 12 octets; or NotQuery,
+-- where QR is 1; or Malformed, where they are no query
+abbrev pub Reads : List ℕ → Result QueryView QueryFault → Type 0
+Reads bytes (Ok view) = (m : Message) × Lays bytes m × IsQuery m × (view ≡ view_of m)
+Reads bytes (Err faults.Short) = length bytes < 12
+Reads bytes (Err faults.NotQuery) = (12 ≤ length bytes) × (2 ^ 15 ≤ word_at bytes 2)
+Reads bytes (Err faults.Malformed) = (12 ≤ length bytes) × (word_at bytes 2 < 2 ^ 15) × ((m : Message) → Lays bytes m → IsQuery m → ⊥)
+
+-- bytes read in at most one way
+abbrev pub OneReading : Type 0
+OneReading = (bytes : List ℕ) (a b : Result QueryView QueryFault) → Reads bytes a → Reads bytes b → a ≡ b

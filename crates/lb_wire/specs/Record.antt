@@ -1,0 +1,54 @@
+-- Resource records (RFC 1035 sections 4.1.3 and 4.1.4).
+use Rattle.std.specs.Prelude.{ℕ, ◌+◌, ◌/◌, ◌%◌, ◌^◌, ◌<◌, ◌≤◌, List, [], ◌∷◌, ◌++◌, length, Option, None, Some}
+use Rattle.std.specs.List.{AllByRecursion}
+use Rattle.lb_name.specs.Name.{IsLabel, labels_octets}
+use Rattle.lb_wire.specs.Words.{word, long}
+
+-- the owner of a record: labels, then the root or a pointer, which is never followed (section 4.1.4)
+pub record Owner : Type 0 where
+  pub labels : List (List ℕ)
+  pub pointer : Option ℕ
+
+-- how an owner ends: a zero octet, or two octets whose top two bits are 11 and whose others are the pointer's place
+abbrev pub end_octets : Option ℕ → List ℕ
+end_octets None = 0 ∷ []
+end_octets (Some place) = (192 + place / 2 ^ 8) ∷ place % 2 ^ 8 ∷ []
+
+-- an owner on the wire
+abbrev pub owner_octets : Owner → List ℕ
+owner_octets owner = labels_octets owner.labels ++ end_octets owner.pointer
+
+-- a pointer has 14 bits
+abbrev pub IsPointer : Option ℕ → Type 0
+IsPointer None = Unit {0}
+IsPointer (Some place) = place < 2 ^ 14
+
+-- an owner has labels, and at most 255 octets with the pointer counted
+pub record IsOwner (owner : Owner) : Type 0 where
+  pub each : AllByRecursion IsLabel owner.labels
+  pub pointer : IsPointer owner.pointer
+  pub fits : length (owner_octets owner) ≤ 255
+
+-- a record (section 4.1.3)
+pub record Record : Type 0 where
+  pub owner : Owner
+  pub rtype : ℕ
+  pub class : ℕ
+  pub ttl : ℕ
+  pub rdata : List ℕ
+
+-- TYPE, CLASS, TTL and RDLENGTH on the wire
+abbrev pub fixed_octets : Record → List ℕ
+fixed_octets r = word r.rtype ++ (word r.class ++ (long r.ttl ++ word (length r.rdata)))
+
+-- a record on the wire
+abbrev pub record_octets : Record → List ℕ
+record_octets r = owner_octets r.owner ++ (fixed_octets r ++ r.rdata)
+
+-- the numbers of a record fit their octets
+pub record IsRecord (r : Record) : Type 0 where
+  pub owner : IsOwner r.owner
+  pub rtype : r.rtype < 2 ^ 16
+  pub class : r.class < 2 ^ 16
+  pub ttl : r.ttl < 2 ^ 32
+  pub rdata : length r.rdata < 2 ^ 16

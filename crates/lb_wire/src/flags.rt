@@ -1,0 +1,61 @@
+//! The flags of a message.
+
+ghost use Rattle.std.specs.Prelude.{◌≡◌, ◌≤◌, ◌^◌, ◌↔◌, IsTrue, if◌then◌else◌};
+ghost use Rattle.lb_wire.specs.Numbers.{rcode_number, opcode_number};
+ghost use Rattle.lb_wire.specs.Flags.{opcode_of, answer_flags};
+
+use crate::opcode::Opcode;
+use crate::rcode::Rcode;
+
+/// The flags of a message (RFC 1035 section 4.1.1; AD and CD by RFC 4035 section 3.2):
+///
+/// ```text
+///   0  1  2  3  4  5  6  7  8  9 10 11 12 13 14 15
+/// +--+--+--+--+--+--+--+--+--+--+--+--+--+--+--+--+
+/// |QR|   Opcode  |AA|TC|RD|RA| Z|AD|CD|   RCODE   |
+/// +--+--+--+--+--+--+--+--+--+--+--+--+--+--+--+--+
+/// ```
+#[derive(Clone, Copy, Debug, PartialEq, Eq)]
+pub struct Flags(pub u16);
+
+/// What each field counts for. Fields are read by division and put together by sums.
+const QR: u16 = 0x8000;
+
+const OPCODE: u16 = 0x800;
+
+const TC: u16 = 0x200;
+
+const RD: u16 = 0x100;
+
+const RA: u16 = 0x80;
+
+const CD: u16 = 0x10;
+
+impl Flags {
+    /// Whether QR is 1: the message is a response.
+    pub fn is_response(self) -> bool
+        ensures { IsTrue result ↔ (2 ^ 15 ≤ self.0) }
+    {
+        self.0 >= QR
+    }
+
+    /// The kind of query.
+    pub fn opcode(self) -> Opcode
+        ensures { opcode_number result ≡ opcode_of self.0 }
+    {
+        Opcode::from_low_bits(self.0 / OPCODE)
+    }
+
+    /// The flags of a made answer to a query with these flags: QR 1, Opcode kept, AA 0, TC as stated, RD kept, RA
+    /// equal to RD, Z 0, AD 0, CD kept, the stated RCODE.
+    pub fn answer(self, truncated: bool, rcode: Rcode) -> Flags
+        ensures { result.0 ≡ answer_flags self.0 (if truncated then 1 else 0) (rcode_number rcode) }
+    {
+        let opcode = self.0 / OPCODE % 16;
+        let recursion = self.0 / RD % 2;
+        let checking = self.0 / CD % 2;
+        let cut = if truncated { TC } else { 0 };
+        let rcode = u16::from(rcode.number());
+        Flags(QR + opcode * OPCODE + cut + recursion * (RD + RA) + checking * CD + rcode)
+    }
+}

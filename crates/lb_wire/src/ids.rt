@@ -1,0 +1,17 @@
+//! The numbers that rules, servers, caches and pools are known by.
+
+/// The number of a rule: 1 to 2^64-1, never used again.
+#[derive(Clone, Copy, Debug, PartialEq, Eq)]
+pub struct RuleId(pub u64);
+
+/// The number of a server: 1 to 2^64-1, never used again.
+#[derive(Clone, Copy, Debug, PartialEq, Eq)]
+pub struct ServerId(pub u64);
+
+/// The number of a packet cache: 1 to 2^64-1, never used again.
+#[derive(Clone, Copy, Debug, PartialEq, Eq)]
+pub struct CacheId(pub u64);
+
+/// The number of a pool; 0 is the default pool.
+#[derive(Clone, Copy, Debug, PartialEq, Eq)]
+pub struct PoolId(pub u8);

@@ -1,0 +1,45 @@
+//! The question of a message.
+
+ghost use Rattle.std.specs.Prelude.{◌≡◌, ℕ, ◌+◌, ◌<◌, ◌≤◌, ◌^◌, List, ◌++◌, length, drop, IfSome, IfNone};
+ghost use Rattle.lb_name.specs.Name.{IsName};
+ghost use Rattle.lb_wire.specs.Message.{question_octets};
+ghost use Rattle.lb_wire.specs.declared.record_type.RecordType.{RecordType};
+ghost use Rattle.lb_wire.specs.declared.record_type.Class.{Class};
+
+use crate::record_type::{Class, RecordType};
+use crate::words::read_word;
+use lb_name::Name;
+
+/// A question (RFC 1035 section 4.1.2), and the place after it.
+#[derive(Debug, Drop)]
+pub(crate) struct Question {
+    pub(crate) name: Name,
+    pub(crate) qtype: RecordType,
+    pub(crate) qclass: Class,
+    pub(crate) end: usize,
+}
+
+/// How many octets stand after a question's name: QTYPE and QCLASS.
+const AFTER_NAME: usize = 4;
+
+/// Reads the question at a place: a name without a pointer, a type and a class.
+pub(crate) fn read_question(bytes: &[u8], at: usize) -> Option<Question>
+    ensures found { IfSome result (λ q. IsName q.name × (q.qtype.0 < 2 ^ 16) × (q.qclass.0 < 2 ^ 16) × (q.end ≤ length bytes.now) × (q.end ≡ at + length (question_octets q.name q.qtype q.qclass)) × (drop at bytes.now ≡ question_octets q.name q.qtype q.qclass ++ drop q.end bytes.now)) }
+    ensures none { IfNone result ((name : List (List ℕ)) (qtype : RecordType) (qclass : Class) (rest : List ℕ) → IsName name → drop at bytes.now ≡ question_octets name qtype qclass ++ rest → ⊥) }
+{
+    let Ok((name, place)) = Name::read(bytes, at) else {
+        return None;
+    };
+    if bytes.len() - place < AFTER_NAME {
+        return None;
+    }
+    let qtype = RecordType(read_word(bytes, place));
+    let qclass = Class(read_word(bytes, place + 2));
+    let end = place + AFTER_NAME;
+    Some(Question {
+        name,
+        qtype,
+        qclass,
+        end,
+    })
+}
