@@ -1,0 +1,5 @@
+use Rattle.lb_core.proofs.Once.{one_end}
+use Rattle.lb_core.proofs.laws.one_run_per_marks.Goals as goal
+
+pub returns : goal.returns
+returns c = one_end c.one_reading.ensures

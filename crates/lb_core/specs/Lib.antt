@@ -1,0 +1,12 @@
+pub use Rattle.lb_name.specs.Name
+pub use Rattle.lb_wire.specs.Words
+pub use Rattle.lb_wire.specs.Numbers
+pub use Rattle.lb_wire.specs.Flags
+pub use Rattle.lb_wire.specs.Record
+pub use Rattle.lb_wire.specs.Message
+pub use Rattle.lb_wire.specs.Query
+pub use Rattle.lb_wire.specs.Answer
+pub mod Faults
+pub mod Rules
+pub mod Plain
+pub mod Step
