@@ -1,2 +1,4 @@
 pub mod Names
 pub mod Passing
+pub mod Walking
+pub mod Lowering

@@ -1,9 +1,11 @@
 -- Labels on the wire: what stands there is there in one way only.
-use Rattle.std.proofs.Common.{◌≡◌, ℕ, zero, suc, ◌+◌, ◌<◌, ◌≤◌, List, [], ◌∷◌, ◌++◌, length, take, drop, refl, sym, ◌∙◌, ap, arith}
-use Rattle.std.proofs.lemmas.List.{append-nil, append_assoc, take_at, drop_at, take-append-drop, length-append}
+use Rattle.std.proofs.Common.{◌≡◌, ℕ, zero, suc, ◌+◌, ◌<◌, ◌≤◌, List, [], ◌∷◌, ◌++◌, length, take, drop, map, refl, sym, ◌∙◌, ap, arith}
+use Rattle.std.proofs.lemmas.List.{append-nil, append_assoc, append_cancel_left, take_at, drop_at, take-append-drop, length-append, map-append, length-map}
+use Rattle.std.proofs.lemmas.Bool.{lt-ltb, cond-true}
 use Rattle.std.proofs.lemmas.Grind.{flat_map-append}
 use Rattle.std.specs.List.{AllByRecursion}
-use Rattle.lb_name.specs.Name.{IsLabel, labels_octets, wire_of, IsName, split_labels, labels_of, IsWire}
+use Rattle.std.specs.Char.{to_ascii_lowercase}
+use Rattle.lb_name.specs.Name.{IsLabel, label_octets, labels_octets, lower_name, wire_of, IsName, split_labels, labels_of, IsWire}
 use Rattle.lb_name.specs.Reading.{Begins, Stops, Faults}
 use Rattle.lb_name.specs.declared.fault.NameFault.{NameFault}
 use Rattle.lb_name.specs.declared.fault.NameFault.TheVariants.{EmptyLabel, LongLabel, LongName, BadByte, Pointer, Cut}
@@ -64,9 +66,46 @@ IsWire-own labels name = record {
   parts = rw (labels_of-own labels name.each) refl;
 }
 
--- octets begin with one name at most
-pub one_name : (octets : List ℕ) (a b : List (List ℕ)) (x y : List ℕ) → Begins octets a x → Begins octets b y → a ≡ b
-one_name octets a b x y at_a at_b = sym (labels_of-wire a x at_a.is_name.each) ∙ ap (λ (xs : List ℕ). labels_of xs) (sym at_a.parts ∙ at_b.parts) ∙ labels_of-wire b y at_b.is_name.each
+-- octets begin with one name at most, and one rest follows it
+pub one_name : (octets : List ℕ) (a b : List (List ℕ)) (x y : List ℕ) → Begins octets a x → Begins octets b y → (a ≡ b) × (x ≡ y)
+one_name octets a b x y at_a at_b =
+    let whole : wire_of a ++ x ≡ wire_of b ++ y = sym at_a.parts ∙ at_b.parts in
+    let same : a ≡ b =
+    sym (labels_of-wire a x at_a.is_name.each) ∙ ap (λ (xs : List ℕ). labels_of xs) whole ∙ labels_of-wire b y at_b.is_name.each in
+    (same, append_cancel_left (wire_of b) x y (ap (λ (ls : List (List ℕ)). wire_of ls ++ x) (sym same) ∙ whole))
+
+-- a length octet is no letter
+small_stays : (n : ℕ) → n < 64 → to_ascii_lowercase n ≡ n
+small_stays n small = cond-true _ _ _ (lt-ltb n 65 (omega arith))
+
+-- a label in lower case keeps its length octet
+lower_label : (label : List ℕ) → IsLabel label → map to_ascii_lowercase (label_octets label) ≡ label_octets (map to_ascii_lowercase label)
+lower_label label is = ap (λ (n : ℕ). n ∷ map to_ascii_lowercase label) (small_stays (length label) is.1 ∙ sym (length-map label to_ascii_lowercase))
+
+lower_labels : (labels : List (List ℕ)) → AllByRecursion IsLabel labels → map to_ascii_lowercase (labels_octets labels) ≡ labels_octets (lower_name labels)
+lower_labels [] each = refl
+lower_labels (label ∷ labels) each =
+    map-append to_ascii_lowercase (label_octets label) (labels_octets labels) ∙ ap (λ (xs : List ℕ). xs ++ map to_ascii_lowercase (labels_octets labels)) (lower_label label each.0) ∙ ap (λ (xs : List ℕ). label_octets (map to_ascii_lowercase label) ++ xs) (lower_labels labels each.1)
+
+-- a name on the wire in lower case is the name in lower case on the wire
+pub lower_wire : (labels : List (List ℕ)) → AllByRecursion IsLabel labels → map to_ascii_lowercase (wire_of labels) ≡ wire_of (lower_name labels)
+lower_wire labels each = map-append to_ascii_lowercase (labels_octets labels) (0 ∷ []) ∙ ap (λ (xs : List ℕ). xs ++ 0 ∷ []) (lower_labels labels each)
+
+pub each_lower : (labels : List (List ℕ)) → AllByRecursion IsLabel labels → AllByRecursion IsLabel (lower_name labels)
+each_lower [] each = tt
+each_lower (label ∷ labels) each =
+    let size : length (map to_ascii_lowercase label) ≡ length label = length-map label to_ascii_lowercase in
+    ((omega arith, omega arith), each_lower labels each.1)
+
+-- a name in lower case is a name
+pub IsName-lower : (labels : List (List ℕ)) → IsName labels → IsName (lower_name labels)
+IsName-lower labels name =
+    let size : length (wire_of (lower_name labels)) ≡ length (wire_of labels) =
+    ap length (sym (lower_wire labels name.each)) ∙ length-map (wire_of labels) to_ascii_lowercase in
+    record {
+      each = each_lower labels name.each;
+      fits = omega arith;
+    }
 
 -- the octets are no further label
 abbrev pub NoLabel : List ℕ → Type 0

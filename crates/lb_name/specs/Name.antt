@@ -32,6 +32,11 @@ lower_name labels = map (map to_ascii_lowercase) labels
 abbrev pub IsSame : List (List ℕ) → List (List ℕ) → Type 0
 IsSame a b = lower_name a ≡ lower_name b
 
+-- the first name is the second or stands below it: its last labels are the second's, without regard to case
+-- (RFC 1034 section 3.1)
+abbrev pub IsUnder : List (List ℕ) → List (List ℕ) → Type 0
+IsUnder a b = (front : List (List ℕ)) × (lower_name a ≡ front ++ lower_name b)
+
 -- the octets of the label in hand, of which so many are to come, and the labels after it
 abbrev pub split_labels : ℕ → List ℕ → List ℕ × List (List ℕ)
 split_labels left [] = ([], [])

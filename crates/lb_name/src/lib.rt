@@ -3,6 +3,7 @@
 #![tactic(auto)]
 
 mod fault;
+mod labels;
 mod name;
 
 pub use fault::NameFault;

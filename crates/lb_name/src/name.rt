@@ -1,10 +1,12 @@
 //! A domain name.
 
-ghost use Rattle.std.specs.Prelude.{◌≡◌, ℕ, ◌+◌, ◌<◌, ◌≤◌, List, ◌++◌, length, take, drop, IfOk, IfErr, OnErr};
-ghost use Rattle.lb_name.specs.Name.{wire_of, IsName};
+ghost use Rattle.std.specs.Prelude.{◌≡◌, ℕ, ◌+◌, ◌<◌, ◌≤◌, ◌↔◌, List, ◌++◌, length, take, drop, map, reverse, slice_get, IsTrue, IfOk, IfErr, OnErr, option_map};
+ghost use Rattle.std.specs.Char.{to_ascii_lowercase};
+ghost use Rattle.lb_name.specs.Name.{wire_of, IsName, lower_name, IsSame, IsUnder};
 ghost use Rattle.lb_name.specs.Reading.{Begins, Faults};
 
 use crate::fault::NameFault;
+use crate::labels::{first_label, label_at, label_count};
 use arrayvec::ArrayVec;
 use std::marker::Model;
 
@@ -65,6 +67,18 @@ fn name_len(octets: &[u8]) -> Result<usize, NameFault>
     }
 }
 
+/// The octets, of which a name has no more than its wire.
+fn copied(octets: &[u8]) -> ArrayVec<u8, 255>
+    requires { length octets.now ≤ 255 }
+    ensures { result.items ≡ octets.now }
+{
+    let mut wire: ArrayVec<u8, 255> = ArrayVec::new();
+    match wire.try_extend_from_slice(octets) {
+        Ok(()) => wire,
+        Err(_) => unreachable!(),
+    }
+}
+
 impl Name {
     /// Reads the name that stands at a place of a message, and gives the place after it (RFC 1035 section 3.1). A
     /// compression pointer is a fault. It is total: a place past the end is `Cut`.
@@ -95,5 +109,61 @@ impl Name {
         ensures { result.now ≡ wire_of self.now }
     {
         self.wire.as_slice()
+    }
+
+    /// An equal name. It takes no memory.
+    pub fn copy(&self) -> Name
+        ensures { result ≡ self.now }
+    {
+        Name {
+            wire: copied(self.wire.as_slice()),
+        }
+    }
+
+    /// The name in lower case: ASCII letters alone change (RFC 1035 section 2.3.3).
+    pub fn lower(&self) -> Name
+        ensures { result ≡ lower_name self.now }
+    {
+        // a length octet is below 64, and `A` is 65: the whole wire can be lowered
+        let mut wire = copied(self.wire.as_slice());
+        wire.as_mut_slice().make_ascii_lowercase();
+        Name { wire }
+    }
+
+    /// Whether the names are equal without regard to the case of ASCII letters (RFC 1035 section 2.3.3).
+    pub fn same(&self, other: &Name) -> bool
+        ensures { IsTrue result ↔ IsSame self.now other.now }
+    {
+        let (ours, theirs) = (self.wire.as_slice(), other.wire.as_slice());
+        ours.eq_ignore_ascii_case(theirs)
+    }
+
+    /// Whether the name is the other or stands below it, without regard to case (RFC 1034 section 3.1). It compares
+    /// whole labels: `badexample.com` does not stand below `example.com`.
+    pub fn is_under(&self, other: &Name) -> bool
+        ensures { IsTrue result ↔ IsUnder self.now other.now }
+    {
+        let mut ours = self.wire.as_slice();
+        let theirs = other.wire.as_slice();
+        'labels: while ours.len() > theirs.len() {
+            // the root is no longer than any name
+            let Some((_, rest)) = first_label(ours) else {
+                unreachable!();
+            };
+            ours = rest;
+        }
+        ours.eq_ignore_ascii_case(theirs)
+    }
+
+    /// The label at a place counted from the root, the last label at 0, or none where the name has fewer.
+    pub fn label_from_root(&self, k: usize) -> Option<&[u8]>
+        ensures { option_map (λ label. label.now) result ≡ slice_get (reverse self.now) k }
+    {
+        let wire = self.wire.as_slice();
+        let count = label_count(wire);
+        if count <= k {
+            return None;
+        }
+        label_at(wire, count - 1 - k)
     }
 }

@@ -26,4 +26,4 @@ pub returns-clause-only : goal.returns-clause-only
 returns-clause-only c = λ labels rest there.
     let is = copied _ _ _ _ _ _ c.in-Ok.ensures.ok c.new-wire.ensures c.split_at-2.ensures.front c.in_ok-len.ensures.found.3 in
     let begins = Begins-front _ _ _ c.in_ok-len.ensures.found.1 c.in_ok-len.ensures.found.3 in
-    (labels_of-read _ _ c.in_ok-len.ensures.found.1 is ∙ one_name _ _ _ _ _ (rw c.split_at.ensures.back at begins) there, tt)
+    (labels_of-read _ _ c.in_ok-len.ensures.found.1 is ∙ (one_name _ _ _ _ _ (rw c.split_at.ensures.back at begins) there).0, tt)
