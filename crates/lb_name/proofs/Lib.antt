@@ -2,3 +2,4 @@ pub mod Names
 pub mod Passing
 pub mod Walking
 pub mod Lowering
+pub mod Pieces

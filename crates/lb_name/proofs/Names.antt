@@ -188,3 +188,7 @@ Begins-front octets len labels name is = record {
   is_name = name;
   parts = sym (take-append-drop len octets) ∙ ap (λ (xs : List ℕ). xs ++ drop len octets) is;
 }
+
+-- the root is a name of no label
+pub IsName-root : IsName []
+IsName-root = record { each = tt; fits = omega arith }

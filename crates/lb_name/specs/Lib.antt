@@ -1,3 +1,5 @@
 pub mod Name
 pub mod Fault
 pub mod Reading
+pub mod Text
+pub mod Pieces

@@ -5,6 +5,7 @@
 mod fault;
 mod labels;
 mod name;
+mod text;
 
 pub use fault::NameFault;
 pub use name::Name;

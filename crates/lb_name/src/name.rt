@@ -1,17 +1,25 @@
 //! A domain name.
 
-ghost use Rattle.std.specs.Prelude.{◌≡◌, ℕ, ◌+◌, ◌<◌, ◌≤◌, ◌↔◌, List, ◌++◌, length, take, drop, map, reverse, slice_get, IsTrue, IfOk, IfErr, OnErr, option_map};
+ghost use Rattle.std.specs.Prelude.{◌≡◌, ℕ, ◌+◌, ◌<◌, ◌≤◌, ◌↔◌, List, ◌++◌, length, take, drop, map, reverse, slice_get, IsTrue, IfOk, IfErr, OnErr, option_map, if◌then◌else◌};
 ghost use Rattle.std.specs.Char.{to_ascii_lowercase};
 ghost use Rattle.lb_name.specs.Name.{wire_of, IsName, lower_name, IsSame, IsUnder};
 ghost use Rattle.lb_name.specs.Reading.{Begins, Faults};
+ghost use Rattle.lb_name.specs.Text.{name_of_text, has_name_bytes, text_of};
 
 use crate::fault::NameFault;
 use crate::labels::{first_label, label_at, label_count};
-use arrayvec::ArrayVec;
+use crate::text::{
+    has_name_bytes, is_dot_alone, push_text, text_fault, text_wire, without_end_dot,
+};
+use arrayvec::{ArrayString, ArrayVec};
 use std::marker::Model;
 
 /// The most octets of a name on the wire, its length octets and zero octet counted (RFC 1035 section 2.3.4).
 pub const MAX_NAME: usize = 255;
+
+/// The most bytes of a text of labels with no dot at its end: on the wire a length octet stands in the place of each
+/// dot, one more before the first label, and a zero octet after the last.
+const MAX_TEXT: usize = MAX_NAME - 2;
 
 /// The first length octet that is none: a label has at most 63 octets (RFC 1035 section 2.3.4).
 const LABEL_END: u8 = 64;
@@ -102,6 +110,48 @@ impl Name {
             Ok(()) => Ok((Name { wire }, at + len)),
             Err(_) => unreachable!(),
         }
+    }
+
+    /// Reads a text: labels of letters, digits, `-`, `_` and `*`, joined by dots (RFC 1035 section 2.3.1). One dot may
+    /// end the last label, and `.` is the root (section 5.1). The fault is that of the first label that has one, and
+    /// else `LongName` where the name has over 255 octets on the wire. It takes no memory.
+    pub fn parse_text(text: &str) -> Result<Name, NameFault>
+        ensures { result ≡ name_of_text text.now }
+    {
+        let text = text.as_bytes();
+        if is_dot_alone(text) {
+            return Ok(Name { wire: copied(&[0]) });
+        }
+        let text = without_end_dot(text);
+        if let Some(fault) = text_fault(text) {
+            return Err(fault);
+        }
+        if text.len() > MAX_TEXT {
+            return Err(NameFault::LongName);
+        }
+        Ok(Name {
+            wire: text_wire(text),
+        })
+    }
+
+    /// The text of the name: a dot ends each label, and the root is `.` (RFC 1035 section 5.1); none where an octet is
+    /// none of those that `parse_text` takes. It takes no memory.
+    pub fn write_text(&self) -> Option<ArrayString<255>>
+        ensures { option_map (λ text. text.bytes) result ≡ (if has_name_bytes self.now then Some (text_of self.now) else None) }
+    {
+        let mut wire = self.wire.as_slice();
+        let mut text: ArrayString<255> = ArrayString::new();
+        'labels: while let Some((label, rest)) = first_label(wire) {
+            if !has_name_bytes(label) {
+                return None;
+            }
+            push_text(&mut text, label);
+            wire = rest;
+        }
+        if text.is_empty() {
+            text.push_str(".");
+        }
+        Some(text)
     }
 
     /// The octets of the name on the wire.

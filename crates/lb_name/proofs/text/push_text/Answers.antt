@@ -1,0 +1,5 @@
+use Rattle.lb_name.proofs.Pieces.{IsUtf8-name}
+use Rattle.lb_name.proofs.text.push_text.Goals as goal
+
+pub unreachable-requires : goal.unreachable-requires
+unreachable-requires c = c.in-Err.ensures.cases.0 (IsUtf8-name _ c.requires.bytes)

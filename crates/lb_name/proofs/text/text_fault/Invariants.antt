@@ -1,0 +1,11 @@
+use Rattle.std.proofs.Common.{◌≡◌}
+use Rattle.lb_name.specs.Text.{cut_at_dots, first_fault}
+use Rattle.lb_name.specs.Pieces.{pieces_left}
+use Rattle.lb_name.proofs.Pieces.{text_left}
+use Rattle.lb_name.proofs.text.text_fault.Given as goal
+
+abbrev pub invariant-labels : goal.invariant-labels
+invariant-labels l = first_fault (pieces_left l.left) ≡ first_fault (cut_at_dots l.fn.text)
+
+abbrev pub decreases-labels : goal.decreases-labels
+decreases-labels l = text_left l.left
