@@ -3,3 +3,4 @@ pub mod Passing
 pub mod Walking
 pub mod Lowering
 pub mod Pieces
+pub mod RoundTrip

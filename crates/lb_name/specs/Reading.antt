@@ -29,3 +29,7 @@ pub record Faults (octets : List ℕ) (fault : NameFault) : Type 0 where
   pub fits : length (wire_of labels) ≤ 255
   pub parts : octets ≡ labels_octets labels ++ more
   pub stops : Stops labels more fault
+
+-- the octets begin with one name at most, and one rest follows it
+abbrev pub BeginsOnce : List ℕ → Type 0
+BeginsOnce octets = (a b : List (List ℕ)) (x y : List ℕ) → Begins octets a x → Begins octets b y → (a ≡ b) × (x ≡ y)

@@ -1,9 +1,9 @@
 -- Names as text: labels joined by dots (RFC 1035 sections 2.3.1 and 5.1).
-use Rattle.std.specs.Prelude.{ℕ, ◌-◌, ◌==◌, nat_lt, Bool, ◌&&◌, ◌||◌, if◌then◌else◌, Option, Some, None, Result, Ok, Err, List, [], ◌∷◌, ◌++◌, length, take, slice_index, codes}
+use Rattle.std.specs.Prelude.{◌≡◌, ℕ, ◌-◌, ◌==◌, nat_lt, Bool, IsTrue, ◌&&◌, ◌||◌, if◌then◌else◌, Option, Some, None, Result, Ok, Err, List, [], ◌∷◌, ◌++◌, length, take, slice_index, codes}
 use Rattle.std.specs.Option.{option_or}
 use Rattle.std.specs.List.{flat_map, list_all, slice_split}
 use Rattle.std.specs.Char.{is_ascii_alphanumeric}
-use Rattle.lb_name.specs.Name.{wire_of}
+use Rattle.lb_name.specs.Name.{wire_of, IsName}
 use Rattle.lb_name.specs.declared.fault.NameFault.{NameFault}
 use Rattle.lb_name.specs.declared.fault.NameFault.TheVariants.{EmptyLabel, LongLabel, LongName, BadByte}
 
@@ -65,3 +65,7 @@ label_text label = label ++ 46 ∷ []
 abbrev pub text_of : List (List ℕ) → List ℕ
 text_of [] = codes "."
 text_of (label ∷ labels) = flat_map label_text (label ∷ labels)
+
+-- the text of a name of such bytes reads as that name
+abbrev pub ReadsBack : List (List ℕ) → Type 0
+ReadsBack labels = IsName labels → IsTrue (has_name_bytes labels) → name_of_text (text_of labels) ≡ Ok labels

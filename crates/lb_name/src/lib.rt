@@ -4,8 +4,10 @@
 
 mod fault;
 mod labels;
+mod laws;
 mod name;
 mod text;
 
 pub use fault::NameFault;
+pub use laws::{one_name, text_round_trip};
 pub use name::Name;
