@@ -105,11 +105,12 @@ impl Name {
         let (_, there) = octets.split_at(at);
         let len = name_len(there)?;
         let (octets, _) = there.split_at(len);
-        let mut wire: ArrayVec<u8, 255> = ArrayVec::new();
-        match wire.try_extend_from_slice(octets) {
-            Ok(()) => Ok((Name { wire }, at + len)),
-            Err(_) => unreachable!(),
-        }
+        Ok((
+            Name {
+                wire: copied(octets),
+            },
+            at + len,
+        ))
     }
 
     /// Reads a text: labels of letters, digits, `-`, `_` and `*`, joined by dots (RFC 1035 section 2.3.1). One dot may
@@ -184,8 +185,9 @@ impl Name {
     pub fn same(&self, other: &Name) -> bool
         ensures { IsTrue result ↔ IsSame self.now other.now }
     {
-        let (ours, theirs) = (self.wire.as_slice(), other.wire.as_slice());
-        ours.eq_ignore_ascii_case(theirs)
+        self.wire
+            .as_slice()
+            .eq_ignore_ascii_case(other.wire.as_slice())
     }
 
     /// Whether the name is the other or stands below it, without regard to case (RFC 1034 section 3.1). It compares
@@ -215,5 +217,115 @@ impl Name {
             return None;
         }
         label_at(wire, count - 1 - k)
+    }
+}
+
+#[cfg(test)]
+mod tests {
+    use super::*;
+    use std::alloc::AllocError;
+
+    const LETTERS_61: &str = "aaaaaaaaaaaaaaaaaaaaaaaaaaaaaaaaaaaaaaaaaaaaaaaaaaaaaaaaaaaaa";
+
+    // the fault of a text, and none where it is a name
+    fn fault_of(text: &str) -> Option<NameFault> {
+        Name::parse_text(text).err()
+    }
+
+    // whether a text is a name on the wire
+    fn is_wire_of(text: &str, wire: &[u8]) -> bool {
+        match Name::parse_text(text) {
+            Ok(name) => name.as_wire() == wire,
+            Err(_) => false,
+        }
+    }
+
+    #[test]
+    fn texts_that_are_no_names(rt: HostRuntime) {
+        let cases = [
+            ("", NameFault::EmptyLabel),
+            ("..", NameFault::EmptyLabel),
+            ("a..b", NameFault::EmptyLabel),
+            ("a..", NameFault::EmptyLabel),
+            (".a", NameFault::EmptyLabel),
+            ("a b", NameFault::BadByte),
+            ("a\\.b", NameFault::BadByte),
+            ("caf\u{e9}.fr", NameFault::BadByte),
+        ];
+        for (text, fault) in cases {
+            assert_eq!(rt; fault_of(text), Some(fault), "at {text}");
+        }
+    }
+
+    #[test]
+    fn lengths_of_labels_and_names(rt: HostRuntime) -> Result<(), AllocError> {
+        let alloc = rt.alloc();
+        let label = format!(in alloc; "{LETTERS_61}aa")?;
+        assert_eq!(rt; fault_of(label.as_str()), None);
+        let label = format!(in alloc; "{LETTERS_61}aaa")?;
+        assert_eq!(rt; fault_of(label.as_str()), Some(NameFault::LongLabel));
+        let front = format!(in alloc; "{LETTERS_61}aa.{LETTERS_61}aa.{LETTERS_61}aa.")?;
+        // 255 octets on the wire, with a dot at the end too, and 256
+        let text = format!(in alloc; "{front}{LETTERS_61}")?;
+        assert_eq!(rt; fault_of(text.as_str()), None);
+        let text = format!(in alloc; "{front}{LETTERS_61}.")?;
+        assert_eq!(rt; fault_of(text.as_str()), None);
+        let text = format!(in alloc; "{front}{LETTERS_61}a")?;
+        assert_eq!(rt; fault_of(text.as_str()), Some(NameFault::LongName));
+        // a label's fault comes before the length of the name
+        let text = format!(in alloc; "{front}{LETTERS_61}a.!")?;
+        assert_eq!(rt; fault_of(text.as_str()), Some(NameFault::BadByte));
+        Ok(())
+    }
+
+    #[test]
+    fn texts_on_the_wire(rt: HostRuntime) {
+        assert!(rt; is_wire_of(".", b"\x00"));
+        assert!(rt; is_wire_of("a", b"\x01a\x00"));
+        assert!(rt; is_wire_of("a.", b"\x01a\x00"));
+        assert!(rt; is_wire_of("*._Dns-0.Com", b"\x01*\x06_Dns-0\x03Com\x00"));
+    }
+
+    #[test]
+    fn names_in_octets(rt: HostRuntime) {
+        let www = b"\x03www\x07example\x03com\x00";
+        assert!(rt; matches!(Name::read(www, 0), Ok((_, 17))));
+        assert!(rt; matches!(Name::read(www, 16), Ok((_, 17))));
+        assert!(rt; matches!(Name::read(www, 17), Err(NameFault::Cut)));
+        assert!(rt; matches!(Name::read(www, 18), Err(NameFault::Cut)));
+        assert!(rt; matches!(Name::read(b"\xc0\x0c", 0), Err(NameFault::Pointer)));
+        assert!(rt; matches!(Name::read(b"\x01a", 0), Err(NameFault::Cut)));
+        assert!(rt; matches!(Name::read(b"\x40", 0), Err(NameFault::LongLabel)));
+    }
+
+    #[test]
+    fn names_beside_names(rt: HostRuntime) -> Result<(), NameFault> {
+        let zone = Name::parse_text("example.COM")?;
+        let below = Name::parse_text("a.EXAMPLE.com")?;
+        let beside = Name::parse_text("badexample.com")?;
+        let root = Name::parse_text(".")?;
+        assert!(rt; below.is_under(&zone) && zone.is_under(&zone) && zone.is_under(&root));
+        assert!(rt; !beside.is_under(&zone) && !zone.is_under(&below) && !root.is_under(&zone));
+        assert!(rt; zone.same(&Name::parse_text("EXAMPLE.com.")?) && !zone.same(&below));
+        assert_eq!(rt;
+            below.lower().as_wire(),
+            b"\x01a\x07example\x03com\x00".as_slice()
+        );
+        assert_eq!(rt; below.copy().as_wire(), below.as_wire());
+        Ok(())
+    }
+
+    #[test]
+    fn labels_and_text_of_a_name(rt: HostRuntime) -> Result<(), NameFault> {
+        let name = Name::parse_text("www.Example.com")?;
+        assert_eq!(rt; name.label_from_root(0), Some(b"com".as_slice()));
+        assert_eq!(rt; name.label_from_root(2), Some(b"www".as_slice()));
+        assert_eq!(rt; name.label_from_root(3), None);
+        assert!(rt; matches!(name.write_text(), Some(text) if text.as_str() == "www.Example.com."));
+        let root = Name::parse_text(".")?;
+        assert!(rt; matches!(root.write_text(), Some(text) if text.as_str() == "."));
+        let (name, _) = Name::read(b"\x03a.b\x00", 0)?;
+        assert!(rt; name.write_text().is_none());
+        Ok(())
     }
 }

@@ -1,22 +1,23 @@
-use Rattle.std.proofs.Common.{◌≡◌, ◌+◌, ◌++◌, ◌∙◌, List, ℕ, [], take, length, ap, sym}
+use Rattle.std.proofs.Common.{◌≡◌, ◌+◌, ◌∙◌, List, ℕ, length, ap, sym, arith}
 use Rattle.std.proofs.lemmas.List.{length-take-le}
 use Rattle.lb_name.specs.Name.{wire_of}
 use Rattle.lb_name.proofs.Names.{IsWire-read, labels_of-read, Begins-front, no_fault, one_name}
 use Rattle.lb_name.proofs.name.Name.read.Goals as goal
 
--- the octets that were copied into an empty vector are those of the name that was found
-copied : (wire empty front there : List ℕ) (len : ℕ) (labels : List (List ℕ)) → wire ≡ empty ++ front → empty ≡ [] → front ≡ take len there → take len there ≡ wire_of labels → wire ≡ wire_of labels
-copied wire empty front there len labels is none cut whole = is ∙ ap (λ (xs : List ℕ). xs ++ front) none ∙ cut ∙ whole
+pub copied-requires : goal.copied-requires
+copied-requires c =
+    let is = c.split_at-2.ensures.front ∙ c.in_ok-len.ensures.found.3 in
+    omega (arith, ap length is, c.in_ok-len.ensures.found.1.fits)
 
 pub invariant_of-result : goal.invariant_of-result
-invariant_of-result c = IsWire-read _ _ c.in_ok-len.ensures.found.1 (copied _ _ _ _ _ _ c.in-Ok.ensures.ok c.new-wire.ensures c.split_at-2.ensures.front c.in_ok-len.ensures.found.3)
+invariant_of-result c = IsWire-read _ _ c.in_ok-len.ensures.found.1 (c.copied.ensures ∙ c.split_at-2.ensures.front ∙ c.in_ok-len.ensures.found.3)
 
 pub returns-in_err-len-clause-only : goal.returns-in_err-len-clause-only
 returns-in_err-len-clause-only c = λ labels rest begins. absurd (no_fault _ labels rest _ begins (rw c.split_at.ensures.back at c.in_err-len.ensures.fault))
 
 pub returns-clause-found : goal.returns-clause-found
 returns-clause-found c =
-    let is = copied _ _ _ _ _ _ c.in-Ok.ensures.ok c.new-wire.ensures c.split_at-2.ensures.front c.in_ok-len.ensures.found.3 in
+    let is = c.copied.ensures ∙ c.split_at-2.ensures.front ∙ c.in_ok-len.ensures.found.3 in
     let begins = Begins-front _ _ _ c.in_ok-len.ensures.found.1 c.in_ok-len.ensures.found.3 in
     let long : c.in_ok-len.len ≡ length (wire_of c.in_ok-len.ensures.found.0) =
     sym (length-take-le _ _ c.in_ok-len.ensures.found.2) ∙ ap (λ (xs : List ℕ). length xs) c.in_ok-len.ensures.found.3 in
@@ -24,6 +25,6 @@ returns-clause-found c =
 
 pub returns-clause-only : goal.returns-clause-only
 returns-clause-only c = λ labels rest there.
-    let is = copied _ _ _ _ _ _ c.in-Ok.ensures.ok c.new-wire.ensures c.split_at-2.ensures.front c.in_ok-len.ensures.found.3 in
+    let is = c.copied.ensures ∙ c.split_at-2.ensures.front ∙ c.in_ok-len.ensures.found.3 in
     let begins = Begins-front _ _ _ c.in_ok-len.ensures.found.1 c.in_ok-len.ensures.found.3 in
     (labels_of-read _ _ c.in_ok-len.ensures.found.1 is ∙ (one_name _ _ _ _ _ (rw c.split_at.ensures.back at begins) there).0, tt)
