@@ -185,9 +185,8 @@ impl Name {
     pub fn same(&self, other: &Name) -> bool
         ensures { IsTrue result ↔ IsSame self.now other.now }
     {
-        self.wire
-            .as_slice()
-            .eq_ignore_ascii_case(other.wire.as_slice())
+        let (ours, others) = (self.wire.as_slice(), other.wire.as_slice());
+        ours.eq_ignore_ascii_case(others)
     }
 
     /// Whether the name is the other or stands below it, without regard to case (RFC 1034 section 3.1). It compares
