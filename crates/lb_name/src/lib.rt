@@ -1,5 +1,5 @@
-//! Domain names (RFC 1035 sections 2.3.4 and 3.1): a name is its list of labels, and it is read from a message
-//! exactly where one stands there.
+//! Domain names (RFC 1035 sections 2.3 and 3.1): a name is its list of labels. It is read from a message exactly where
+//! one stands there, read from a text and written as one, and compared without regard to case.
 #![tactic(auto)]
 
 mod fault;

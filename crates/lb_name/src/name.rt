@@ -31,7 +31,7 @@ const POINTER: u8 = 192;
 /// its labels.
 #[derive(Debug, Drop)]
 pub struct Name {
-    wire: ArrayVec<u8, 255>,
+    wire: ArrayVec<u8, MAX_NAME>,
 }
 
 impl Model for Name {
@@ -76,11 +76,11 @@ fn name_len(octets: &[u8]) -> Result<usize, NameFault>
 }
 
 /// The octets, of which a name has no more than its wire.
-fn copied(octets: &[u8]) -> ArrayVec<u8, 255>
+fn copied(octets: &[u8]) -> ArrayVec<u8, MAX_NAME>
     requires { length octets.now ≤ 255 }
     ensures { result.items ≡ octets.now }
 {
-    let mut wire: ArrayVec<u8, 255> = ArrayVec::new();
+    let mut wire: ArrayVec<u8, MAX_NAME> = ArrayVec::new();
     match wire.try_extend_from_slice(octets) {
         Ok(()) => wire,
         Err(_) => unreachable!(),

@@ -9,6 +9,7 @@ ghost use Rattle.lb_name.specs.Text.{is_name_byte, is_dot, cut_at_dots, is_dot_a
 ghost use Rattle.lb_name.specs.Pieces.{pieces_left};
 
 use crate::fault::NameFault;
+use crate::name::MAX_NAME;
 use arrayvec::{ArrayString, ArrayVec};
 
 /// What ends a label of a text.
@@ -102,7 +103,7 @@ pub(crate) fn text_fault(text: &[u8]) -> Option<NameFault>
 }
 
 /// Appends a label as it stands on the wire.
-fn push_label(wire: &mut ArrayVec<u8, 255>, label: &[u8])
+fn push_label(wire: &mut ArrayVec<u8, MAX_NAME>, label: &[u8])
     requires short { length label.now < 64 }
     requires room { array_vec_len wire.old + 1 + length label.now ≤ 255 }
     ensures { wire.new.items ≡ wire.old.items ++ label_octets label.now }
@@ -115,12 +116,12 @@ fn push_label(wire: &mut ArrayVec<u8, 255>, label: &[u8])
 }
 
 /// The labels of a text on the wire, and the root after them.
-pub(crate) fn text_wire(text: &[u8]) -> ArrayVec<u8, 255>
+pub(crate) fn text_wire(text: &[u8]) -> ArrayVec<u8, MAX_NAME>
     requires labels { first_fault (cut_at_dots text.now) ≡ None }
     requires fits { length (wire_of (cut_at_dots text.now)) ≤ 255 }
     ensures { result.items ≡ wire_of (cut_at_dots text.now) }
 {
-    let mut wire: ArrayVec<u8, 255> = ArrayVec::new();
+    let mut wire: ArrayVec<u8, MAX_NAME> = ArrayVec::new();
     let mut left = Some(text);
     'labels: while let Some(text) = left {
         let (label, rest) = first_piece(text);
