@@ -3,6 +3,7 @@ pub use Rattle.lb_wire.specs.Words
 pub use Rattle.lb_wire.specs.Numbers
 pub use Rattle.lb_wire.specs.Flags
 pub use Rattle.lb_wire.specs.Record
+pub use Rattle.lb_wire.specs.Opt
 pub use Rattle.lb_wire.specs.Message
 pub use Rattle.lb_wire.specs.Query
 pub use Rattle.lb_wire.specs.Answer

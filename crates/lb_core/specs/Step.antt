@@ -1,5 +1,5 @@
 -- The step: what one event does to the plain state, and its answer; and runs over lists of events.
-use Rattle.std.specs.Prelude.{◌≡◌, ℕ, ◌+◌, ◌^◌, ◌<◌, Bool, true, false, List, [], ◌∷◌, ◌++◌, length, Option, None, Some, Result, Ok, Err, IsTrue, ◌==◌, nat_lt, max, map, if◌then◌else◌}
+use Rattle.std.specs.Prelude.{◌≡◌, ℕ, ◌+◌, ◌^◌, ◌<◌, Bool, true, false, List, [], ◌∷◌, ◌++◌, length, Option, None, Some, Result, Ok, Err, IsTrue, ◌==◌, ◌||◌, nat_lt, max, map, if◌then◌else◌}
 use Rattle.lb_wire.specs.Query.{Reads}
 use Rattle.lb_wire.specs.Answer.{refusal_of, formerr_of}
 use Rattle.lb_wire.specs.Numbers.{rcode_number}
@@ -28,12 +28,20 @@ abbrev pub verdict_answer : QueryView → Option Rcode → Answer
 verdict_answer view None = Local (refusal_of view (rcode_number rcodes.ServFail)) locals.NoServer
 verdict_answer view (Some rcode) = Local (refusal_of view (rcode_number rcode)) locals.Rule
 
+-- a type that asks for a zone transfer: IXFR or AXFR (RFC 1995 section 2, RFC 5936 section 2.1)
+abbrev pub is_transfer : ℕ → Bool
+is_transfer qtype = qtype == 252 || qtype == 251
+
+-- the answer to a query: a transfer is refused before any rule; else the rules are walked
+abbrev pub read_answer : List Numbered → QueryView → Answer
+read_answer rules view = if is_transfer view.qtype.0 then Local (refusal_of view (rcode_number rcodes.Refused)) locals.Transfer else verdict_answer view (walk_of rules view)
+
 -- the answer to bytes that read so
 abbrev pub query_answer : List Numbered → List ℕ → Result QueryView QueryFault → Answer
 query_answer rules bytes (Err query_faults.Short) = Dropped drops.Short
 query_answer rules bytes (Err query_faults.NotQuery) = Dropped drops.NotQuery
 query_answer rules bytes (Err query_faults.Malformed) = Local (formerr_of bytes) locals.Malformed
-query_answer rules bytes (Ok view) = verdict_answer view (walk_of rules view)
+query_answer rules bytes (Ok view) = read_answer rules view
 
 -- whether an answer shows that memory was wanting: the mark of its event
 abbrev pub marked : Answer → Bool

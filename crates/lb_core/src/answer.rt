@@ -33,6 +33,8 @@ pub enum DropReason {
 pub enum LocalReason {
     /// It has not the layout of a query.
     Malformed,
+    /// It asks for a zone transfer.
+    Transfer,
     /// A rule says so.
     Rule,
     /// No server is there for it.

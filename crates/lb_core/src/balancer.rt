@@ -1,19 +1,17 @@
 //! The balancer and its step.
 
-ghost use Rattle.std.specs.Prelude.{◌≡◌, ℕ, IfOk, Result, IsTrue};
-ghost use Rattle.lb_wire.specs.Query.{Reads};
-ghost use Rattle.lb_wire.specs.declared.query.QueryView.{QueryView};
-ghost use Rattle.lb_wire.specs.declared.query.QueryFault.{QueryFault};
+ghost use Rattle.std.specs.Prelude.{◌≡◌, IfOk, IsTrue};
 ghost use Rattle.lb_core.specs.Plain.{empty};
 ghost use Rattle.lb_core.specs.declared.event.Command.TheVariants.{RuleAdd};
 ghost use Rattle.lb_core.specs.declared.answer.Answer.TheVariants.{Refused};
 ghost use Rattle.lb_core.specs.declared.answer.EditFault.TheVariants.{Rules};
-ghost use Rattle.lb_core.specs.Step.{query_answer, edit_of, marked, MayAdd, Answers};
+ghost use Rattle.lb_core.specs.Step.{edit_of, marked, MayAdd, Answers};
 
-use crate::answer::{Answer, ChainFault, DropReason, EditFault, LocalReason, Note};
+use crate::answer::{Answer, ChainFault, EditFault, Note};
 use crate::event::{Command, Event};
-use crate::rules::{MAX_RULES, Numbered, Rule, walk};
-use lb_wire::{Octets, QueryFault, Rcode, RuleId, answer_in_place, formerr_in_place, read_query};
+use crate::query::answer_query;
+use crate::rules::{MAX_RULES, Numbered, Rule};
+use lb_wire::RuleId;
 use std::alloc::{AllocError, Global};
 use std::marker::Model;
 
@@ -34,32 +32,6 @@ impl Model for Balancer {
     ghost Value = { Plain };
 
     ghost view = { λ b. record { moment = b.moment; next_rule = b.last_rule + 1; rules = b.rules.items } };
-}
-
-/// Answers a query: it is read, the rules are walked, and what they say is done.
-fn answer_query(rules: &[Numbered], bytes: Octets) -> Answer
-    ensures { (reading : Result QueryView QueryFault) × Reads bytes reading × (result ≡ query_answer rules.now bytes reading) }
-{
-    let mut bytes = bytes.into_vec();
-    let view = match read_query(bytes.as_slice()) {
-        Ok(view) => view,
-        Err(QueryFault::Short) => return Answer::Dropped(DropReason::Short),
-        Err(QueryFault::NotQuery) => return Answer::Dropped(DropReason::NotQuery),
-        Err(QueryFault::Malformed) => {
-            formerr_in_place(&mut bytes);
-            return Answer::Local(Octets::from_vec(bytes), LocalReason::Malformed);
-        }
-    };
-    match walk(rules, &view) {
-        Some(rcode) => {
-            answer_in_place(&mut bytes, &view, rcode);
-            Answer::Local(Octets::from_vec(bytes), LocalReason::Rule)
-        }
-        None => {
-            answer_in_place(&mut bytes, &view, Rcode::ServFail);
-            Answer::Local(Octets::from_vec(bytes), LocalReason::NoServer)
-        }
-    }
 }
 
 impl Balancer {

@@ -6,6 +6,7 @@ mod answer;
 mod balancer;
 mod event;
 mod laws;
+mod query;
 mod rules;
 mod runs;
 

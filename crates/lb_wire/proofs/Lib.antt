@@ -1,2 +1,11 @@
 pub mod Parts
 pub mod Once
+pub mod Owners
+pub mod Walks
+pub mod Tallies
+pub mod Layouts
+pub mod Made
+pub mod Edits
+pub mod Ages
+pub mod Spoofs
+pub mod Keys

@@ -51,7 +51,7 @@ one_header a b x y is_a is_b whole =
     (same_header a b id.0 flags.0 questions.0 answers.0 authorities.0 additionals.0, additionals.1)
 
 -- what an owner ends with is no label
-NoLabel-end : (pointer : Option ℕ) (rest : List ℕ) → NoLabel (end_octets pointer ++ rest)
+pub NoLabel-end : (pointer : Option ℕ) (rest : List ℕ) → NoLabel (end_octets pointer ++ rest)
 NoLabel-end None rest n more is some small = let first : 0 ≡ n = cc is in omega arith
 NoLabel-end (Some place) rest n more is some small = let first : 192 + place / 2 ^ 8 ≡ n = cc is in omega arith
 
@@ -72,7 +72,7 @@ no_more pointer x tail [] each whole = refl
 no_more pointer x tail (label ∷ others) each whole = absurd (NoLabel-end pointer x (length label) ((label ++ labels_octets others) ++ tail) whole each.0.0 each.0.1)
 
 -- octets are one owner
-one_owner : (a b : Owner) (x y : List ℕ) → IsOwner a → IsOwner b → owner_octets a ++ x ≡ owner_octets b ++ y → (a ≡ b) × (x ≡ y)
+pub one_owner : (a b : Owner) (x y : List ℕ) → IsOwner a → IsOwner b → owner_octets a ++ x ≡ owner_octets b ++ y → (a ≡ b) × (x ≡ y)
 one_owner a b x y is_a is_b whole =
     let grouped : labels_octets a.labels ++ (end_octets a.pointer ++ x) ≡ labels_octets b.labels ++ (end_octets b.pointer ++ y) =
     sym (append_assoc (labels_octets a.labels) (end_octets a.pointer) x) ∙ whole ∙ append_assoc (labels_octets b.labels) (end_octets b.pointer) y in
@@ -93,7 +93,7 @@ same_record a b o t k l d =
     ∙ ap (λ (x : List ℕ). record b { rdata = x }) d
 
 -- a record and what follows it, its parts nested to the right
-nested : (r : Record) (x : List ℕ) → record_octets r ++ x ≡ owner_octets r.owner ++ (word r.rtype ++ (word r.class ++ (long r.ttl ++ (word (length r.rdata) ++ (r.rdata ++ x)))))
+pub nested : (r : Record) (x : List ℕ) → record_octets r ++ x ≡ owner_octets r.owner ++ (word r.rtype ++ (word r.class ++ (long r.ttl ++ (word (length r.rdata) ++ (r.rdata ++ x)))))
 nested r x = append_assoc (owner_octets r.owner) (fixed_octets r ++ r.rdata) x
 
 -- octets are one record
@@ -125,11 +125,10 @@ one_question a b at bt ac bc x y is_a is_b fit_at fit_bt fit_ac fit_bc whole =
     let regroup_a : question_octets a at ac ++ x ≡ wire_of a ++ (word at.0 ++ (word ac.0 ++ x)) = append_assoc (wire_of a) (word at.0 ++ word ac.0) x in
     let regroup_b : question_octets b bt bc ++ y ≡ wire_of b ++ (word bt.0 ++ (word bc.0 ++ y)) = append_assoc (wire_of b) (word bt.0 ++ word bc.0) y in
     let grouped : wire_of a ++ (word at.0 ++ (word ac.0 ++ x)) ≡ wire_of b ++ (word bt.0 ++ (word bc.0 ++ y)) = sym regroup_a ∙ whole ∙ regroup_b in
-    let name : a ≡ b = one_name (wire_of a ++ (word at.0 ++ (word ac.0 ++ x))) a b (word at.0 ++ (word ac.0 ++ x)) (word bt.0 ++ (word bc.0 ++ y)) (record { is_name = is_a; parts = refl }) (record { is_name = is_b; parts = grouped }) in
-    let tails = halves (wire_of a) (wire_of b) (word at.0 ++ (word ac.0 ++ x)) (word bt.0 ++ (word bc.0 ++ y)) (ap (λ (n : List (List ℕ)). length (wire_of n)) name) grouped in
-    let qtype = one_word at.0 bt.0 (word ac.0 ++ x) (word bc.0 ++ y) fit_at fit_bt tails.1 in
+    let name = one_name (wire_of a ++ (word at.0 ++ (word ac.0 ++ x))) a b (word at.0 ++ (word ac.0 ++ x)) (word bt.0 ++ (word bc.0 ++ y)) (record { is_name = is_a; parts = refl }) (record { is_name = is_b; parts = grouped }) in
+    let qtype = one_word at.0 bt.0 (word ac.0 ++ x) (word bc.0 ++ y) fit_at fit_bt name.1 in
     let qclass = one_word ac.0 bc.0 x y fit_ac fit_bc qtype.1 in
-    (name, ap (λ (n : ℕ). record { 0 = n }) qtype.0, ap (λ (n : ℕ). record { 0 = n }) qclass.0, qclass.1)
+    (name.0, ap (λ (n : ℕ). record { 0 = n }) qtype.0, ap (λ (n : ℕ). record { 0 = n }) qclass.0, qclass.1)
 
 -- messages of equal parts are equal
 same_message : (a b : Message) → a.header ≡ b.header → a.name ≡ b.name → a.qtype ≡ b.qtype → a.qclass ≡ b.qclass → a.records ≡ b.records → a.rest ≡ b.rest → a ≡ b

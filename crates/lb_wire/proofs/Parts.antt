@@ -1,12 +1,11 @@
 -- Parts of a message at their places.
-use Rattle.std.proofs.Common.{◌≡◌, ℕ, ◌+◌, ◌-◌, ◌<◌, ◌^◌, List, [], ◌++◌, length, drop, refl, sym, ◌∙◌, ap, arith}
+use Rattle.std.proofs.Common.{◌≡◌, ℕ, ◌+◌, ◌-◌, ◌<◌, List, ◌++◌, length, drop, refl, sym, ◌∙◌, ap, arith}
 use Rattle.std.proofs.lemmas.List.{append_assoc, drop-drop, drop_at, length-append, length-drop}
 use Rattle.lb_name.specs.Name.{wire_of, IsName}
 use Rattle.lb_name.specs.Reading.{Begins}
 use Rattle.lb_name.proofs.Names.{one_name}
 use Rattle.lb_wire.specs.Words.{word}
-use Rattle.lb_wire.specs.Message.{Lays, IsHeader, header_octets, question_octets, count_of}
-use Rattle.lb_wire.specs.declared.header.Header.{Header}
+use Rattle.lb_wire.specs.Message.{question_octets}
 use Rattle.lb_wire.specs.declared.record_type.RecordType.{RecordType}
 use Rattle.lb_wire.specs.declared.record_type.Class.{Class}
 
@@ -27,20 +26,7 @@ question_there bytes at place name rest qtype qclass there is at_type at_class =
 pub no_question : (bytes : List ℕ) (at place : ℕ) (read : List (List ℕ)) (after : List ℕ) → Begins (drop at bytes) read after → place ≡ at + length (wire_of read) → length bytes - place < 4 → (name : List (List ℕ)) (qtype : RecordType) (qclass : Class) (rest : List ℕ) → IsName name → drop at bytes ≡ question_octets name qtype qclass ++ rest → ⊥
 no_question bytes at place read after begins is short name qtype qclass rest is_name there =
     let regrouped : drop at bytes ≡ wire_of name ++ ((word qtype.0 ++ word qclass.0) ++ rest) = there ∙ append_assoc (wire_of name) (word qtype.0 ++ word qclass.0) rest in
-    let same : read ≡ name = one_name (drop at bytes) read name after ((word qtype.0 ++ word qclass.0) ++ rest) begins (record { is_name = is_name; parts = regrouped }) in
+    let same : read ≡ name = (one_name (drop at bytes) read name after ((word qtype.0 ++ word qclass.0) ++ rest) begins (record { is_name = is_name; parts = regrouped })).0 in
     let long : length (drop at bytes) ≡ length (wire_of name) + (4 + length rest) = ap (λ (xs : List ℕ). length xs) regrouped ∙ length-append (wire_of name) ((word qtype.0 ++ word qclass.0) ++ rest) ∙ omega arith in
     let wide : length (wire_of read) ≡ length (wire_of name) = ap (λ (n : List (List ℕ)). length (wire_of n)) same in
     omega (arith, long, wide, length-drop at bytes)
-
--- a header and a question that stand one after the other are a message without records
-pub lays_bare : (bytes : List ℕ) (h : Header) (name : List (List ℕ)) (qtype : RecordType) (qclass : Class) (place : ℕ) → IsHeader h → h.questions ≡ 1 → count_of h ≡ 0 → bytes ≡ header_octets h ++ drop 12 bytes → IsName name → qtype.0 < 2 ^ 16 → qclass.0 < 2 ^ 16 → drop 12 bytes ≡ question_octets name qtype qclass ++ drop place bytes → Lays bytes (record { header = h; name = name; qtype = qtype; qclass = qclass; records = []; rest = drop place bytes })
-lays_bare bytes h name qtype qclass place fits one none front is_name type_fits class_fits there = record {
-  header = fits;
-  questions = one;
-  name = is_name;
-  qtype = type_fits;
-  qclass = class_fits;
-  each = tt;
-  number = sym none;
-  parts = front ∙ ap (λ (xs : List ℕ). header_octets h ++ xs) there;
-}

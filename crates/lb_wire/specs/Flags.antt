@@ -5,6 +5,14 @@ use Rattle.std.specs.Prelude.{ℕ, ◌+◌, ◌*◌, ◌/◌, ◌%◌, ◌^◌}
 abbrev pub opcode_of : ℕ → ℕ
 opcode_of flags = flags / 2 ^ 11 % 2 ^ 4
 
+-- TC: the message is truncated
+abbrev pub tc_of : ℕ → ℕ
+tc_of flags = flags / 2 ^ 9 % 2
+
+-- RCODE: four bits
+abbrev pub rcode_of : ℕ → ℕ
+rcode_of flags = flags % 2 ^ 4
+
 -- RD: recursion is desired
 abbrev pub rd_of : ℕ → ℕ
 rd_of flags = flags / 2 ^ 8 % 2

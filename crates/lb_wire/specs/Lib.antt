@@ -4,6 +4,11 @@ pub mod Words
 pub mod Numbers
 pub mod Flags
 pub mod Record
+pub mod Opt
 pub mod Message
+pub mod Tally
 pub mod Query
 pub mod Answer
+pub mod Reply
+pub mod Aging
+pub mod Key

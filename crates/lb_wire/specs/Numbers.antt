@@ -6,6 +6,8 @@ use Rattle.lb_wire.specs.declared.opcode.Opcode.{Opcode}
 use Rattle.lb_wire.specs.declared.opcode.Opcode.TheVariants as opcodes
 use Rattle.lb_wire.specs.declared.query.QueryFault.{QueryFault}
 use Rattle.lb_wire.specs.declared.query.QueryFault.TheVariants as faults
+use Rattle.lb_wire.specs.declared.reply.ReplyFault.{ReplyFault}
+use Rattle.lb_wire.specs.declared.reply.ReplyFault.TheVariants as reply_faults
 
 -- the number of a response code (RFC 1035 section 4.1.1; IANA's table of DNS RCODEs)
 abbrev pub rcode_number : Rcode → ℕ
@@ -45,8 +47,13 @@ opcode_number opcodes.Unassigned13 = 13
 opcode_number opcodes.Unassigned14 = 14
 opcode_number opcodes.Unassigned15 = 15
 
--- the number that texts give a fault
-abbrev pub fault_number : QueryFault → ℕ
-fault_number faults.Short = 1
-fault_number faults.NotQuery = 2
-fault_number faults.Malformed = 3
+-- the number that texts give a query's fault
+abbrev pub query_fault_number : QueryFault → ℕ
+query_fault_number faults.Short = 1
+query_fault_number faults.NotQuery = 2
+query_fault_number faults.Malformed = 3
+
+-- the number that texts give a reply's fault
+abbrev pub reply_fault_number : ReplyFault → ℕ
+reply_fault_number reply_faults.Short = 1
+reply_fault_number reply_faults.NotReply = 2

@@ -1,19 +1,28 @@
--- The layout of a query (RFC 1035 section 4.1), and what bytes read as.
+-- The layout of a query (RFC 1035 section 4.1, RFC 6891 section 6.1.1), and what bytes read as.
 use Rattle.std.specs.Prelude.{◌≡◌, ℕ, ◌+◌, ◌<◌, ◌≤◌, ◌^◌, List, length, Result, Ok, Err}
 use Rattle.lb_wire.specs.Words.{word_at}
-use Rattle.lb_wire.specs.Message.{Message, Lays, count_of, question_octets}
+use Rattle.lb_wire.specs.Message.{Message, Lays, question_octets}
+use Rattle.lb_wire.specs.Opt.{opts, first_opt}
 use Rattle.lb_wire.specs.declared.query.QueryView.{QueryView}
 use Rattle.lb_wire.specs.declared.query.QueryFault.{QueryFault}
 use Rattle.lb_wire.specs.declared.query.QueryFault.TheVariants as faults
 
--- a message is a query: QR is 0, and it has no record
+-- a message is a query: QR is 0, and it has one OPT at most
 pub record IsQuery (m : Message) : Type 0 where
   pub flags : m.header.flags.0 < 2 ^ 15
-  pub no_record : count_of m.header ≡ 0
+  pub one_opt : length (opts m.records) ≤ 1
 
 -- the parts of a query that decide about it
 abbrev pub view_of : Message → QueryView
-view_of m = record { id = m.header.id; flags = m.header.flags; name = m.name; qtype = m.qtype; qclass = m.qclass; question_end = 12 + length (question_octets m.name m.qtype m.qclass) }
+view_of m = record {
+  id = m.header.id;
+  flags = m.header.flags;
+  name = m.name;
+  qtype = m.qtype;
+  qclass = m.qclass;
+  question_end = 12 + length (question_octets m.name m.qtype m.qclass);
+  opt = first_opt (opts m.records);
+}
 
 -- what the bytes read as: the parts of the one query that they are; or Short, with fewer than 12 octets; or NotQuery,
 -- where QR is 1; or Malformed, where they are no query

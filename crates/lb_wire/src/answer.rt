@@ -1,56 +1,107 @@
 //! Answers that are made in a query's own bytes.
 
-ghost use Rattle.std.specs.Prelude.{◌≡◌, ◌≤◌, vec_len};
+ghost use Rattle.std.specs.Prelude.{◌≡◌, ◌+◌, ◌≤◌, ◌++◌, take, drop, vec_len, length};
 ghost use Rattle.lb_wire.specs.Numbers.{rcode_number};
+ghost use Rattle.lb_wire.specs.Record.{record_octets};
+ghost use Rattle.lb_wire.specs.Opt.{opt_record, opt_number};
 ghost use Rattle.lb_wire.specs.Message.{Message, Lays};
 ghost use Rattle.lb_wire.specs.Query.{IsQuery, view_of};
-ghost use Rattle.lb_wire.specs.Answer.{refusal_of, formerr_of};
+ghost use Rattle.lb_wire.specs.Answer.{made_of, refusal_of, truncated_of, formerr_of, made_header as made_header_of};
 
 use crate::flags::Flags;
-use crate::header::{Header, put_header};
+use crate::header::{HEADER_LEN, Header, put_header};
+use crate::opt::Opt;
 use crate::query::QueryView;
 use crate::rcode::Rcode;
 use crate::words::read_word;
 
+/// How many octets the OPT of a made answer has.
+pub(crate) const OPT_LEN: usize = 11;
+
 /// Makes the answer with this RCODE in the query's own bytes, from which the view was read: the header by the rules
-/// of made answers, and the question octet for octet.
+/// of made answers, the question octet for octet, and an OPT if the query had one. It takes no memory.
 pub fn answer_in_place(bytes: &mut Vec<u8>, view: &QueryView, rcode: Rcode)
     requires { (m : Message) × Lays bytes.old.items m × IsQuery m × (view.now ≡ view_of m) }
     ensures { bytes.new.items ≡ refusal_of view.now (rcode_number rcode) }
 {
-    bytes.truncate(view.question_end);
-    put_header(
-        bytes,
-        made_header(view.id, view.flags.answer(false, rcode), 1),
-    );
+    make_in_place(bytes, view, view.flags.answer(false, rcode));
 }
 
-/// Makes the answer to a malformed query of at least 12 octets in its own bytes: a bare header with RCODE FormErr.
+/// Makes the truncated answer (TC 1, RCODE NoError) in the query's own bytes, from which the view was read. It takes
+/// no memory.
+pub fn truncated_in_place(bytes: &mut Vec<u8>, view: &QueryView)
+    requires { (m : Message) × Lays bytes.old.items m × IsQuery m × (view.now ≡ view_of m) }
+    ensures { bytes.new.items ≡ truncated_of view.now }
+{
+    make_in_place(bytes, view, view.flags.answer(true, Rcode::NoError));
+}
+
+/// Makes the answer to a malformed query of at least 12 octets in its own bytes: a bare header with RCODE FormErr. It
+/// takes no memory.
 pub fn formerr_in_place(bytes: &mut Vec<u8>)
     requires { 12 ≤ vec_len bytes.old }
     ensures { bytes.new.items ≡ formerr_of bytes.old.items }
 {
     let id = read_word(bytes.as_slice(), 0);
     let flags = Flags(read_word(bytes.as_slice(), 2));
-    bytes.truncate(12);
+    bytes.truncate(HEADER_LEN);
     put_header(
         bytes,
-        made_header(id, flags.answer(false, Rcode::FormErr), 0),
+        made_header(id, flags.answer(false, Rcode::FormErr), 0, 0, 0),
     );
 }
 
-ghost use Rattle.lb_wire.specs.Answer.{bare};
+/// Makes the answer with these flags. The OPT goes behind the question first, since a query that had one is long
+/// enough for it.
+fn make_in_place(bytes: &mut Vec<u8>, view: &QueryView, flags: Flags)
+    requires { (m : Message) × Lays bytes.old.items m × IsQuery m × (view.now ≡ view_of m) }
+    ensures { bytes.new.items ≡ made_of view.now flags.0 }
+{
+    match view.opt {
+        Some(opt) => {
+            cut_and_put(bytes, view.question_end, &opt_piece(opt));
+            put_header(bytes, made_header(view.id, flags, 1, 0, 1));
+        }
+        None => {
+            bytes.truncate(view.question_end);
+            put_header(bytes, made_header(view.id, flags, 1, 0, 0));
+        }
+    }
+}
 
-/// A header with no record.
-fn made_header(id: u16, flags: Flags, questions: u16) -> Header
-    ensures { result ≡ bare id flags questions }
+/// Cuts the bytes at a place and puts a piece there, for which they were long enough.
+fn cut_and_put(bytes: &mut Vec<u8>, end: usize, piece: &[u8])
+    requires { end + length piece.now ≤ vec_len bytes.old }
+    ensures { bytes.new.items ≡ take end bytes.old.items ++ piece.now }
+{
+    bytes.truncate(end);
+    bytes.extend_from_slice(piece).unwrap();
+}
+
+/// The OPT of a made answer on the wire: the root, type 41, payload size 1232, DO copied.
+pub(crate) fn opt_piece(opt: Opt) -> [u8; 11]
+    ensures { result ≡ record_octets (opt_record opt) }
+{
+    let dnssec_ok = if opt.dnssec_ok { 0x80 } else { 0 };
+    [0, 0, 41, 0x04, 0xd0, 0, 0, dnssec_ok, 0, 0, 0]
+}
+
+/// The header of a made answer.
+pub(crate) fn made_header(
+    id: u16,
+    flags: Flags,
+    questions: u16,
+    answers: u16,
+    additionals: u16,
+) -> Header
+    ensures { result ≡ made_header_of id flags questions answers additionals }
 {
     Header {
         id,
         flags,
         questions,
-        answers: 0,
+        answers,
         authorities: 0,
-        additionals: 0,
+        additionals,
     }
 }

@@ -1,8 +1,8 @@
 //! The flags of a message.
 
-ghost use Rattle.std.specs.Prelude.{◌≡◌, ◌≤◌, ◌^◌, ◌↔◌, IsTrue, if◌then◌else◌};
+ghost use Rattle.std.specs.Prelude.{◌≡◌, ◌≤◌, ◌==◌, ◌^◌, ◌↔◌, IsTrue, if◌then◌else◌};
 ghost use Rattle.lb_wire.specs.Numbers.{rcode_number, opcode_number};
-ghost use Rattle.lb_wire.specs.Flags.{opcode_of, answer_flags};
+ghost use Rattle.lb_wire.specs.Flags.{opcode_of, rcode_of, tc_of, answer_flags};
 
 use crate::opcode::Opcode;
 use crate::rcode::Rcode;
@@ -44,6 +44,20 @@ impl Flags {
         ensures { opcode_number result ≡ opcode_of self.0 }
     {
         Opcode::from_low_bits(self.0 / OPCODE)
+    }
+
+    /// Whether TC is 1: the message is truncated.
+    pub fn is_truncated(self) -> bool
+        ensures { result ≡ (tc_of self.0 == 1) }
+    {
+        self.0 / TC % 2 == 1
+    }
+
+    /// The response code, without the bits that an OPT adds.
+    pub fn rcode(self) -> Rcode
+        ensures { rcode_number result ≡ rcode_of self.0 }
+    {
+        Rcode::from_low_bits(self.0)
     }
 
     /// The flags of a made answer to a query with these flags: QR 1, Opcode kept, AA 0, TC as stated, RD kept, RA

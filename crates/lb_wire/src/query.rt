@@ -1,11 +1,12 @@
 //! Reading a query.
 
 ghost use Rattle.std.specs.Prelude.{◌≡◌};
-ghost use Rattle.lb_wire.specs.Numbers.{fault_number};
+ghost use Rattle.lb_wire.specs.Numbers.{query_fault_number};
 
 use crate::flags::Flags;
 use crate::header::{HEADER_LEN, read_header};
-use crate::question::read_question;
+use crate::layout::lay;
+use crate::opt::Opt;
 use crate::record_type::{Class, RecordType};
 use lb_name::Name;
 use thiserror::Error;
@@ -27,7 +28,7 @@ pub enum QueryFault {
 impl QueryFault {
     /// The number of the fault, 1 to 3.
     pub fn number(self) -> u8
-        ensures { result ≡ fault_number self }
+        ensures { result ≡ query_fault_number self }
     {
         match self {
             QueryFault::Short => 1,
@@ -48,39 +49,38 @@ pub struct QueryView {
     pub qclass: Class,
     /// The place after the question.
     pub question_end: usize,
+    /// The OPT, if there is one.
+    pub opt: Option<Opt>,
 }
 
 ghost use Rattle.lb_wire.specs.Query.{Reads};
 
 /// Reads a query. The faults are tested in their order: fewer than 12 octets are `Short`, QR 1 is `NotQuery`, and
-/// bytes without the layout of a query (QDCOUNT 1, one question whose name has no pointer, no record) are
-/// `Malformed`. Octets after it are part of the message.
+/// bytes without the layout of a query are `Malformed`: QDCOUNT 1, one question whose name has no pointer, as many
+/// records as the header counts, and one OPT among them at most (RFC 6891 section 6.1.1). Octets after the last
+/// counted record are part of the message.
 pub fn read_query(bytes: &[u8]) -> Result<QueryView, QueryFault>
     ensures { Reads bytes.now result }
 {
     if bytes.len() < HEADER_LEN {
         return Err(QueryFault::Short);
     }
-    let header = read_header(bytes);
-    if header.flags.is_response() {
+    if read_header(bytes).flags.is_response() {
         return Err(QueryFault::NotQuery);
     }
-    if header.questions != 1
-        || header.answers != 0
-        || header.authorities != 0
-        || header.additionals != 0
-    {
-        return Err(QueryFault::Malformed);
-    }
-    let Some(question) = read_question(bytes, HEADER_LEN) else {
+    let Some(laid) = lay(bytes) else {
         return Err(QueryFault::Malformed);
     };
+    if laid.all.twice {
+        return Err(QueryFault::Malformed);
+    }
     Ok(QueryView {
-        id: header.id,
-        flags: header.flags,
-        name: question.name,
-        qtype: question.qtype,
-        qclass: question.qclass,
-        question_end: question.end,
+        id: laid.header.id,
+        flags: laid.header.flags,
+        name: laid.question.name,
+        qtype: laid.question.qtype,
+        qclass: laid.question.qclass,
+        question_end: laid.question_end,
+        opt: laid.all.opt,
     })
 }

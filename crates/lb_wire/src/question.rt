@@ -10,21 +10,20 @@ use crate::record_type::{Class, RecordType};
 use crate::words::read_word;
 use lb_name::Name;
 
-/// A question (RFC 1035 section 4.1.2), and the place after it.
+/// A question (RFC 1035 section 4.1.2), its name as it was spelled.
 #[derive(Debug, Drop)]
-pub(crate) struct Question {
-    pub(crate) name: Name,
-    pub(crate) qtype: RecordType,
-    pub(crate) qclass: Class,
-    pub(crate) end: usize,
+pub struct Question {
+    pub name: Name,
+    pub qtype: RecordType,
+    pub qclass: Class,
 }
 
 /// How many octets stand after a question's name: QTYPE and QCLASS.
 const AFTER_NAME: usize = 4;
 
-/// Reads the question at a place: a name without a pointer, a type and a class.
-pub(crate) fn read_question(bytes: &[u8], at: usize) -> Option<Question>
-    ensures found { IfSome result (λ q. IsName q.name × (q.qtype.0 < 2 ^ 16) × (q.qclass.0 < 2 ^ 16) × (q.end ≤ length bytes.now) × (q.end ≡ at + length (question_octets q.name q.qtype q.qclass)) × (drop at bytes.now ≡ question_octets q.name q.qtype q.qclass ++ drop q.end bytes.now)) }
+/// Reads the question at a place: a name without a pointer, a type and a class; and the place after it.
+pub(crate) fn read_question(bytes: &[u8], at: usize) -> Option<(Question, usize)>
+    ensures found { IfSome result (λ q. IsName q.0.name × (q.0.qtype.0 < 2 ^ 16) × (q.0.qclass.0 < 2 ^ 16) × (q.1 ≤ length bytes.now) × (q.1 ≡ at + length (question_octets q.0.name q.0.qtype q.0.qclass)) × (drop at bytes.now ≡ question_octets q.0.name q.0.qtype q.0.qclass ++ drop q.1 bytes.now)) }
     ensures none { IfNone result ((name : List (List ℕ)) (qtype : RecordType) (qclass : Class) (rest : List ℕ) → IsName name → drop at bytes.now ≡ question_octets name qtype qclass ++ rest → ⊥) }
 {
     let Ok((name, place)) = Name::read(bytes, at) else {
@@ -35,11 +34,10 @@ pub(crate) fn read_question(bytes: &[u8], at: usize) -> Option<Question>
     }
     let qtype = RecordType(read_word(bytes, place));
     let qclass = Class(read_word(bytes, place + 2));
-    let end = place + AFTER_NAME;
-    Some(Question {
+    let question = Question {
         name,
         qtype,
         qclass,
-        end,
-    })
+    };
+    Some((question, place + AFTER_NAME))
 }

@@ -26,6 +26,13 @@ impl RecordType {
 
     pub const SRV: RecordType = RecordType(33);
 
+    /// The pseudo-record of EDNS (RFC 6891).
+    pub const OPT: RecordType = RecordType(41);
+    /// An incremental zone transfer (RFC 1995).
+    pub const IXFR: RecordType = RecordType(251);
+    /// A zone transfer (RFC 5936).
+    pub const AXFR: RecordType = RecordType(252);
+
     pub const ANY: RecordType = RecordType(255);
 }
 
@@ -42,6 +49,9 @@ impl fmt::Display for RecordType {
             16 => f.write_str("TXT"),
             28 => f.write_str("AAAA"),
             33 => f.write_str("SRV"),
+            41 => f.write_str("OPT"),
+            251 => f.write_str("IXFR"),
+            252 => f.write_str("AXFR"),
             255 => f.write_str("ANY"),
             _ => write!(f, "TYPE{number}"),
         }

@@ -1,0 +1,48 @@
+//! The owner of a record.
+
+ghost use Rattle.std.specs.Prelude.{◌≡◌, ℕ, ◌≤◌, List, ◌++◌, length, drop, IfSome, IfNone};
+ghost use Rattle.lb_wire.specs.Record.{Owner, IsOwner, owner_octets};
+
+/// The most octets of an owner, its pointer counted (RFC 1035 section 2.3.4).
+const MAX_OWNER: usize = 255;
+
+/// The first length octet that is none (RFC 1035 section 2.3.4).
+const LABEL_END: u8 = 64;
+
+/// The first octet of a compression pointer: its top two bits are set (RFC 1035 section 4.1.4).
+const POINTER: u8 = 192;
+
+/// How many octets a compression pointer has.
+const POINTER_LEN: usize = 2;
+
+/// How many octets the owner at the front takes. A pointer ends it and is never followed, so no message makes the
+/// walk longer than the octets that it has.
+pub(crate) fn owner_len(octets: &[u8]) -> Option<usize>
+    ensures found { IfSome result (λ len. (owner : Owner) × IsOwner owner × (len ≤ length octets.now) × (octets.now ≡ owner_octets owner ++ drop len octets.now) × (len ≡ length (owner_octets owner))) }
+    ensures none { IfNone result ((owner : Owner) (rest : List ℕ) → IsOwner owner → octets.now ≡ owner_octets owner ++ rest → ⊥) }
+{
+    let mut len = 0usize;
+    loop {
+        let Some(&octet) = octets.get(len) else {
+            return None;
+        };
+        if octet == 0 {
+            return Some(len + 1);
+        }
+        if octet >= POINTER {
+            let end = len + POINTER_LEN;
+            if octets.len() < end || end > MAX_OWNER {
+                return None;
+            }
+            return Some(end);
+        }
+        if octet >= LABEL_END {
+            return None;
+        }
+        let next = len + 1 + usize::from(octet);
+        if octets.len() < next || next + 1 > MAX_OWNER {
+            return None;
+        }
+        len = next;
+    }
+}

@@ -1,0 +1,123 @@
+//! Replies: what is read of them, and what is written in them for the client that gets them.
+
+ghost use Rattle.std.specs.Prelude.{◌≡◌, ◌+◌, ◌≤◌, ◌++◌, take, drop, length};
+ghost use Rattle.lb_name.specs.Name.{IsSame};
+ghost use Rattle.lb_wire.specs.Words.{word};
+ghost use Rattle.lb_wire.specs.Numbers.{reply_fault_number};
+ghost use Rattle.lb_wire.specs.Message.{Message, Lays, message_octets};
+
+use crate::header::{HEADER_LEN, read_header};
+use crate::layout::lay;
+use crate::opcode::Opcode;
+use crate::question::{Question, read_question};
+use crate::rcode::Rcode;
+use crate::tally::Survey;
+use lb_name::Name;
+use thiserror::Error;
+
+/// Why bytes are no reply. `number` is the number that texts give it.
+#[derive(Clone, Copy, Debug, PartialEq, Eq, Error)]
+pub enum ReplyFault {
+    /// Fewer than 12 octets.
+    #[error("the message is shorter than a header")]
+    Short,
+    /// QR is 0.
+    #[error("the message is a query")]
+    NotReply,
+}
+
+impl ReplyFault {
+    /// The number of the fault, 1 or 2.
+    pub fn number(self) -> u8
+        ensures { result ≡ reply_fault_number self }
+    {
+        match self {
+            ReplyFault::Short => 1,
+            ReplyFault::NotReply => 2,
+        }
+    }
+}
+
+/// The header and the question of a reply (RFC 1035 sections 4.1.1 and 4.1.2).
+#[derive(Debug, Drop)]
+pub struct ReplyView {
+    pub id: u16,
+    pub opcode: Opcode,
+    /// TC.
+    pub truncated: bool,
+    pub rcode: Rcode,
+    /// QDCOUNT.
+    pub questions: u16,
+    /// The question: there exactly where QDCOUNT is not 0 and one stands behind the header.
+    pub question: Option<Question>,
+}
+
+ghost use Rattle.lb_wire.specs.Reply.{ReadsReply, Surveys, with_name};
+
+/// Reads the header and the question of a reply. The faults are tested in their order: fewer than 12 octets are
+/// `Short`, QR 0 is `NotReply`.
+pub fn read_reply(bytes: &[u8]) -> Result<ReplyView, ReplyFault>
+    ensures { ReadsReply bytes.now result }
+{
+    if bytes.len() < HEADER_LEN {
+        return Err(ReplyFault::Short);
+    }
+    let header = read_header(bytes);
+    if !header.flags.is_response() {
+        return Err(ReplyFault::NotReply);
+    }
+    let question = if header.questions == 0 {
+        None
+    } else {
+        read_question(bytes, HEADER_LEN).map(|(question, _)| question)
+    };
+    Ok(ReplyView {
+        id: header.id,
+        opcode: header.flags.opcode(),
+        truncated: header.flags.is_truncated(),
+        rcode: header.flags.rcode(),
+        questions: header.questions,
+        question,
+    })
+}
+
+/// The least times to live of a message, in one pass over its records: `None` exactly where QDCOUNT is not 1, or the
+/// question or a counted record does not stand there (RFC 1035 section 4.1).
+pub fn survey(bytes: &[u8]) -> Option<Survey>
+    ensures { Surveys bytes.now result }
+{
+    if bytes.len() < HEADER_LEN {
+        return None;
+    }
+    let laid = lay(bytes)?;
+    Some(Survey {
+        least_all: laid.all.least,
+        least_answer: laid.answers.least,
+    })
+}
+
+/// Puts an ID in place of the first two octets (RFC 1035 section 4.1.1).
+pub fn restore_id(bytes: &mut [u8], id: u16)
+    requires { 2 ≤ length bytes.old }
+    ensures { bytes.new ≡ word id ++ drop 2 bytes.old }
+{
+    let [high, low] = id.to_be_bytes();
+    bytes[0] = high;
+    bytes[1] = low;
+}
+
+/// Puts another spelling of the question name in place of the one that stands there.
+pub fn respell(bytes: &mut [u8], name: &Name)
+    requires { (m : Message) × Lays bytes.old m × IsSame m.name name.now }
+    ensures { (m : Message) → Lays bytes.old m → bytes.new ≡ message_octets (with_name name.now m) }
+{
+    put(bytes, HEADER_LEN, name.as_wire());
+}
+
+/// Puts these octets in place of as many at a place.
+pub(crate) fn put(bytes: &mut [u8], at: usize, piece: &[u8])
+    requires { at + length piece.now ≤ length bytes.old }
+    ensures { bytes.new ≡ take at bytes.old ++ piece.now ++ drop (at + length piece.now) bytes.old }
+{
+    bytes[at..at + piece.len()].copy_from_slice(piece);
+}
