@@ -9,6 +9,8 @@ mod laws;
 mod query;
 mod rules;
 mod runs;
+#[cfg(test)]
+mod tests;
 
 pub use answer::{Answer, ChainFault, DropReason, EditFault, LocalReason, Note};
 pub use balancer::Balancer;
