@@ -1,0 +1,21 @@
+//! The program `lb`: it replays lines of events from standard input over one balancer, and writes one line for each
+//! answer to standard output.
+#![tactic(auto)]
+
+mod answers;
+mod events;
+mod faults;
+mod input;
+mod lines;
+mod words;
+
+pub use answers::answer_line;
+pub use faults::{Fault, LineFault};
+pub use lines::replay;
+use std::process::ExitCode;
+
+fn main(rt: HostRuntime) -> ExitCode {
+    let mut output = rt.stdout();
+    let mut faults = rt.stderr();
+    ExitCode::from(replay(&rt, rt.stdin(), &mut output, &mut faults))
+}
