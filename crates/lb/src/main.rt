@@ -7,6 +7,10 @@ mod events;
 mod faults;
 mod input;
 mod lines;
+#[cfg(test)]
+mod rows;
+#[cfg(test)]
+mod tests;
 mod words;
 
 pub use answers::answer_line;

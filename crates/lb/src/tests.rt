@@ -1,0 +1,518 @@
+//! Replays over readers and writers in memory.
+
+use crate::rows::{REFUSED_BY_TYPE, ROWS};
+use crate::{answer_line, replay};
+use lb_core::{Action, Answer, Balancer, Command, Event, LocalReason, Note, Rule, Term, run};
+use lb_wire::{Addr, Kind, Octets, Origin, Rcode, RecordType, RuleId};
+use std::alloc::AllocError;
+use std::io;
+use std::io::{Cursor, ErrorKind, Read, Write};
+use std::process::Abort;
+use std::test::Fail;
+
+/// Gives one byte a read, and fails once where it is cut.
+#[derive(Drop)]
+struct Dribble<'a> {
+    rest: &'a [u8],
+    /// How many bytes are given before the failure.
+    cut: Option<usize>,
+    kind: ErrorKind,
+}
+
+impl Read for Dribble<'_> {
+    fn read(&mut self, buf: &mut [u8]) -> io::Result<usize> {
+        match self.cut {
+            Some(0) => {
+                self.cut = None;
+                return Err(io::Error::from(self.kind));
+            }
+            Some(left) => self.cut = Some(left - 1),
+            None => {}
+        }
+        match (self.rest.split_first(), buf.first_mut()) {
+            (Some((byte, rest)), Some(place)) => {
+                *place = *byte;
+                self.rest = rest;
+                Ok(1)
+            }
+            _ => Ok(0),
+        }
+    }
+}
+
+/// Takes a number of writes, and then fails.
+#[derive(Drop)]
+struct Closing {
+    writes: u8,
+    kind: ErrorKind,
+}
+
+impl Write for Closing {
+    fn write(&mut self, buf: &[u8]) -> io::Result<usize> {
+        match self.writes.checked_sub(1) {
+            Some(left) => {
+                self.writes = left;
+                Ok(buf.len())
+            }
+            None => Err(io::Error::from(self.kind)),
+        }
+    }
+
+    fn flush(&mut self) -> io::Result<()> {
+        Ok(())
+    }
+}
+
+/// Replays an input, and compares the status, the output and the faults.
+fn expect<T: Abort + AllocGlobal, R: Read + Drop>(
+    rt: &T,
+    name: &str,
+    input: R,
+    status: u8,
+    output: &str,
+    faults: &str,
+) {
+    let mut written: Vec<u8> = Vec::new(rt.alloc());
+    let mut told: Vec<u8> = Vec::new(rt.alloc());
+    let ended = replay(rt, input, &mut written, &mut told);
+    assert!(rt;
+        written.as_slice() == output.as_bytes(),
+        "the output of {name}"
+    );
+    assert!(rt;
+        told.as_slice() == faults.as_bytes(),
+        "the faults of {name}"
+    );
+    assert_eq!(rt; ended, status, "the status of {name}");
+}
+
+#[test]
+fn rows_are_answered(rt: HostRuntime) {
+    for row in &ROWS {
+        expect(&rt, row.name, row.input.as_bytes(), 0, row.output, "");
+        let slow = Dribble {
+            rest: row.input.as_bytes(),
+            cut: None,
+            kind: ErrorKind::Other,
+        };
+        expect(&rt, row.name, slow, 0, row.output, "");
+    }
+}
+
+/// Query Q: example.com A IN, with the ID 0x1234.
+const QUERY: &str = "123401000001000000000000076578616d706c6503636f6d0000010001";
+
+const REFUSED: &str = "local rule 123481850001000000000000076578616d706c6503636f6d0000010001";
+
+#[test]
+fn typed_events_are_answered(rt: HostRuntime) -> Result<(), Fail> {
+    let alloc = rt.alloc();
+    let mut events = Vec::new(alloc);
+    events.push(Event::Edit {
+        now: 0,
+        command: Command::RuleAdd(Rule {
+            term: Term::Qtype(RecordType::A),
+            action: Action::Rcode(Rcode::Refused),
+        }),
+    })?;
+    events.push(Event::Query {
+        now: 1000,
+        origin: Origin {
+            front: 0,
+            slot: 7,
+            source: Addr::V4([192, 0, 2, 1]),
+            port: 0,
+        },
+        kind: Kind::Datagram,
+        word: 16,
+        bytes: Octets::from_vec(hex::decode(alloc, QUERY)?),
+    })?;
+    let mut balancer = Balancer::new(alloc)?;
+    let Ok(answers) = run(alloc, &mut balancer, events) else {
+        return Err(Fail::from(AllocError));
+    };
+    let edited = matches!(
+        answers.first(),
+        Some(Answer::Edited(Note::RuleAdded(RuleId(1))))
+    );
+    assert!(rt; edited);
+    let ruled = matches!(answers.get(1), Some(Answer::Local(_, LocalReason::Rule)));
+    assert!(rt; ruled);
+    assert_eq!(rt; answers.len(), 2);
+    for answer in answers.iter().skip(1) {
+        let text = answer_line(alloc, answer)?;
+        assert_eq!(rt; text.as_str(), REFUSED);
+    }
+    Ok(())
+}
+
+/// Lines that do not read, with the place, the number and the name of the fault.
+const FAULTS: [(&str, &str); 40] = [
+    ("reply 0 1 udp -", "0: 1 UnknownWord"),
+    (
+        "Edit 0 rule add qtype(A) rcode(REFUSED)",
+        "0: 1 UnknownWord",
+    ),
+    ("(", "0: 1 UnknownWord"),
+    ("  ,", "2: 1 UnknownWord"),
+    ("\tedit", "0: 1 UnknownWord"),
+    ("edit", "4: 2 Missing"),
+    ("edit  ", "6: 2 Missing"),
+    ("edit\t0", "4: 1 UnknownWord"),
+    ("editor\t0", "0: 1 UnknownWord"),
+    ("edit x", "5: 1 UnknownWord"),
+    ("edit 18446744073709551616 rule", "5: 1 UnknownWord"),
+    ("edit 18446744073709551615", "25: 2 Missing"),
+    ("edit -1 rule", "5: 1 UnknownWord"),
+    ("edit 0 show", "7: 1 UnknownWord"),
+    ("edit 0 rule remove 1", "12: 1 UnknownWord"),
+    ("edit 0 rule add at 0 qtype(A)", "16: 1 UnknownWord"),
+    ("edit 0 rule add all", "16: 1 UnknownWord"),
+    ("edit 0 rule add (", "16: 1 UnknownWord"),
+    ("edit 0 rule add qtype A", "22: 1 UnknownWord"),
+    ("edit 0 rule add qtype(", "22: 2 Missing"),
+    ("edit 0 rule add qtype(a)", "22: 1 UnknownWord"),
+    ("edit 0 rule add qtype(65536)", "22: 1 UnknownWord"),
+    ("edit 0 rule add qtype()", "22: 1 UnknownWord"),
+    ("edit 0 rule add qtype(A,NS)", "23: 1 UnknownWord"),
+    ("edit 0 rule add qtype(A", "23: 2 Missing"),
+    ("edit 0 rule add qtype(A) drop", "25: 1 UnknownWord"),
+    (
+        "edit 0 rule add qtype(A) rcode(YXDOMAIN)",
+        "31: 1 UnknownWord",
+    ),
+    (
+        "edit 0 rule add qtype(A) rcode(REFUSED) x",
+        "40: 1 UnknownWord",
+    ),
+    (
+        "edit 0 rule add qtype(A) rcode(REFUSED))",
+        "39: 1 UnknownWord",
+    ),
+    (
+        "edit 0 rule add qtype(A) rcode(REFUSED)\t",
+        "39: 1 UnknownWord",
+    ),
+    ("query 0 18446744073709551616 udp", "8: 1 UnknownWord"),
+    ("query 0 7 doh", "10: 1 UnknownWord"),
+    ("query 0 7 tcp 192.0.2.01 16 -", "14: 1 UnknownWord"),
+    ("query 0 7 tcp 192.0.2.256 16 -", "14: 1 UnknownWord"),
+    ("query 0 7 tcp 192.0.2 16 -", "14: 1 UnknownWord"),
+    ("query 0 7 udp ::1 16 -", "14: 1 UnknownWord"),
+    ("query 0 7 udp 192.0.2.1 65536 -", "24: 1 UnknownWord"),
+    ("query 0 7 udp 192.0.2.1 16 123", "27: 1 UnknownWord"),
+    ("query 0 7 udp 192.0.2.1 16 1g", "27: 1 UnknownWord"),
+    ("query 0 7 udp 192.0.2.1 16 - -", "29: 1 UnknownWord"),
+];
+
+#[test]
+fn faults_are_told_at_their_places(rt: HostRuntime) -> Result<(), Fail> {
+    for (line, fault) in &FAULTS {
+        let input = format!(in rt.alloc();
+            "\n# a comment\nquery 0 7 udp 192.0.2.1 16 -\n{line}\n\n"
+        )?;
+        let told = format!(in rt.alloc(); "line 4: at {fault}\n")?;
+        expect(
+            &rt,
+            line,
+            input.as_bytes(),
+            1,
+            "dropped short\n",
+            told.as_str(),
+        );
+    }
+    Ok(())
+}
+
+/// Lines that read, and their answers.
+const GOOD: [(&str, &str); 9] = [
+    ("", ""),
+    ("   \n\r\n  \r\n#\n  # x (\t\n", ""),
+    (
+        "edit 0 rule add qtype(A) rcode(REFUSED)\r\n",
+        "edited rule 1 added\n",
+    ),
+    (
+        " edit  007 rule add qtype ( 0001 ) rcode( NOERROR )  ",
+        "edited rule 1 added\n",
+    ),
+    (
+        "edit 0 rule add qtype(65535)rcode(NXDOMAIN)",
+        "edited rule 1 added\n",
+    ),
+    (
+        "query 18446744073709551615 18446744073709551615 tcp 0.0.0.0 65535 -",
+        "dropped short\n",
+    ),
+    (
+        "query 0 0 tcp 255.255.255.255 00000000000000000000000 00",
+        "dropped short\n",
+    ),
+    (
+        "query 0 0 udp 1.2.3.4 0 ABcdEF000000000000000000",
+        "dropped notquery\n",
+    ),
+    (
+        "query 0 0 udp 1.2.3.4 0 abCD01000000000000000000\n",
+        "local malformed abcd81810000000000000000\n",
+    ),
+];
+
+#[test]
+fn lines_that_read_are_answered(rt: HostRuntime) {
+    for (input, output) in &GOOD {
+        expect(&rt, input, input.as_bytes(), 0, output, "");
+    }
+    // The carriage return of a last line without a line feed is kept.
+    expect(
+        &rt,
+        "a return",
+        b"query 0 7 udp 192.0.2.1 16 -\r".as_slice(),
+        1,
+        "",
+        "line 1: at 28: 1 UnknownWord\n",
+    );
+    expect(
+        &rt,
+        "spaces and a return",
+        b"  \r".as_slice(),
+        1,
+        "",
+        "line 1: at 2: 1 UnknownWord\n",
+    );
+}
+
+/// An input in which a byte stands so many times between two texts.
+fn long_input<T: AllocGlobal>(
+    rt: &T,
+    front: &str,
+    byte: u8,
+    count: usize,
+    back: &str,
+) -> Result<Vec<u8>, AllocError> {
+    let mut input = Vec::from_slice(rt.alloc(), front.as_bytes())?;
+    let middle = Vec::from_elem(rt.alloc(), byte, count)?;
+    input.extend_from_slice(middle.as_slice())?;
+    input.extend_from_slice(back.as_bytes())?;
+    Ok(input)
+}
+
+const SHORT: &str = "query 0 7 udp 192.0.2.1 16 -";
+
+/// Long lines: what stands before a byte, the byte, how often, and what comes behind; status, output and faults.
+const LONG: [(&str, u8, usize, &str, u8, &str, &str); 12] = [
+    (SHORT, b' ', 299_972, "\n", 0, "dropped short\n", ""),
+    (SHORT, b' ', 299_972, "\r\n", 0, "dropped short\n", ""),
+    (
+        SHORT,
+        b' ',
+        299_973,
+        "\n",
+        1,
+        "",
+        "line 1: at 300000: 3 Extra\n",
+    ),
+    (
+        SHORT,
+        b' ',
+        299_973,
+        "\r\n",
+        1,
+        "",
+        "line 1: at 300000: 3 Extra\n",
+    ),
+    (
+        SHORT,
+        b' ',
+        299_973,
+        "",
+        1,
+        "",
+        "line 1: at 300000: 3 Extra\n",
+    ),
+    (
+        "\nx",
+        b'x',
+        900_000,
+        "\n",
+        1,
+        "",
+        "line 2: at 300000: 3 Extra\n",
+    ),
+    (
+        "",
+        b' ',
+        400_000,
+        "x\n",
+        1,
+        "",
+        "line 1: at 300000: 3 Extra\n",
+    ),
+    (
+        "",
+        b' ',
+        400_000,
+        "# x\nquery 0 7 udp 192.0.2.1 16 -",
+        0,
+        "dropped short\n",
+        "",
+    ),
+    (
+        "",
+        b' ',
+        400_000,
+        "\r\nquery 0 7 udp 192.0.2.1 16 -",
+        0,
+        "dropped short\n",
+        "",
+    ),
+    (
+        "#",
+        b'x',
+        400_000,
+        "\nx",
+        1,
+        "",
+        "line 2: at 0: 1 UnknownWord\n",
+    ),
+    ("# \u{e4}", b'\r', 400_000, "\u{20ac}\n", 0, "", ""),
+    (
+        "query 0 7 udp 192.0.2.1 16 ",
+        b'0',
+        131_070,
+        "\n",
+        0,
+        "local malformed 000080010000000000000000\n",
+        "",
+    ),
+];
+
+#[test]
+fn long_lines_are_skipped_or_refused(rt: HostRuntime) -> Result<(), Fail> {
+    for (front, byte, count, back, status, output, faults) in &LONG {
+        let input = long_input(&rt, front, *byte, *count, back)?;
+        expect(&rt, faults, input.as_slice(), *status, output, faults);
+    }
+    // One octet more than a message has.
+    let input = long_input(&rt, "query 0 7 udp 192.0.2.1 16 ", b'0', 131_072, "\n")?;
+    expect(
+        &rt,
+        "a long message",
+        input.as_slice(),
+        1,
+        "",
+        "line 1: at 27: 1 UnknownWord\n",
+    );
+    Ok(())
+}
+
+#[test]
+fn bytes_that_are_not_utf8_are_a_device_fault(rt: HostRuntime) -> Result<(), Fail> {
+    let told = "device fault\n";
+    expect(
+        &rt,
+        "a comment",
+        b"query 0 7 udp 192.0.2.1 16 -\n# \xff\n".as_slice(),
+        3,
+        "dropped short\n",
+        told,
+    );
+    expect(&rt, "a bad line", b"query\t\xe4 \n".as_slice(), 3, "", told);
+    expect(
+        &rt,
+        "a bad line before",
+        b"query\t\n\xe4\n".as_slice(),
+        1,
+        "",
+        "line 1: at 5: 1 UnknownWord\n",
+    );
+    expect(
+        &rt,
+        "half a character",
+        b"# \xe2\x82\n".as_slice(),
+        3,
+        "",
+        told,
+    );
+    let mut input = long_input(&rt, "#", b'x', 400_000, "")?;
+    input.push(0x80)?;
+    input.push(b'\n')?;
+    expect(&rt, "a long comment", input.as_slice(), 3, "", told);
+    Ok(())
+}
+
+#[test]
+fn devices_that_fail_are_told(rt: HostRuntime) {
+    let input = REFUSED_BY_TYPE.input.as_bytes();
+    for (cut, kind, status, output, faults) in [
+        (0, ErrorKind::BrokenPipe, 3, "", "device fault\n"),
+        (
+            60,
+            ErrorKind::BrokenPipe,
+            3,
+            "edited rule 1 added\n",
+            "device fault\n",
+        ),
+        (
+            60,
+            ErrorKind::OutOfMemory,
+            3,
+            "edited rule 1 added\n",
+            "no memory\n",
+        ),
+        (60, ErrorKind::Interrupted, 0, REFUSED_BY_TYPE.output, ""),
+    ] {
+        let failing = Dribble {
+            rest: input,
+            cut: Some(cut),
+            kind,
+        };
+        expect(&rt, "a failing reader", failing, status, output, faults);
+    }
+    let mut told: Vec<u8> = Vec::new(rt.alloc());
+    let mut closed = Closing {
+        writes: 0,
+        kind: ErrorKind::BrokenPipe,
+    };
+    let ended = replay(&rt, input, &mut closed, &mut told);
+    assert_eq!(rt; ended, 3);
+    assert!(rt; told.as_slice() == b"device fault\n".as_slice());
+    // Where nothing can be told, the status is the same.
+    let mut output: Vec<u8> = Vec::new(rt.alloc());
+    let mut closed = Closing {
+        writes: 1,
+        kind: ErrorKind::BrokenPipe,
+    };
+    let ended = replay(&rt, b"x".as_slice(), &mut output, &mut closed);
+    assert_eq!(rt; ended, 1);
+}
+
+/// Run it with `rt try --test --fail-alloc N`: where memory is wanting, that is what is said.
+#[test]
+fn wanting_memory_is_told(rt: HostRuntime) {
+    let mut output = Cursor::new([0u8; 256]);
+    let mut faults = Cursor::new([0u8; 64]);
+    let ended = replay(
+        &rt,
+        REFUSED_BY_TYPE.input.as_bytes(),
+        &mut output,
+        &mut faults,
+    );
+    let written = output.position();
+    let told = faults.position();
+    let (output, faults) = (output.into_inner(), faults.into_inner());
+    let whole = REFUSED_BY_TYPE.output.as_bytes();
+    let other =
+        b"refused rules 5 NoMemory\nlocal noserver 123481820001000000000000076578616d706c6503636f6d0000010001\n";
+    let as_ever = output.starts_with(whole) && written == 90;
+    let unruled = output.starts_with(other.as_slice()) && written == 99;
+    let ended_well = ended == 0 && told == 0 && (as_ever || unruled);
+    let edited = output.starts_with(b"edited rule 1 added\n");
+    let begun = written == 0 || written == 20 && edited;
+    let wanting = ended == 3 && told == 10 && faults.starts_with(b"no memory\n") && begun;
+    assert!(rt;
+        ended_well || wanting,
+        "status {ended} with {written} and {told} bytes"
+    );
+    let _ = rt.println(format_args!("status {ended}, {written} bytes written, {told} told"));
+}
