@@ -18,12 +18,15 @@ abbrev pub hex_text : List ℕ → List ℕ
 hex_text [] = codes "-"
 hex_text (byte ∷ bytes) = encode_lower (byte ∷ bytes)
 
+-- why a query is dropped
 abbrev pub drop_text : DropReason → List ℕ
 drop_text drops.Short = codes "short"
 drop_text drops.NotQuery = codes "notquery"
 
+-- why the balancer answers by itself
 abbrev pub local_text : LocalReason → List ℕ
 local_text locals.Malformed = codes "malformed"
+local_text locals.Transfer = codes "transfer"
 local_text locals.Rule = codes "rule"
 local_text locals.NoServer = codes "noserver"
 

@@ -49,6 +49,7 @@ fn local_word(reason: LocalReason) -> &'static str
 {
     match reason {
         LocalReason::Malformed => "malformed",
+        LocalReason::Transfer => "transfer",
         LocalReason::Rule => "rule",
         LocalReason::NoServer => "noserver",
     }
