@@ -1,6 +1,6 @@
 //! What is wrong with a line, and what ends a replay early.
 
-ghost use Rattle.std.specs.Prelude.{◌≡◌, codes};
+ghost use Rattle.std.specs.Prelude.{◌≡◌, ◌≢◌};
 ghost use Rattle.lb.specs.Faults.{line_fault_number, line_fault_name, stop_status};
 
 use std::alloc::AllocError;
@@ -105,9 +105,11 @@ impl From<AllocError> for Stop {
 }
 
 impl From<io::Error> for Stop {
-    ghost use Rattle.lb.specs.Faults.{IsBadLine};
+    ghost use Rattle.std.specs.IoError.{error_kind};
+    ghost use Rattle.std.specs.declared.io.ErrorKind.TheVariants as error_kinds;
+    ghost use Rattle.lb.specs.declared.faults.Stop.TheVariants as stops;
 
-    ghost from_gives = { λ _ e. IsBadLine e → ⊥ };
+    ghost from_gives = { λ error e. (error_kind error ≡ error_kinds.OutOfMemory → e ≡ stops.NoMemory) × (error_kind error ≢ error_kinds.OutOfMemory → e ≡ stops.Device) };
 
     fn from(error: io::Error) -> Stop {
         if error.kind() == ErrorKind::OutOfMemory {

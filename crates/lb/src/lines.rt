@@ -1,6 +1,6 @@
 //! Replaying lines: each is an event of one balancer, and each answer becomes a line.
 
-ghost use Rattle.std.specs.Prelude.{◌≡◌, ◌≢◌, ◌≤◌, ◌++◌, [], List, ℕ, Option, codes, OnOk};
+ghost use Rattle.std.specs.Prelude.{◌≡◌, ◌≢◌, ◌≤◌, ◌++◌, [], List, ℕ, Option, codes, OnOk, IsTrue};
 ghost use Rattle.std.specs.Io.KnownBytes.{Appends, Keeps};
 ghost use Rattle.lb_core.specs.Plain.{Plain};
 ghost use Rattle.lb_core.specs.Step.{Answers};
@@ -107,7 +107,8 @@ fn write_out<W: Write>(output: &mut W, held: &mut Vec<u8>) -> io::Result<()>
 
 /// Writes out what is held, if the input may now be waited for.
 fn write_if<W: Write>(waits: bool, output: &mut W, held: &mut Vec<u8>) -> io::Result<()>
-    ensures { OnOk result ((first : Option (List ℕ)) (end : Plain) → Answered first (W.contents output.old) held.old.items end → Answered first (W.contents output.new) held.new.items end) }
+    ensures kept { OnOk result ((first : Option (List ℕ)) (end : Plain) → Answered first (W.contents output.old) held.old.items end → Answered first (W.contents output.new) held.new.items end) }
+    ensures written { OnOk result (IsTrue waits → held.new.items ≡ []) }
 {
     if waits {
         write_out(output, held)

@@ -99,7 +99,7 @@ fn rows_are_answered(rt: HostRuntime) {
     }
 }
 
-/// Query Q: example.com A IN, with the ID 0x1234.
+/// A query for the address of example.com, with the ID 0x1234.
 const QUERY: &str = "123401000001000000000000076578616d706c6503636f6d0000010001";
 
 const REFUSED: &str = "local rule 123481850001000000000000076578616d706c6503636f6d0000010001";

@@ -1,6 +1,6 @@
 //! The words and signs of a line, taken from the left.
 
-ghost use Rattle.std.specs.Prelude.{◌≡◌, ◌<◌, ◌≤◌, ◌+◌, ◌-◌, length, IfOk, IfSome};
+ghost use Rattle.std.specs.Prelude.{◌≡◌, ◌<◌, ◌≤◌, ◌+◌, ◌-◌, length, slice_index, IfOk, IfSome, IfNone};
 
 use crate::faults::{Fault, LineFault};
 
@@ -68,6 +68,8 @@ impl<'a> Words<'a> {
     fn next_byte(&mut self) -> Option<u8>
         ensures line { self.new.line.now ≡ self.old.line.now }
         ensures found { IfSome result (λ byte. self.new.place < length self.new.line.now) }
+        ensures byte { IfSome result (λ byte. byte ≡ slice_index self.new.line.now self.new.place) }
+        ensures end { IfNone result (self.new.place ≡ length self.new.line.now) }
     {
         let (_, rest) = self.line.split_at(self.place);
         match rest.iter().position(|byte| *byte != b' ') {
