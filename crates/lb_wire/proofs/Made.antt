@@ -13,12 +13,8 @@ use Rattle.lb_wire.specs.declared.flags.Flags.{Flags}
 use Rattle.lb_wire.specs.declared.query.QueryView.{QueryView}
 use Rattle.lb_wire.specs.declared.opt.Opt.{Opt}
 use Rattle.lb_wire.proofs.Once.{one_layout}
+use Rattle.lb_wire.proofs.Owners.{end_long}
 use Rattle.lb_wire.proofs.Tallies.{two_many}
-
--- an owner ends with an octet or two
-end_long : (pointer : Option ℕ) → 1 ≤ length (end_octets pointer)
-end_long None = omega arith
-end_long (Some place) = omega arith
 
 -- a record has eleven octets at least
 record_long : (r : Record) → 11 ≤ length (record_octets r)

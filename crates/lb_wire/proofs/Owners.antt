@@ -21,7 +21,7 @@ pub record OwnerAt (there : List ℕ) (place : ℕ) : Type 0 where
   pub way : GoesOnAt place n more
 
 -- an owner ends with an octet or two
-end_long : (pointer : Option ℕ) → 1 ≤ length (end_octets pointer)
+pub end_long : (pointer : Option ℕ) → 1 ≤ length (end_octets pointer)
 end_long None = omega arith
 end_long (Some place) = omega arith
 
