@@ -1,6 +1,8 @@
 //! Answers to typed events, by values from RFC 1035 and RFC 6891 written out by hand.
 
-use crate::{Action, Answer, Balancer, ChainFault, Command, EditFault, Event, LocalReason, Rule, Term, run};
+use crate::{
+    Action, Answer, Balancer, ChainFault, Command, EditFault, Event, LocalReason, Rule, Term, run,
+};
 use lb_wire::{Addr, Kind, Octets, Origin, Rcode, RecordType};
 use std::alloc::{AllocError, Global};
 use std::test::Fail;
@@ -52,7 +54,9 @@ fn a_run_of_a_rule_and_three_queries(rt: HostRuntime) -> Result<(), Fail> {
     let alloc = rt.alloc();
     let mut balancer = Balancer::new(alloc)?;
     let mut events = Vec::new(alloc);
-    events.push(refusing(RecordType::A)).map_err(AllocError::from)?;
+    events
+        .push(refusing(RecordType::A))
+        .map_err(AllocError::from)?;
     for qtype in [1, 28, 251, 252] {
         events.push(asked(alloc, qtype)?).map_err(AllocError::from)?;
     }
@@ -60,9 +64,18 @@ fn a_run_of_a_rule_and_three_queries(rt: HostRuntime) -> Result<(), Fail> {
     assert_eq!(rt; answers.len(), 5);
     assert!(rt; matches!(answers[0], Answer::Edited(_)));
     assert_eq!(rt; told(&answers[1]), Some((LocalReason::Rule, 0x81, 0x85)));
-    assert_eq!(rt; told(&answers[2]), Some((LocalReason::NoServer, 0x81, 0x82)));
-    assert_eq!(rt; told(&answers[3]), Some((LocalReason::Transfer, 0x81, 0x85)));
-    assert_eq!(rt; told(&answers[4]), Some((LocalReason::Transfer, 0x81, 0x85)));
+    assert_eq!(rt;
+        told(&answers[2]),
+        Some((LocalReason::NoServer, 0x81, 0x82))
+    );
+    assert_eq!(rt;
+        told(&answers[3]),
+        Some((LocalReason::Transfer, 0x81, 0x85))
+    );
+    assert_eq!(rt;
+        told(&answers[4]),
+        Some((LocalReason::Transfer, 0x81, 0x85))
+    );
     Ok(())
 }
 
@@ -73,7 +86,12 @@ fn a_list_of_4096_rules_is_full(rt: HostRuntime) -> Result<(), Fail> {
         assert!(rt; matches!(balancer.step(refusing(RecordType::TXT)), Answer::Edited(_)));
     }
     let full = balancer.step(refusing(RecordType::A));
-    assert!(rt; matches!(full, Answer::Refused(EditFault::Rules(ChainFault::TooManyRules))));
+    assert!(rt;
+        matches!(
+            full,
+            Answer::Refused(EditFault::Rules(ChainFault::TooManyRules))
+        )
+    );
     assert_eq!(rt; ChainFault::TooManyRules.number(), 3);
     // a query is walked to the end of the list
     let answer = balancer.step(asked(rt.alloc(), 16)?);
