@@ -7,5 +7,6 @@ pub mod Layouts
 pub mod Made
 pub mod Edits
 pub mod Ages
+pub mod Lives
 pub mod Spoofs
 pub mod Keys

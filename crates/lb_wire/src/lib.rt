@@ -5,6 +5,8 @@
 mod addr;
 mod aging;
 mod answer;
+#[cfg(test)]
+mod captured;
 mod flags;
 mod header;
 mod ids;
@@ -24,6 +26,8 @@ mod record_type;
 mod reply;
 mod spoof;
 mod tally;
+#[cfg(test)]
+mod tests;
 mod transport;
 mod words;
 
