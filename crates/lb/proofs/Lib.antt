@@ -1,1 +1,5 @@
 pub mod Replays
+pub mod Taking
+pub mod Left
+pub mod Turning
+pub mod Counting

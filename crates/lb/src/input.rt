@@ -1,6 +1,14 @@
 //! Putting lines together from an input.
 
-ghost use Rattle.std.specs.Prelude.{◌≤◌, length, IfOk};
+ghost use Rattle.std.specs.Prelude.{◌≡◌, ℕ, ◌+◌, ◌-◌, ◌<◌, ◌≤◌, ◌++◌, ◌∷◌, [], List, Some, false, take, drop, length, IfOk, IfSome, IfNone, OnOk, OnErr, IsTrue, ◌↔◌, slice_index};
+ghost use Rattle.std.specs.List.{All};
+ghost use Rattle.std.specs.Io.KnownBytes.{Keeps};
+ghost use Rattle.std.specs.Io.Buffered.{reader_remaining};
+ghost use Rattle.lb.specs.Input.{kind_with, kind_of as kind_of_bytes, is_line_feed};
+ghost use Rattle.lb.specs.Shown.{Takes};
+ghost use Rattle.lb.specs.Shedding.{Sheds};
+ghost use Rattle.lb.specs.Left.{IsFresh, IsSound, IsGoing, events_of, told_number, Turns};
+ghost use Rattle.std.specs.Str.Lines.{strip_carriage_return};
 
 use crate::events::read_event;
 use crate::faults::{Fault, LineFault, Stop, Unread};
@@ -26,16 +34,28 @@ pub(crate) enum LineKind {
 
 impl LineKind {
     /// What more bytes make of the line.
-    pub(crate) fn with(self, bytes: &[u8]) -> LineKind {
+    pub(crate) fn with(self, bytes: &[u8]) -> LineKind
+        ensures { result ≡ kind_with self bytes.now }
+    {
         match self {
-            LineKind::Blank => match bytes.iter().find(|byte| **byte != b' ') {
-                None => LineKind::Blank,
-                Some(b'#') => LineKind::Comment,
-                Some(_) => LineKind::Told,
-            },
+            LineKind::Blank => kind_of(bytes),
             LineKind::Comment | LineKind::Told => self,
         }
     }
+}
+
+/// What the bytes of a line make it.
+fn kind_of(bytes: &[u8]) -> LineKind
+    ensures { result ≡ kind_of_bytes bytes.now }
+{
+    for byte in bytes {
+        match byte {
+            b' ' => {}
+            b'#' => return LineKind::Comment,
+            _ => return LineKind::Told,
+        }
+    }
+    LineKind::Blank
 }
 
 /// Text that is not UTF-8.
@@ -64,7 +84,9 @@ pub(crate) enum Shown {
 
 impl Line {
     /// No bytes.
-    pub(crate) fn new(alloc: Global) -> Line {
+    pub(crate) fn new(alloc: Global) -> Line
+        ensures { IsFresh result }
+    {
         Line {
             bytes: Vec::new(alloc),
             kind: LineKind::Blank,
@@ -73,40 +95,37 @@ impl Line {
     }
 
     /// Makes ready for the next line.
-    pub(crate) fn clear(&mut self) {
+    pub(crate) fn clear(&mut self)
+        ensures { IsFresh self.new }
+    {
         self.bytes.clear();
         self.kind = LineKind::Blank;
         self.is_long = false;
     }
 
     /// Whether no byte of the line was read.
-    pub(crate) fn is_empty(&self) -> bool {
+    pub(crate) fn is_empty(&self) -> bool
+        ensures { IsTrue result ↔ ((self.now.bytes.items ≡ []) × (self.now.is_long ≡ false)) }
+    {
         self.bytes.is_empty() && !self.is_long
     }
 
-    /// Takes what the input shows of the line.
-    pub(crate) fn read<R: Read>(&mut self, input: &mut BufReader<R>) -> io::Result<Shown> {
-        let shown = match input.fill_buf() {
-            Ok(shown) => shown,
-            Err(error) if error.kind() == ErrorKind::Interrupted => return Ok(Shown::Piece),
-            Err(error) => return Err(error),
-        };
-        if shown.is_empty() {
-            return Ok(Shown::End);
+    /// Takes what the input shows of the line. An interruption shows nothing.
+    pub(crate) fn read<R: Read>(&mut self, input: &mut BufReader<R>) -> io::Result<Shown>
+        ensures shown { IfSome (reader_remaining R.remaining input.old) (λ bytes. IfOk result (λ shown. Takes self.old.bytes.items bytes shown self.new.bytes.items (reader_remaining R.remaining input.new))) }
+        ensures kind { (self.new.kind ≡ self.old.kind) × (self.new.is_long ≡ self.old.is_long) }
+    {
+        match take_shown(input, &mut self.bytes) {
+            Err(error) if error.kind() == ErrorKind::Interrupted => Ok(Shown::Piece),
+            shown => shown,
         }
-        let (len, taken, what) = match shown.iter().position(|byte| *byte == b'\n') {
-            Some(len) => (len, len + 1, Shown::LineFeed),
-            None => (shown.len(), shown.len(), Shown::Piece),
-        };
-        let (piece, _) = shown.split_at(len);
-        self.bytes.extend_from_slice(piece)?;
-        input.consume(taken);
-        Ok(what)
     }
 
     /// Lets go of the bytes of a line that is too long, all but a carriage return or the beginning of a character at
     /// their end.
-    pub(crate) fn shed(&mut self) -> Result<(), NotUtf8> {
+    pub(crate) fn shed(&mut self) -> Result<(), NotUtf8>
+        ensures { OnOk result (Sheds self.old self.new) }
+    {
         if self.bytes.len() <= MAX_LINE + 1 {
             return Ok(());
         }
@@ -120,14 +139,19 @@ impl Line {
     }
 
     /// Drops the carriage return before a line feed.
-    pub(crate) fn drop_return(&mut self) {
+    pub(crate) fn drop_return(&mut self)
+        ensures bytes { self.new.bytes.items ≡ strip_carriage_return self.old.bytes.items }
+        ensures kind { (self.new.kind ≡ self.old.kind) × (self.new.is_long ≡ self.old.is_long) }
+    {
         if self.bytes.last() == Some(&b'\r') {
             let _ = self.bytes.pop();
         }
     }
 
     /// What the whole line is.
-    pub(crate) fn kind(&self) -> Result<LineKind, NotUtf8> {
+    pub(crate) fn kind(&self) -> Result<LineKind, NotUtf8>
+        ensures { IfOk result (λ kind. kind ≡ kind_with self.now.kind self.now.bytes.items) }
+    {
         match from_utf8(self.bytes.as_slice()) {
             Ok(_) => Ok(self.kind.with(self.bytes.as_slice())),
             Err(_) => Err(NotUtf8),
@@ -144,10 +168,44 @@ impl Line {
     }
 }
 
+/// Moves the rest of a line, as far as the input shows it, behind these bytes. After an error nothing is moved.
+fn take_shown<R: Read>(input: &mut BufReader<R>, bytes: &mut Vec<u8>) -> io::Result<Shown>
+    ensures ok { IfSome (reader_remaining R.remaining input.old) (λ all. IfOk result (λ shown. Takes bytes.old.items all shown bytes.new.items (reader_remaining R.remaining input.new))) }
+    ensures err { IfSome (reader_remaining R.remaining input.old) (λ all. OnErr result ((reader_remaining R.remaining input.new ≡ Some all) × (bytes.new.items ≡ bytes.old.items))) }
+{
+    let shown = input.fill_buf()?;
+    if shown.is_empty() {
+        return Ok(Shown::End);
+    }
+    match line_feed(shown) {
+        Some(len) => {
+            let (piece, _) = shown.split_at(len);
+            bytes.extend_from_slice(piece)?;
+            input.consume(len + 1);
+            Ok(Shown::LineFeed)
+        }
+        None => {
+            let len = shown.len();
+            bytes.extend_from_slice(shown)?;
+            input.consume(len);
+            Ok(Shown::Piece)
+        }
+    }
+}
+
+/// The place of the first line feed.
+fn line_feed(bytes: &[u8]) -> Option<usize>
+    ensures found { IfSome result (λ place. (place < length bytes.now) × (bytes.now ≡ take place bytes.now ++ 10 ∷ drop (place + 1) bytes.now) × All (λ byte. is_line_feed byte ≡ false) (take place bytes.now)) }
+    ensures none { IfNone result (All (λ byte. is_line_feed byte ≡ false) bytes.now) }
+{
+    bytes.iter().position(|byte| *byte == b'\n')
+}
+
 /// How many bytes at the end of a piece of a line have to wait for what comes: a carriage return, or a character that is
 /// not whole.
 fn tail_len(bytes: &[u8]) -> Result<usize, NotUtf8>
-    ensures { IfOk result (λ len. len ≤ length bytes.now) }
+    ensures within { IfOk result (λ len. len ≤ length bytes.now) }
+    ensures held { IfOk result (λ len. len ≡ 0 → slice_index bytes.now (length bytes.now - 1) ≡ 13 → ⊥) }
 {
     match from_utf8(bytes) {
         Ok(_) if bytes.last() == Some(&b'\r') => Ok(1),
@@ -179,7 +237,10 @@ pub(crate) struct Lines<R> {
 
 impl<R: Read + Drop> Lines<R> {
     /// The lines of an input, of which none is read.
-    pub(crate) fn new(alloc: Global, input: R) -> io::Result<Lines<R>> {
+    pub(crate) fn new(alloc: Global, input: R) -> io::Result<Lines<R>>
+        ensures line { IfOk result (λ lines. IsFresh lines.line) }
+        ensures input { IfOk result (λ lines. Keeps (R.remaining input) (reader_remaining R.remaining lines.input)) }
+    {
         Ok(Lines {
             input: BufReader::new(alloc, input)?,
             line: Line::new(alloc),
@@ -193,7 +254,9 @@ impl<R: Read + Drop> Lines<R> {
     }
 
     /// Takes what the input shows of a line. Where the line ends there, it is judged.
-    pub(crate) fn turn(&mut self, alloc: Global) -> Result<Turn, Stop> {
+    pub(crate) fn turn(&mut self, alloc: Global) -> Result<Turn, Stop>
+        ensures { IsSound self.old.line → IfSome (reader_remaining R.remaining self.old.input) (λ bytes. IfOk result (λ turn. Turns self.old.line bytes turn self.new.line (reader_remaining R.remaining self.new.input))) }
+    {
         match self.line.read(&mut self.input)? {
             Shown::Piece => match self.line.shed() {
                 Ok(()) => Ok(Turn::Nothing),
@@ -209,7 +272,11 @@ impl<R: Read + Drop> Lines<R> {
     }
 
     /// Judges the line in hand, and makes ready for the next.
-    fn end_line(&mut self, alloc: Global) -> Result<Turn, Stop> {
+    fn end_line(&mut self, alloc: Global) -> Result<Turn, Stop>
+        ensures judged { IfOk result (λ turn. (events_of turn ≡ told_number (kind_with self.old.line.kind self.old.line.bytes.items)) × IsGoing turn) }
+        ensures line { OnOk result (IsFresh self.new.line) }
+        ensures input { self.new.input ≡ self.old.input }
+    {
         let Some(number) = self.ended.checked_add(1) else {
             return Err(Stop::Device);
         };
@@ -221,7 +288,9 @@ impl<R: Read + Drop> Lines<R> {
 }
 
 /// What a whole line gives: nothing where it is skipped, and else its event.
-fn judge(alloc: Global, line: &Line, number: u64) -> Result<Turn, Stop> {
+fn judge(alloc: Global, line: &Line, number: u64) -> Result<Turn, Stop>
+    ensures { IfOk result (λ turn. (events_of turn ≡ told_number (kind_with line.now.kind line.now.bytes.items)) × IsGoing turn) }
+{
     match line.kind() {
         Ok(LineKind::Blank | LineKind::Comment) => return Ok(Turn::Nothing),
         Ok(LineKind::Told) => {}

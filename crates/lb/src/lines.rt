@@ -1,13 +1,14 @@
 //! Replaying lines: each is an event of one balancer, and each answer becomes a line.
 
-ghost use Rattle.std.specs.Prelude.{◌≡◌, ◌≢◌, ◌≤◌, ◌++◌, [], List, ℕ, Option, codes, OnOk, IsTrue};
+ghost use Rattle.std.specs.Prelude.{◌≡◌, ◌≢◌, ◌≤◌, ◌++◌, [], List, ℕ, Option, codes, length, IfSome, OnOk, IsTrue};
 ghost use Rattle.std.specs.Io.KnownBytes.{Appends, Keeps};
 ghost use Rattle.lb_core.specs.Plain.{Plain};
 ghost use Rattle.lb_core.specs.Step.{Answers};
 ghost use Rattle.lb_core.specs.declared.answer.Answer.{Answer};
 ghost use Rattle.lb.specs.Lines.{line_of};
 ghost use Rattle.lb.specs.Faults.{stop_text, stop_status};
-ghost use Rattle.lb.specs.Replay.{Replayed, Answered, Judged};
+ghost use Rattle.lb.specs.Input.{told_lines};
+ghost use Rattle.lb.specs.Replay.{Replayed, Replays, Answered, Judged};
 
 use crate::answers::answer_line;
 use crate::faults::Stop;
@@ -29,6 +30,8 @@ pub fn replay<A: AllocGlobal, R: Read + Drop, W: Write, F: Write>(
     faults: &mut F,
 ) -> u8
     ensures run { result ≤ 1 → Replayed (W.contents output.old) (W.contents output.new) }
+    // at the end of an input whose bytes are known, each of its told lines was an event
+    ensures all { result ≡ 0 → Replays (R.remaining input) (W.contents output.old) (W.contents output.new) }
     ensures status { (result ≤ 3) × (result ≢ 2) }
 {
     match replay_lines(rt.alloc(), input, output) {
@@ -46,7 +49,8 @@ fn replay_lines<R: Read + Drop, W: Write>(
     input: R,
     output: &mut W,
 ) -> Result<(), Stop>
-    ensures { Judged result → Replayed (W.contents output.old) (W.contents output.new) }
+    ensures judged { Judged result → Replayed (W.contents output.old) (W.contents output.new) }
+    ensures all { OnOk result (Replays (R.remaining input) (W.contents output.old) (W.contents output.new)) }
 {
     let mut held = Vec::new(alloc);
     let result = answer_lines(alloc, input, output, &mut held);
@@ -62,7 +66,8 @@ fn answer_lines<R: Read + Drop, W: Write>(
     held: &mut Vec<u8>,
 ) -> Result<(), Stop>
     requires { held.old.items ≡ [] }
-    ensures { Judged result → (end : Plain) × Answered (W.contents output.old) (W.contents output.new) held.new.items end }
+    ensures judged { Judged result → (end : Plain) × (count : ℕ) × Answered (W.contents output.old) (W.contents output.new) held.new.items end count }
+    ensures all { OnOk result ((end : Plain) × (count : ℕ) × Answered (W.contents output.old) (W.contents output.new) held.new.items end count × IfSome (R.remaining input) (λ bytes. count ≡ length (told_lines bytes))) }
 {
     let mut balancer = Balancer::new(alloc)?;
     let mut lines = Lines::new(alloc, input)?;
@@ -107,7 +112,7 @@ fn write_out<W: Write>(output: &mut W, held: &mut Vec<u8>) -> io::Result<()>
 
 /// Writes out what is held, if the input may now be waited for.
 fn write_if<W: Write>(waits: bool, output: &mut W, held: &mut Vec<u8>) -> io::Result<()>
-    ensures kept { OnOk result ((first : Option (List ℕ)) (end : Plain) → Answered first (W.contents output.old) held.old.items end → Answered first (W.contents output.new) held.new.items end) }
+    ensures kept { OnOk result ((first : Option (List ℕ)) (end : Plain) (count : ℕ) → Answered first (W.contents output.old) held.old.items end count → Answered first (W.contents output.new) held.new.items end count) }
     ensures written { OnOk result (IsTrue waits → held.new.items ≡ []) }
 {
     if waits {

@@ -1,0 +1,13 @@
+-- What reading shows of a line.
+use Rattle.std.specs.Prelude.{◌≡◌, ℕ, List, [], ◌∷◌, ◌++◌, Option, Some, false}
+use Rattle.std.specs.List.{All}
+use Rattle.lb.specs.Input.{is_line_feed}
+use Rattle.lb.specs.declared.input.Shown.{Shown}
+use Rattle.lb.specs.declared.input.Shown.TheVariants.{Piece, LineFeed, End}
+
+-- of the bytes that remained a piece without a line feed went to the line, and the rest remains: all, or what stands
+-- behind a line feed, or nothing
+abbrev pub Takes : List ℕ → List ℕ → Shown → List ℕ → Option (List ℕ) → Type 0
+Takes old bytes Piece new left = (piece : List ℕ) × (rest : List ℕ) × (left ≡ Some rest) × (new ≡ old ++ piece) × (bytes ≡ piece ++ rest) × All (λ byte. is_line_feed byte ≡ false) piece
+Takes old bytes LineFeed new left = (piece : List ℕ) × (rest : List ℕ) × (left ≡ Some rest) × (new ≡ old ++ piece) × (bytes ≡ piece ++ 10 ∷ rest) × All (λ byte. is_line_feed byte ≡ false) piece
+Takes old bytes End new left = (left ≡ Some []) × (new ≡ old) × (bytes ≡ [])
