@@ -1,0 +1,10 @@
+//! Netmasks (RFC 4291 section 2.3, RFC 4632 section 3.1): addresses and masks read from texts, which addresses a mask
+//! covers, and addresses with the bits past a length cleared.
+#![tactic(auto)]
+
+mod bits;
+mod fault;
+mod mask;
+
+pub use fault::MaskFault;
+pub use mask::{Mask, masked};
