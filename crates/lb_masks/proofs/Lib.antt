@@ -1,2 +1,6 @@
 pub mod Kept
 pub mod Prefixes
+pub mod Digits
+pub mod Cuts
+pub mod Joins
+pub mod Gaps

@@ -2,9 +2,15 @@
 //! covers, and addresses with the bits past a length cleared.
 #![tactic(auto)]
 
+mod address;
 mod bits;
 mod fault;
+mod form;
+mod group;
 mod mask;
+mod number;
 
+pub use address::parse_addr;
 pub use fault::MaskFault;
+pub use group::Group;
 pub use mask::{Mask, masked};

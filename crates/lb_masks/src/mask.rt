@@ -2,9 +2,14 @@
 
 ghost use Rattle.std.specs.Prelude.{◌≡◌, ◌≤◌, ◌↔◌, IsTrue};
 ghost use Rattle.lb_masks.specs.Bits.{KeepsBits, OneFamily};
-ghost use Rattle.lb_masks.specs.Mask.{width, masked_at, masked_of, len_for, prefix_within, Covers};
+ghost use Rattle.lb_masks.specs.Mask.{width, masked_at, masked_of, len_for, prefix_of, prefix_within, Covers};
+ghost use Rattle.lb_masks.specs.Text.{mask_of_text};
 
+use crate::address::addr_of;
 use crate::bits::{keep_bits, same_bits};
+use crate::fault::MaskFault;
+use crate::form::first_piece;
+use crate::number::decimal_up_to;
 use lb_wire::Addr;
 use std::marker::Model;
 
@@ -13,6 +18,9 @@ const V4_BITS: u8 = 32;
 
 /// The bits of an IPv6 address.
 const V6_BITS: u8 = 128;
+
+/// What stands between an address and a length.
+const SLASH: u8 = b'/';
 
 /// How many bits an address of the family has.
 fn width(addr: &Addr) -> u8
@@ -78,6 +86,17 @@ impl Model for Mask {
 }
 
 impl Mask {
+    /// The mask of an address with its bits past the length cleared.
+    fn under(addr: Addr, length: u8) -> Mask
+        requires { length ≤ width addr }
+        ensures { result ≡ prefix_of length addr }
+    {
+        Mask {
+            address: first_bits(addr, length),
+            bits: length,
+        }
+    }
+
     /// The mask of an address with its bits past the length cleared. None where the address has fewer bits.
     pub fn new(addr: Addr, length: u8) -> Option<Mask>
         ensures { result ≡ prefix_within length addr }
@@ -85,10 +104,27 @@ impl Mask {
         if length > width(&addr) {
             return None;
         }
-        Some(Mask {
-            address: first_bits(addr, length),
-            bits: length,
-        })
+        Some(Mask::under(addr, length))
+    }
+
+    /// The mask that a text spells: an address as `parse_addr` reads it, or one, `/` and a decimal length of at most
+    /// its bits; bits past the length are cleared (RFC 4632 section 3.1, RFC 4291 section 2.3). With no `/` all bits
+    /// count. The address is tested first.
+    pub fn parse(text: &str) -> Result<Mask, MaskFault>
+        ensures { result ≡ mask_of_text text.now }
+    {
+        let (front, digits) = first_piece(text.as_bytes(), SLASH);
+        let Some(addr) = addr_of(front) else {
+            return Err(MaskFault::BadAddress);
+        };
+        let Some(digits) = digits else {
+            let length = width(&addr);
+            return Ok(Mask::under(addr, length));
+        };
+        match decimal_up_to(digits, width(&addr)) {
+            Some(length) => Ok(Mask::under(addr, length)),
+            None => Err(MaskFault::BadLength),
+        }
     }
 
     /// The network address: the bits past the length are 0.

@@ -1,0 +1,76 @@
+//! Numbers in texts.
+
+ghost use Rattle.std.specs.Prelude.{◌≡◌, ◌≤◌, IfSome};
+ghost use Rattle.lb_masks.specs.Number.{number_up_to, has_leading_zero, decimal_octet, group};
+
+/// The radix of an IPv4 address's numbers and of lengths.
+const DECIMAL: u32 = 10;
+
+/// The radix of an IPv6 address's groups (RFC 4291 section 2.2).
+const HEXADECIMAL: u32 = 16;
+
+/// The most digits of a group.
+const GROUP_DIGITS: usize = 4;
+
+/// The number that digits spell, where it is not over the most. None of no digit, and of any other byte.
+fn number_up_to(text: &[u8], radix: u32, most: u32) -> Option<u32>
+    requires low { 2 ≤ radix }
+    requires high { radix ≤ 36 }
+    requires most { most ≤ 65535 }
+    ensures value { result ≡ number_up_to radix most text.now }
+    ensures within { IfSome result (λ number. number ≤ most) }
+{
+    if text.is_empty() {
+        return None;
+    }
+    let mut number = 0;
+    'digits: for byte in text {
+        let digit = char::from(*byte).to_digit(radix)?;
+        number = number * radix + digit;
+        if number > most {
+            return None;
+        }
+    }
+    Some(number)
+}
+
+/// The number that decimal digits spell, leading zeros and all, where it is not over the most.
+pub(crate) fn decimal_up_to(text: &[u8], most: u8) -> Option<u8>
+    ensures value { result ≡ number_up_to 10 most text.now }
+    ensures within { IfSome result (λ number. number ≤ most) }
+{
+    match number_up_to(text, DECIMAL, u32::from(most)) {
+        Some(number) => Some(number as u8),
+        None => None,
+    }
+}
+
+/// Whether a zero stands before another digit.
+fn has_leading_zero(text: &[u8]) -> bool
+    ensures { result ≡ has_leading_zero text.now }
+{
+    text.len() > 1 && text[0] == b'0'
+}
+
+/// The octet that a decimal number from 0 to 255 with no leading zero spells.
+pub(crate) fn decimal_octet(text: &[u8]) -> Option<u8>
+    ensures { result ≡ decimal_octet text.now }
+{
+    if has_leading_zero(text) {
+        return None;
+    }
+    decimal_up_to(text, u8::MAX)
+}
+
+/// The number that one to four hexadecimal digits spell.
+pub(crate) fn group(text: &[u8]) -> Option<u16>
+    ensures { result ≡ group text.now }
+{
+    if text.len() > GROUP_DIGITS {
+        return None;
+    }
+    match number_up_to(text, HEXADECIMAL, u32::from(u16::MAX)) {
+        Some(number) => Some(number as u16),
+        None => None,
+    }
+}
