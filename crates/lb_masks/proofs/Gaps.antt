@@ -1,10 +1,9 @@
 -- A text with a `::`, and octets too many for an address.
-use Rattle.std.proofs.Common.{◌≡◌, ℕ, ◌+◌, ◌-◌, ◌<◌, ◌≤◌, Bool, true, false, eqb, cond, ◌&&◌, if◌then◌else◌, inl, inr, List, [], ◌∷◌, ◌++◌, length, get_or, take, drop, replicate, Option, Some, None, refl, sym, ◌∙◌, ap, arith}
+use Rattle.std.proofs.Common.{◌≡◌, ℕ, ◌+◌, ◌-◌, ◌<◌, ◌≤◌, Bool, false, eqb, ◌&&◌, inl, inr, List, [], ◌∷◌, ◌++◌, length, get_or, take, drop, replicate, Option, Some, None, refl, sym, ◌∙◌, ap, arith}
 use Rattle.std.proofs.lemmas.Bool.{lt-leb, cond-false, ne_eqb, cases_Bool, cases_lt, eqb-true}
 use Rattle.std.proofs.lemmas.List.{get_or-drop, drop-drop, drop_more, drop_all, drop-replicate, take-replicate, length-append, length-drop, length-replicate, append-nil}
 use Rattle.std.proofs.Math.Seq.{take-append-add}
 use Rattle.std.specs.Option.{option_map, option_and_then}
-use Rattle.lb_wire.specs.declared.addr.Addr.{Addr}
 use Rattle.lb_masks.specs.Text.{gap_place, four, sixteen, side, filled, v6_at, v6_of}
 
 -- a place counted from further back

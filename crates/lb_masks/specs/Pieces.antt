@@ -1,5 +1,5 @@
 -- The pieces of an address's text, and the octets that they spell.
-use Rattle.std.specs.Prelude.{ℕ, ◌+◌, ◌==◌, Bool, Option, Some, None, option_map, List, [], ◌∷◌, ◌++◌, drop, position}
+use Rattle.std.specs.Prelude.{ℕ, ◌+◌, ◌==◌, Option, Some, None, option_map, List, [], ◌∷◌, ◌++◌, drop, position}
 use Rattle.std.specs.Borrow.{Bor}
 use Rattle.std.specs.List.{slice_split, before_first}
 use Rattle.std.specs.Int.{w16, to_be_bytes}

@@ -109,3 +109,62 @@ pub fn parse_addr(text: &str) -> Option<Addr>
 {
     addr_of(text.as_bytes())
 }
+
+#[cfg(test)]
+mod tests {
+    use super::*;
+
+    #[test]
+    fn texts_that_are_no_addresses(rt: HostRuntime) {
+        let cases = [
+            "",
+            "1.2.3",
+            "1.2.3.4.5",
+            "1.2.3.256",
+            "01.2.3.4",
+            "1.2..4",
+            "1.2.3.4 ",
+            "1.2.3.+4",
+            ":",
+            ":::",
+            "1::2::3",
+            "1:2:3:4:5:6:7",
+            "1:2:3:4:5:6:7:8:9",
+            ":1:2:3:4:5:6:7:8",
+            "1:2:3:4:5:6:7:8:",
+            "1:2:3:4:5:6:7:8::",
+            "12345::",
+            "g::",
+            "::ffff:1.2.3.4",
+            "fe80::1%eth0",
+            "[::1]",
+        ];
+        for text in cases {
+            assert_eq!(rt; parse_addr(text), None, "at {text}");
+        }
+    }
+
+    #[test]
+    fn texts_of_addresses(rt: HostRuntime) {
+        let v6 = [
+            0x20, 0x01, 0x0d, 0xb8, 0, 0, 0, 0, 0, 8, 8, 0, 0x20, 0x0c, 0x41, 0x7a,
+        ];
+        let multicast = [0xff, 1, 0, 0, 0, 0, 0, 0, 0, 0, 0, 0, 0, 0, 1, 1];
+        let front = [0, 1, 0, 2, 0, 3, 0, 4, 0, 5, 0, 6, 0, 7, 0, 0];
+        let mapped = [0, 0, 0, 0, 0, 0, 0, 0, 0, 0, 0xff, 0xff, 0xc0, 0, 2, 1];
+        let cases = [
+            ("0.10.99.255", Addr::V4([0, 10, 99, 255])),
+            ("2001:DB8:0:0:8:800:200C:417A", Addr::V6(v6)),
+            ("2001:db8::8:800:200c:417a", Addr::V6(v6)),
+            ("FF01:0:0:0:0:0:0:101", Addr::V6(multicast)),
+            ("FF01::101", Addr::V6(multicast)),
+            ("1:2:3:4:5:6:7::", Addr::V6(front)),
+            ("0001:2:3:4:5:6:7:0000", Addr::V6(front)),
+            ("::ffff:c000:201", Addr::V6(mapped)),
+            ("::", Addr::V6([0; 16])),
+        ];
+        for (text, addr) in cases {
+            assert_eq!(rt; parse_addr(text), Some(addr), "at {text}");
+        }
+    }
+}

@@ -1,7 +1,7 @@
 //! Masks, and addresses under a length.
 
-ghost use Rattle.std.specs.Prelude.{◌≡◌, ◌≤◌, ◌↔◌, IsTrue};
-ghost use Rattle.lb_masks.specs.Bits.{KeepsBits, OneFamily};
+ghost use Rattle.std.specs.Prelude.{◌≡◌, ◌≤◌, ◌↔◌, ℕ, IsTrue};
+ghost use Rattle.lb_masks.specs.Bits.{octets_of, bit_of, KeepsBits, OneFamily};
 ghost use Rattle.lb_masks.specs.Mask.{width, masked_at, masked_of, len_for, prefix_of, prefix_within, Covers};
 ghost use Rattle.lb_masks.specs.Text.{mask_of_text};
 
@@ -129,14 +129,16 @@ impl Mask {
 
     /// The network address: the bits past the length are 0.
     pub fn network(&self) -> Addr
-        ensures { result ≡ self.now.network }
+        ensures address { result ≡ self.now.network }
+        ensures cleared { (k : ℕ) → self.now.len ≤ k → bit_of (octets_of result) k ≡ 0 }
     {
         self.address
     }
 
     /// How many first bits count, at most 32 or 128.
     pub fn length(&self) -> u8
-        ensures { result ≡ self.now.len }
+        ensures length { result ≡ self.now.len }
+        ensures within { result ≤ width self.now.network }
     {
         self.bits
     }
@@ -154,5 +156,128 @@ impl Mask {
             }
             _ => false,
         }
+    }
+}
+
+#[cfg(test)]
+mod tests {
+    use super::*;
+    use crate::address::parse_addr;
+
+    const ALL_BITS: Addr = Addr::V6([0xff; 16]);
+
+    #[test]
+    fn texts_that_are_no_masks(rt: HostRuntime) {
+        let cases = [
+            ("", MaskFault::BadAddress),
+            ("/8", MaskFault::BadAddress),
+            ("1.2.3", MaskFault::BadAddress),
+            ("1.2.3.256/99", MaskFault::BadAddress),
+            ("::ffff:1.2.3.4", MaskFault::BadAddress),
+            ("10.0.0.0/", MaskFault::BadLength),
+            ("10.0.0.0/33", MaskFault::BadLength),
+            ("10.0.0.0/8/8", MaskFault::BadLength),
+            ("10.0.0.0/+8", MaskFault::BadLength),
+            ("10.0.0.0/8 ", MaskFault::BadLength),
+            ("10.0.0.0/0x8", MaskFault::BadLength),
+            ("::/129", MaskFault::BadLength),
+            (
+                "::/4000000000000000000000000000000000000000",
+                MaskFault::BadLength,
+            ),
+        ];
+        for (text, fault) in cases {
+            assert_eq!(rt; Mask::parse(text).err(), Some(fault), "at {text}");
+        }
+        assert_eq!(rt;
+            (
+                MaskFault::BadAddress.number(),
+                MaskFault::BadLength.number()
+            ),
+            (1, 2)
+        );
+    }
+
+    #[test]
+    fn texts_of_masks(rt: HostRuntime) -> Result<(), MaskFault> {
+        let cases = [
+            ("10.1.2.3/8", "10.0.0.0", 8),
+            ("10.0.0.0/08", "10.0.0.0", 8),
+            ("10.1.2.3", "10.1.2.3", 32),
+            ("10.1.2.3/0", "0.0.0.0", 0),
+            ("192.0.2.255/25", "192.0.2.128", 25),
+            ("2001:0db8:0000:cd30::/60", "2001:db8:0:cd30::", 60),
+            ("2001:db8:0:cd3f:ffff::/60", "2001:db8:0:cd30::", 60),
+            ("::1", "::1", 128),
+        ];
+        for (text, network, length) in cases {
+            let mask = Mask::parse(text)?;
+            assert_eq!(rt; Some(mask.network()), parse_addr(network), "at {text}");
+            assert_eq!(rt; mask.length(), length, "at {text}");
+        }
+        assert_eq!(rt;
+            Mask::new(ALL_BITS, 128),
+            Mask::parse("ffff:ffff:ffff:ffff:ffff:ffff:ffff:ffff").ok()
+        );
+        assert_eq!(rt; Mask::new(ALL_BITS, 129), None);
+        Ok(())
+    }
+
+    #[test]
+    fn what_masks_cover(rt: HostRuntime) -> Result<(), MaskFault> {
+        let cases = [
+            ("0.0.0.0/0", "255.255.255.255", true),
+            ("0.0.0.0/0", "::", false),
+            ("::/0", "0.0.0.0", false),
+            ("10.0.0.0/7", "11.255.0.0", true),
+            ("10.0.0.0/7", "12.0.0.0", false),
+            ("10.0.0.0/8", "10.255.255.255", true),
+            ("10.0.0.0/8", "11.0.0.0", false),
+            ("10.0.0.0/9", "10.127.255.255", true),
+            ("10.0.0.0/9", "10.128.0.0", false),
+            ("10.0.0.1/32", "10.0.0.1", true),
+            ("10.0.0.1/32", "10.0.0.0", false),
+            ("192.0.2.0/24", "::ffff:c000:201", false),
+            ("2001:db8::/32", "2001:db8:ffff::1", true),
+            ("2001:db8::/32", "2001:db9::", false),
+            ("::2/127", "::3", true),
+            ("::2/127", "::4", false),
+            ("::2/128", "::3", false),
+            ("::2/128", "::2", true),
+        ];
+        for (mask, addr, covers) in cases {
+            let Some(addr) = parse_addr(addr) else {
+                return Err(MaskFault::BadAddress);
+            };
+            assert_eq!(rt; Mask::parse(mask)?.covers(&addr), covers, "at {mask}");
+        }
+        Ok(())
+    }
+
+    #[test]
+    fn addresses_under_lengths(rt: HostRuntime) {
+        let cases = [
+            (0, "0.0.0.0", "::"),
+            (1, "128.0.0.0", "8000::"),
+            (31, "255.255.255.254", "ffff:fffe::"),
+            (32, "255.255.255.255", "ffff:ffff::"),
+        ];
+        for (length, v4, v6) in cases {
+            assert_eq!(rt;
+                Some(masked(Addr::V4([0xff; 4]), length, 0)),
+                parse_addr(v4),
+                "at {length}"
+            );
+            assert_eq!(rt;
+                Some(masked(ALL_BITS, 0, length)),
+                parse_addr(v6),
+                "at {length}"
+            );
+        }
+        assert_eq!(rt;
+            Some(masked(ALL_BITS, 0, 64)),
+            parse_addr("ffff:ffff:ffff:ffff::")
+        );
+        assert_eq!(rt; masked(ALL_BITS, 0, 128), ALL_BITS);
     }
 }

@@ -1,5 +1,5 @@
-use Rattle.std.proofs.Common.{sym, ◌∙◌}
-use Rattle.lb_masks.proofs.Gaps.{no_front, no_back}
+use Rattle.std.proofs.Common.{sym}
+use Rattle.lb_masks.proofs.Gaps.{no_front}
 use Rattle.lb_masks.proofs.address.around.Goals as goal
 
 pub returns-in_err-before : goal.returns-in_err-before

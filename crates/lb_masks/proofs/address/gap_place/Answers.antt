@@ -1,4 +1,4 @@
-use Rattle.std.proofs.Common.{◌≡◌, ℕ, ◌+◌, ◌-◌, ◌≤◌, ◌<◌, List, length, Option, Some, None, drop, get_or, sym, ◌∙◌, ap, arith}
+use Rattle.std.proofs.Common.{◌≡◌, ℕ, ◌+◌, ◌-◌, ◌≤◌, ◌<◌, List, length, Option, None, drop, get_or, sym, ◌∙◌, ap, arith}
 use Rattle.lb_masks.specs.Text.{gap_place}
 use Rattle.lb_masks.proofs.Gaps.{behind_by, gap_later, gap_none}
 use Rattle.lb_masks.proofs.address.gap_place.Goals as goal
