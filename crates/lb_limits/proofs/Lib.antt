@@ -1,0 +1,4 @@
+pub mod Sorted
+pub mod Keys
+pub mod Live
+pub mod Late
