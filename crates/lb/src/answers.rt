@@ -1,9 +1,10 @@
 //! Writing answers as lines.
 
 ghost use Rattle.std.specs.Prelude.{◌≡◌, IfOk, string_bytes};
-ghost use Rattle.lb.specs.Lines.{line_of, hex_text, drop_text, local_text};
+ghost use Rattle.lb.specs.Lines.{drop_text, hex_text, line_of, local_text, refused_text};
 
-use lb_core::{Answer, ChainFault, DropReason, EditFault, LocalReason, Note};
+use lb_chain::ChainFault;
+use lb_core::{Answer, DropReason, EditFault, LocalReason, Note};
 use lb_wire::Octets;
 use std::alloc::{AllocError, Global};
 
@@ -25,12 +26,35 @@ pub fn answer_line(alloc: Global, answer: &Answer) -> Result<String, AllocError>
             let id = id.0;
             format!(in alloc; "edited rule {id} added")
         }
-        Answer::Refused(EditFault::Rules(fault)) => match fault {
-            ChainFault::TooManyRules => String::from_str(alloc, "refused rules 3 TooManyRules"),
-            ChainFault::NoMemory => String::from_str(alloc, "refused rules 5 NoMemory"),
-            ChainFault::NoMoreIds => String::from_str(alloc, "refused rules 6 NoMoreIds"),
-        },
+        Answer::Edited(Note::RuleRemoved(id)) => {
+            let id = id.0;
+            format!(in alloc; "edited rule {id} removed")
+        }
+        Answer::Edited(Note::RuleMoved(id)) => {
+            let id = id.0;
+            format!(in alloc; "edited rule {id} moved")
+        }
+        Answer::Refused(EditFault::Rules(fault)) => refused_line(alloc, *fault),
+        Answer::NoMemory(bytes) => {
+            let bytes = hex_of(alloc, bytes)?;
+            format!(in alloc; "nomemory {bytes}")
+        }
     }
+}
+
+/// The line of a refusal by the list of rules: its number and its name.
+fn refused_line(alloc: Global, fault: ChainFault) -> Result<String, AllocError>
+    ensures { IfOk result (λ text. string_bytes text ≡ refused_text fault) }
+{
+    let line = match fault {
+        ChainFault::NoSuchRule => "refused rules 1 NoSuchRule",
+        ChainFault::BadPlace => "refused rules 2 BadPlace",
+        ChainFault::TooManyRules => "refused rules 3 TooManyRules",
+        ChainFault::TooManyLimiters => "refused rules 4 TooManyLimiters",
+        ChainFault::NoMemory => "refused rules 5 NoMemory",
+        ChainFault::NoMoreIds => "refused rules 6 NoMoreIds",
+    };
+    String::from_str(alloc, line)
 }
 
 /// The word for why a query is dropped.
@@ -40,6 +64,7 @@ fn drop_word(reason: DropReason) -> &'static str
     match reason {
         DropReason::Short => "short",
         DropReason::NotQuery => "notquery",
+        DropReason::Rule => "rule",
     }
 }
 

@@ -3,7 +3,9 @@
 use crate::faults::{Fault, Unread};
 use crate::words::{Sign, Word, Words, number_of};
 use hex::FromHexError;
-use lb_core::{Action, Command, Event, Rule, Term};
+use lb_chain::{Action, Rule};
+use lb_core::{Command, Event};
+use lb_terms::{CheckedTerm, Term};
 use lb_wire::{Addr, Kind, Octets, Origin, Rcode, RecordType};
 use std::alloc::Global;
 use std::net::Ipv4Addr;
@@ -31,7 +33,7 @@ fn read_edit(words: &mut Words<'_>) -> Result<Event, Fault> {
     let term = read_term(words)?;
     let action = read_action(words)?;
     words.end()?;
-    let command = Command::RuleAdd(Rule { term, action });
+    let command = Command::RuleAdd(None, Rule { term, action });
     Ok(Event::Edit { now, command })
 }
 
@@ -60,12 +62,20 @@ fn read_query_line(alloc: Global, words: &mut Words<'_>) -> Result<Event, Unread
 }
 
 /// Reads a term: `qtype(TYPE)`.
-fn read_term(words: &mut Words<'_>) -> Result<Term, Fault> {
+fn read_term(words: &mut Words<'_>) -> Result<CheckedTerm, Fault> {
     words.keyword(b"qtype")?;
     words.sign(Sign::Open)?;
     let qtype = read_type(words)?;
     words.sign(Sign::Close)?;
-    Ok(Term::Qtype(qtype))
+    Ok(type_term(qtype))
+}
+
+/// The term that asks for a type. It has one part and no set, so it is within all limits.
+fn type_term(qtype: RecordType) -> CheckedTerm {
+    match Term::Qtype(qtype).checked() {
+        Ok(term) => term,
+        Err(_) => unreachable!(),
+    }
 }
 
 /// Reads an action: `rcode(RCODE)`.

@@ -2,7 +2,9 @@
 
 use crate::rows::{REFUSED_BY_TYPE, ROWS};
 use crate::{answer_line, replay};
-use lb_core::{Action, Answer, Balancer, Command, Event, LocalReason, Note, Rule, Term, run};
+use lb_chain::{Action, Rule};
+use lb_core::{Answer, Balancer, Command, Event, LocalReason, Note, run};
+use lb_terms::Term;
 use lb_wire::{Addr, Kind, Octets, Origin, Rcode, RecordType, RuleId};
 use std::alloc::AllocError;
 use std::io;
@@ -110,10 +112,13 @@ fn typed_events_are_answered(rt: HostRuntime) -> Result<(), Fail> {
     let mut events = Vec::new(alloc);
     events.push(Event::Edit {
         now: 0,
-        command: Command::RuleAdd(Rule {
-            term: Term::Qtype(RecordType::A),
-            action: Action::Rcode(Rcode::Refused),
-        }),
+        command: Command::RuleAdd(
+            None,
+            Rule {
+                term: Term::Qtype(RecordType::A).checked()?,
+                action: Action::Rcode(Rcode::Refused),
+            },
+        ),
     })?;
     events.push(Event::Query {
         now: 1000,

@@ -1,10 +1,13 @@
 //! The program `lb_bench`: it measures, and writes nanoseconds a call to standard error. With the argument `messages`
-//! it reads queries, makes their answers and surveys replies; with no argument it does nothing.
+//! it reads queries, makes their answers and surveys replies; with `rules` it asks balancers with many rules and with a
+//! limiter; with no argument it does nothing.
 #![tactic(auto)]
 
 mod messages;
+mod rules;
 
 use messages::{time_answers, time_surveys};
+use rules::{time_limiter, time_walks};
 use std::{env, io};
 
 fn main(rt: HostRuntime) -> io::Result<()> {
@@ -12,6 +15,10 @@ fn main(rt: HostRuntime) -> io::Result<()> {
         if word.as_str() == "messages" {
             time_answers(&rt)?;
             time_surveys(&rt)?;
+        }
+        if word.as_str() == "rules" {
+            time_walks(&rt)?;
+            time_limiter(&rt)?;
         }
     }
     Ok(())

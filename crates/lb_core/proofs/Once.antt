@@ -6,8 +6,9 @@ use Rattle.lb_wire.specs.declared.query.QueryFault.{QueryFault}
 use Rattle.lb_core.specs.declared.event.Event.{Event}
 use Rattle.lb_core.specs.declared.event.Event.TheVariants.{Query, Edit}
 use Rattle.lb_core.specs.declared.answer.Answer.{Answer}
-use Rattle.lb_core.specs.Plain.{Plain}
-use Rattle.lb_core.specs.Step.{Steps, IsRun, marked, query_answer, edit_of, at_moment}
+use Rattle.lb_core.specs.Plain.{Plain, at_moment}
+use Rattle.lb_core.specs.Edit.{edit_of}
+use Rattle.lb_core.specs.Step.{Steps, IsRun, marked, query_step}
 
 -- bytes read in one way
 abbrev pub ReadsOnce : Type 0
@@ -17,9 +18,11 @@ ReadsOnce = (bytes : List ℕ) (a b : Result QueryView QueryFault) → Reads byt
 one_step : ReadsOnce → (old : Plain) (event : Event) (a b : Answer) (m n : Plain) → Steps old event a m → Steps old event b n → marked a ≡ marked b → (a ≡ b) × (m ≡ n)
 one_step once old (Query now origin kind word bytes) a b m n at_a at_b marks =
     let same = once bytes at_a.0 at_b.0 at_a.1 at_b.1 in
-    (at_a.2 ∙ ap (λ (r : Result QueryView QueryFault). query_answer old.rules bytes r) same ∙ sym at_b.2, at_a.3 ∙ sym at_b.3)
+    let step : Bool → Result QueryView QueryFault → Plain × Answer = λ mark reading. query_step mark (at_moment now old) origin.source kind bytes reading in
+    let whole : (m, a) ≡ (n, b) = at_a.2 ∙ ap (λ (mark : Bool). step mark at_a.0) marks ∙ ap (λ (r : Result QueryView QueryFault). step (marked b) r) same ∙ sym at_b.2 in
+    (ap (λ (p : Plain × Answer). p.1) whole, ap (λ (p : Plain × Answer). p.0) whole)
 one_step once old (Edit now command) a b m n at_a at_b marks =
-    let whole = at_a ∙ ap (λ (mark : Bool). edit_of mark (at_moment now old) command) marks ∙ sym at_b in
+    let whole : (m, a) ≡ (n, b) = at_a ∙ ap (λ (mark : Bool). edit_of mark (at_moment now old) command) marks ∙ sym at_b in
     (ap (λ (p : Plain × Answer). p.1) whole, ap (λ (p : Plain × Answer). p.0) whole)
 
 -- events and marks determine a run

@@ -7,7 +7,10 @@ pub use Rattle.lb_wire.specs.Opt
 pub use Rattle.lb_wire.specs.Message
 pub use Rattle.lb_wire.specs.Query
 pub use Rattle.lb_wire.specs.Answer
-pub mod Faults
-pub mod Rules
+pub use Rattle.lb_chain.specs.Walk
+pub use Rattle.lb_chain.specs.Edits
+pub use Rattle.lb_chain.specs.Rooms
+pub use Rattle.lb_chain.specs.Seen
 pub mod Plain
+pub mod Edit
 pub mod Step

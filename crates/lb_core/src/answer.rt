@@ -1,8 +1,6 @@
 //! What the balancer answers.
 
-ghost use Rattle.std.specs.Prelude.{◌≡◌};
-ghost use Rattle.lb_core.specs.Faults.{chain_fault_number};
-
+use lb_chain::ChainFault;
 use lb_wire::{Octets, RuleId};
 use thiserror::Error;
 
@@ -17,6 +15,8 @@ pub enum Answer {
     Edited(Note),
     /// The command was refused, and nothing but the moment changed.
     Refused(EditFault),
+    /// Memory was wanting for a query: its answer is ServFail, in these octets, and nothing but the moment changed.
+    NoMemory(Octets),
 }
 
 /// Why a query is dropped.
@@ -26,6 +26,8 @@ pub enum DropReason {
     Short,
     /// It is a response.
     NotQuery,
+    /// A rule says so.
+    Rule,
 }
 
 /// Why the balancer answers a query by itself.
@@ -46,6 +48,10 @@ pub enum LocalReason {
 pub enum Note {
     /// The rule was added under this number.
     RuleAdded(RuleId),
+    /// The rule with this number was removed.
+    RuleRemoved(RuleId),
+    /// The rule with this number was moved.
+    RuleMoved(RuleId),
 }
 
 /// Why a command is refused.
@@ -54,31 +60,4 @@ pub enum EditFault {
     /// By the list of rules.
     #[error("rules: {0}")]
     Rules(ChainFault),
-}
-
-/// Why the list of rules refuses a change. `number` is the number that texts give it.
-#[derive(Clone, Copy, Debug, PartialEq, Eq, Error)]
-pub enum ChainFault {
-    /// 4,096 rules are there.
-    #[error("there are too many rules")]
-    TooManyRules,
-    /// Memory is wanting.
-    #[error("memory is wanting")]
-    NoMemory,
-    /// The number 2^64-1 was given.
-    #[error("there are no more numbers for rules")]
-    NoMoreIds,
-}
-
-impl ChainFault {
-    /// The number of the fault.
-    pub fn number(self) -> u8
-        ensures { result ≡ chain_fault_number self }
-    {
-        match self {
-            ChainFault::TooManyRules => 3,
-            ChainFault::NoMemory => 5,
-            ChainFault::NoMoreIds => 6,
-        }
-    }
 }

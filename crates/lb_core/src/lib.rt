@@ -4,17 +4,16 @@
 
 mod answer;
 mod balancer;
+mod edit;
 mod event;
 mod laws;
 mod query;
-mod rules;
 mod runs;
 #[cfg(test)]
 mod tests;
 
-pub use answer::{Answer, ChainFault, DropReason, EditFault, LocalReason, Note};
+pub use answer::{Answer, DropReason, EditFault, LocalReason, Note};
 pub use balancer::Balancer;
 pub use event::{Command, Event};
-pub use laws::one_run_per_marks;
-pub use rules::{Action, Rule, Term};
+pub use laws::{one_run_per_marks, refusals_change_nothing};
 pub use runs::run;

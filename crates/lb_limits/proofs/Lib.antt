@@ -1,4 +1,14 @@
-pub mod Sorted
+pub mod Addresses
 pub mod Keys
-pub mod Live
 pub mod Late
+pub mod Pairs
+pub mod Recent
+pub mod Sums
+pub mod Held
+pub mod Places
+pub mod Changes
+pub mod Put
+pub mod Ends
+pub mod Tested
+pub mod Added
+pub mod Limits

@@ -1,4 +1,6 @@
 pub use Rattle.lb_masks.specs.Mask
 pub mod Order
 pub mod Window
+pub mod Moments
+pub mod Buckets
 pub mod Rooms

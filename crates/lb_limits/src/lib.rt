@@ -2,14 +2,17 @@
 //! over the rate.
 #![tactic(auto)]
 
+mod bucket;
+mod buckets;
+mod latest;
 mod laws;
 mod limiter;
+mod moments;
 mod order;
 mod pass;
-mod room;
+mod reserved;
 #[cfg(test)]
 mod tests;
-mod window;
 
 pub use laws::reserving_keeps_matches;
 pub use limiter::Limiter;

@@ -1,9 +1,9 @@
-//! The order of passes: by source, IPv4 first and then by octets, and then by moment.
+//! The order of addresses: IPv4 first, and then by octets.
 
 ghost use Rattle.std.specs.Prelude.{◌≡◌};
-ghost use Rattle.lb_limits.specs.Order.{same_addr, cmp_addr, is_before};
+ghost use Rattle.std.specs.Ordering.{is_lt};
+ghost use Rattle.lb_limits.specs.Order.{same_addr, cmp_addr};
 
-use crate::pass::Pass;
 use lb_wire::Addr;
 use std::cmp::Ordering;
 
@@ -30,13 +30,9 @@ fn cmp_addr(a: &Addr, b: &Addr) -> Ordering
     }
 }
 
-/// Whether a pass stands before another one.
-pub(crate) fn is_before(a: &Pass, b: &Pass) -> bool
-    ensures { result ≡ is_before a.now b.now }
+/// Whether an address stands before a masked address.
+pub(crate) fn is_below(key: &Addr, source: &Addr) -> bool
+    ensures { result ≡ is_lt (cmp_addr source.now key.now) }
 {
-    match cmp_addr(&a.source, &b.source) {
-        Ordering::Less => true,
-        Ordering::Equal => a.moment < b.moment,
-        Ordering::Greater => false,
-    }
+    cmp_addr(source, key).is_lt()
 }

@@ -77,3 +77,32 @@ fn no_more_than_4096_addresses_at_once(rt: HostRuntime) -> Result<(), Fail> {
     assert!(rt; !limiter.would_match(&ONE, 2000));
     Ok(())
 }
+
+#[test]
+fn an_address_has_as_many_passes_as_the_rate(rt: HostRuntime) -> Result<(), Fail> {
+    let mut limiter = Limiter::new(rt.alloc(), 1000, 32, 128)?;
+    for _ in 0..1000 {
+        assert!(rt; !comes(&mut limiter, &ONE, 7)?);
+    }
+    assert!(rt; comes(&mut limiter, &ONE, 1006)?);
+    assert_eq!(rt; limiter.len(), 1000);
+    // They are all out, and one comes in.
+    assert!(rt; !comes(&mut limiter, &ONE, 1007)?);
+    assert_eq!(rt; limiter.len(), 1);
+    Ok(())
+}
+
+#[test]
+fn addresses_that_are_out_are_given_up(rt: HostRuntime) -> Result<(), Fail> {
+    let mut limiter = Limiter::new(rt.alloc(), 1, 32, 128)?;
+    for low in 0..=255u8 {
+        assert!(rt; !comes(&mut limiter, &Addr::V4([10, 0, 0, low]), 1000)?);
+    }
+    assert_eq!(rt; limiter.addresses(), 256);
+    assert!(rt; !comes(&mut limiter, &ONE, 2000)?);
+    limiter.reserve(&Addr::V4([10, 0, 0, 0]), 2999)?;
+    assert_eq!(rt; limiter.addresses(), 2);
+    assert!(rt; !comes(&mut limiter, &ONE, 3000)?);
+    assert_eq!(rt; limiter.len(), 1);
+    Ok(())
+}

@@ -1,0 +1,11 @@
+pub mod Sums
+pub mod Kept
+pub mod Changed
+pub mod Partly
+pub mod Terms
+pub mod Ready
+pub mod Seen
+pub mod Walks
+pub mod Places
+pub mod Chains
+pub mod Lists

@@ -1,0 +1,10 @@
+use Rattle.std.proofs.Common.{◌≡◌}
+use Rattle.lb_limits.specs.Window.{reserved_at}
+use Rattle.lb_chain.specs.Rooms.{SomeReserved}
+use Rattle.lb_chain.proofs.Changed.{limits_so_far}
+use Rattle.lb_chain.proofs.rooms.reserve_limits.Given as goal
+
+abbrev pub invariant-loop-at : goal.invariant-loop-at
+invariant-loop-at l =
+    (l.limits.items ≡ limits_so_far (λ m. reserved_at m l.addr l.now) l.passes l.rule l.at l.fn.limits.items)
+    × SomeReserved l.passes l.addr l.now l.rule 0 l.fn.limits.items l.limits.items

@@ -1,0 +1,10 @@
+use Rattle.std.proofs.Common.{◌≡◌}
+use Rattle.lb_limits.specs.Window.{reserved_at}
+use Rattle.lb_chain.specs.Rooms.{PartlyReserved}
+use Rattle.lb_chain.proofs.Changed.{rules_so_far}
+use Rattle.lb_chain.proofs.rooms.reserve_rules.Given as goal
+
+abbrev pub invariant-loop-at : goal.invariant-loop-at
+invariant-loop-at l =
+    (l.rules.items ≡ rules_so_far (λ m. reserved_at m l.addr l.now) l.passes l.at l.fn.rules.items)
+    × PartlyReserved l.passes l.addr l.now l.fn.rules.items l.rules.items

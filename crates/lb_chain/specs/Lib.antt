@@ -1,0 +1,11 @@
+pub use Rattle.lb_limits.specs.Window
+pub use Rattle.lb_terms.specs.Truth
+pub use Rattle.lb_terms.specs.Limiters
+pub use Rattle.lb_wire.specs.Answer
+pub mod Fault
+pub mod Walk
+pub mod Edits
+pub mod Rooms
+pub mod Seen
+pub mod Kept
+pub mod Addrs

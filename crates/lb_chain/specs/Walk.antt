@@ -1,0 +1,73 @@
+-- The walk: the rules of the list are tested in order, up to the first that holds and whose action ends the walk.
+use Rattle.std.specs.Prelude.{ℕ, Bool, true, false, ◌==◌, ◌&&◌, ◌||◌, List, [], ◌∷◌, ◌++◌, map, Option, None, Some, if◌then◌else◌}
+use Rattle.std.specs.List.{list_any}
+use Rattle.lb_wire.specs.declared.addr.Addr.{Addr}
+use Rattle.lb_wire.specs.declared.transport.Kind.{Kind}
+use Rattle.lb_wire.specs.declared.transport.Kind.TheVariants as kinds
+use Rattle.lb_wire.specs.declared.query.QueryView.{QueryView}
+use Rattle.lb_wire.specs.Answer.{fits_type}
+use Rattle.lb_terms.specs.Truth.{asked_of, truth_at, passes_at}
+use Rattle.lb_chain.specs.declared.action.Action.{Action}
+use Rattle.lb_chain.specs.declared.action.Action.TheVariants as actions
+use Rattle.lb_chain.specs.declared.walked.Verdict.{Verdict}
+use Rattle.lb_chain.specs.declared.walked.Verdict.TheVariants as verdicts
+use Rattle.lb_chain.specs.declared.walked.Passed.{Passed}
+use Rattle.lb_chain.specs.declared.walked.Walked.{Walked}
+use Rattle.lb_chain.specs.declared.numbered.Numbered.{Numbered}
+
+-- whether one of the addresses answers the question: its class is IN, and the address fits the type
+abbrev pub answers : QueryView → List Addr → Bool
+answers view addrs = view.qclass.0 == 1 && list_any (fits_type view.qtype.0) addrs
+
+-- the verdict of an action that ends the walk for a query of this transport
+abbrev pub ending_of : Action → QueryView → Kind → Option Verdict
+ending_of actions.Allow view kind = Some verdicts.Allow
+ending_of actions.Drop view kind = Some verdicts.Drop
+ending_of (actions.Rcode rcode) view kind = Some (verdicts.Rcode rcode)
+ending_of (actions.Pool pool) view kind = Some (verdicts.Pool pool)
+ending_of actions.Tc view kinds.Datagram = Some verdicts.Tc
+ending_of actions.Tc view kinds.Stream = None
+ending_of (actions.Spoof addrs) view kind = if answers view addrs then Some (verdicts.Spoof addrs) else None
+ending_of actions.None view kind = None
+ending_of actions.NoRecurse view kind = None
+ending_of actions.SkipCache view kind = None
+
+abbrev pub is_no_recurse : Action → Bool
+is_no_recurse actions.NoRecurse = true
+is_no_recurse _ = false
+
+abbrev pub is_skip_cache : Action → Bool
+is_skip_cache actions.SkipCache = true
+is_skip_cache _ = false
+
+-- whether a rule holds of a query
+abbrev pub truth_of : Numbered → QueryView → Addr → ℕ → Bool
+truth_of n view addr now = truth_at n.rule.term (asked_of view addr n.limits now) 0
+
+-- the limiters of a rule that count a query which is tested by it
+abbrev pub passes_of : Numbered → QueryView → Addr → ℕ → List Passed
+passes_of n view addr now = map (λ at. record { rule = n.id; limiter = at }) (passes_at n.rule.term (asked_of view addr n.limits now) 0)
+
+-- what an earlier rule adds to what the later ones give
+abbrev pub with_before : Bool → Bool → List Passed → Walked → Walked
+with_before no_recurse skip_cache passes after = record after { no_recurse = no_recurse || after.no_recurse; skip_cache = skip_cache || after.skip_cache; passes = passes ++ after.passes }
+
+-- a rule that holds: it ends the walk, or sets a flag, or does nothing
+abbrev pub ended_by : Numbered → Option Verdict → List Passed → Walked → Walked
+ended_by n (Some verdict) passes after = record { rule = Some n.id; verdict = verdict; no_recurse = false; skip_cache = false; passes = passes }
+ended_by n None passes after = with_before (is_no_recurse n.rule.action) (is_skip_cache n.rule.action) passes after
+
+-- a rule that was tested
+abbrev pub tested_by : Numbered → Bool → Option Verdict → List Passed → Walked → Walked
+tested_by n true ending passes after = ended_by n ending passes after
+tested_by n false ending passes after = with_before false false passes after
+
+-- no rule ends the walk: Allow, which means the default pool
+abbrev pub no_rule : Walked
+no_rule = record { rule = None; verdict = verdicts.Allow; no_recurse = false; skip_cache = false; passes = [] }
+
+-- the walk: the verdict of the first rule that holds and ends it, the flags of the earlier rules that hold, and the
+-- passes of each rule that was tested, in order
+abbrev pub walk_of : List Numbered → QueryView → Addr → Kind → ℕ → Walked
+walk_of [] view addr kind now = no_rule
+walk_of (n ∷ rules) view addr kind now = tested_by n (truth_of n view addr now) (ending_of n.rule.action view kind) (passes_of n view addr now) (walk_of rules view addr kind now)

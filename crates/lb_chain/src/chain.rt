@@ -1,0 +1,187 @@
+//! The chain.
+
+ghost use Rattle.std.specs.Prelude.{◌≡◌, ◌≤◌, ◌<◌, ℕ, IfOk, OnOk, OnErr, length, map};
+ghost use Rattle.lb_wire.specs.declared.query.QueryView.{QueryView};
+ghost use Rattle.lb_wire.specs.declared.transport.Kind.{Kind as KindValue};
+ghost use Rattle.lb_chain.specs.Walk.{walk_of};
+ghost use Rattle.lb_chain.specs.Edits.{no_rules, added, removed, moved, lacks, listed_of};
+ghost use Rattle.lb_chain.specs.Rooms.{reserved_rules, passed_rules, counted, Ready, PartlyReserved};
+ghost use Rattle.lb_chain.specs.Seen.{seen_rules};
+
+use crate::edits::{insert_rule, move_rule, place_of};
+use crate::fault::ChainFault;
+use crate::listed::{Listed, list_rules};
+use crate::numbered::Numbered;
+use crate::rooms::{pass_rules, reserve_rules};
+use crate::rule::Rule;
+use crate::walk::walk_rules;
+use crate::walked::{MAX_LIMITERS, Walked};
+use lb_terms::limiter_count;
+use lb_wire::{Addr, Kind, QueryView, RuleId};
+use std::alloc::{AllocError, Global};
+use std::marker::Model;
+
+/// The most rules of a chain.
+const MAX_RULES: usize = 4096;
+
+/// The list of rules, each with its number and its rate limiters. Rules are tested in the order of the list.
+#[derive(Debug, Drop)]
+pub struct Chain {
+    /// The last rule number given, 0 at first: so that 2^64-1 is given too, after which the next would be 2^64.
+    last_rule: u64,
+    /// The latest moment of a reservation or a pass, in milliseconds.
+    moment: u64,
+    /// How many limiters the rules have.
+    limiters: usize,
+    rules: Vec<Numbered>,
+}
+
+impl Model for Chain {
+    ghost use Rattle.std.specs.Prelude.{◌+◌};
+    ghost use Rattle.lb_chain.specs.Edits.{Rules};
+    ghost use Rattle.lb_chain.specs.Kept.{IsChain};
+
+    ghost Value = { Rules };
+
+    ghost use Rattle.lb_terms.specs.contracts.term.CheckedTerm as contract;
+    ghost use Rattle.std.specs.Coded.{codes};
+
+    ghost coded = { Prim.hlevel (codes, contract.the_row.coded) };
+
+    ghost view = { λ c. record { next = c.last_rule + 1; moment = c.moment; rules = c.rules.items } };
+
+    ghost invariant = { λ c. IsChain c.last_rule c.moment c.limiters c.rules.items };
+}
+
+impl Chain {
+    /// A chain without rules, whose first rule is rule 1. It takes no memory.
+    pub fn new(alloc: Global) -> Chain
+        ensures { result ≡ no_rules }
+    {
+        Chain {
+            last_rule: 0,
+            moment: 0,
+            limiters: 0,
+            rules: Vec::new(alloc),
+        }
+    }
+
+    /// How many rules there are.
+    pub fn len(&self) -> usize
+        ensures { result ≡ length self.now.rules }
+    {
+        self.rules.len()
+    }
+
+    /// The rules in their order, with the passes that their limiters hold. The one error is want of memory.
+    pub fn list(&self, alloc: Global) -> Result<Vec<Listed>, AllocError>
+        ensures { IfOk result (λ list. list.items ≡ map listed_of self.now.rules) }
+    {
+        list_rules(alloc, self.rules.as_slice())
+    }
+
+    /// Adds a rule at a place of the list, counted from 0, and gives its number. The refusals are tested in this order:
+    /// `BadPlace`, `TooManyRules` (4,096), `TooManyLimiters` (16 in the whole chain), `NoMoreIds`, `NoMemory`; each drops
+    /// the rule and leaves the chain as it was.
+    pub fn add(&mut self, place: usize, rule: Rule) -> Result<RuleId, ChainFault>
+        ensures { (self.new, result) ≡ added (lacks result) self.old place rule }
+    {
+        if place > self.rules.len() {
+            return Err(ChainFault::BadPlace);
+        }
+        if self.rules.len() >= MAX_RULES {
+            return Err(ChainFault::TooManyRules);
+        }
+        let count = limiter_count(&rule.term);
+        if self.limiters + count > MAX_LIMITERS {
+            return Err(ChainFault::TooManyLimiters);
+        }
+        if self.last_rule == u64::MAX {
+            return Err(ChainFault::NoMoreIds);
+        }
+        let id = self.last_rule + 1;
+        match insert_rule(&mut self.rules, place, id, rule) {
+            Ok(()) => {
+                self.limiters += count;
+                self.last_rule = id;
+                Ok(RuleId(id))
+            }
+            Err(_) => Err(ChainFault::NoMemory),
+        }
+    }
+
+    /// Removes a rule with its limiters. `NoSuchRule` leaves the chain as it was. It takes no memory.
+    pub fn remove(&mut self, id: RuleId) -> Result<(), ChainFault>
+        ensures { (self.new, result) ≡ removed self.old id }
+    {
+        let Some(at) = place_of(self.rules.as_slice(), id) else {
+            return Err(ChainFault::NoSuchRule);
+        };
+        let gone = self.rules.remove(at);
+        self.limiters -= gone.limits.len();
+        Ok(())
+    }
+
+    /// Moves a rule to a place, which counts from 0 in the list without the rule. It keeps its number and what its
+    /// limiters counted. The refusals are tested in this order: `NoSuchRule`, `BadPlace`, `NoMemory`; each leaves the chain
+    /// as it was.
+    pub fn move_to(&mut self, id: RuleId, place: usize) -> Result<(), ChainFault>
+        ensures { (self.new, result) ≡ moved (lacks result) self.old id place }
+    {
+        let Some(at) = place_of(self.rules.as_slice(), id) else {
+            return Err(ChainFault::NoSuchRule);
+        };
+        if place >= self.rules.len() {
+            return Err(ChainFault::BadPlace);
+        }
+        move_rule(&mut self.rules, at, place);
+        Ok(())
+    }
+
+    /// Walks the rules for a query that came from the address by this transport now, in milliseconds. It takes no memory
+    /// and counts nothing.
+    pub fn walk(&self, view: &QueryView, addr: &Addr, kind: Kind, now: u64) -> Walked
+        requires { self.now.moment ≤ now }
+        ensures { result ≡ walk_of self.now.rules view.now addr.now kind now }
+    {
+        walk_rules(self.rules.as_slice(), view, addr, kind, now)
+    }
+
+    /// Takes the memory for counting the passes of a walk of this chain for that address and moment. Where it is refused,
+    /// some of the limiters may have taken theirs.
+    pub fn reserve(&mut self, walked: &Walked, addr: &Addr, now: u64) -> Result<(), AllocError>
+        requires moment { self.old.moment ≤ now }
+        requires walked { (view : QueryView) × (kind : KindValue) × (walked.now ≡ walk_of self.old.rules view addr.now kind now) }
+        ensures ok { OnOk result (self.new ≡ reserved_rules walked.now.passes addr.now now self.old) }
+        ensures ready { OnOk result (Ready walked.now.passes addr.now now self.new.rules) }
+        ensures err { OnErr result (PartlyReserved walked.now.passes addr.now now self.old.rules self.new.rules) }
+        // it refuses only where there is something to count
+        ensures takes { OnErr result (0 < length walked.now.passes) }
+        ensures next { self.new.next ≡ self.old.next }
+        ensures moment { self.new.moment ≡ now }
+        // no walk and no count sees it
+        ensures seen { seen_rules now self.new.rules ≡ seen_rules now self.old.rules }
+    {
+        self.moment = now;
+        let passes = walked.passes.as_slice();
+        if passes.is_empty() {
+            return Ok(());
+        }
+        reserve_rules(&mut self.rules, passes, addr, now)
+    }
+
+    /// Counts the passes of a walk for which the memory was taken. It takes none.
+    pub fn pass(&mut self, walked: &Walked, addr: &Addr, now: u64)
+        requires moment { self.old.moment ≤ now }
+        requires ready { Ready walked.now.passes addr.now now self.old.rules }
+        ensures passes { self.new ≡ passed_rules walked.now.passes addr.now now self.old }
+        // what is seen is what is counted
+        ensures seen { seen_rules now self.new.rules ≡ counted walked.now.passes addr.now now (seen_rules now self.old.rules) }
+    {
+        self.moment = now;
+        let passes = walked.passes.as_slice();
+        if !passes.is_empty() {
+            pass_rules(&mut self.rules, passes, addr, now);
+        }
+    }
+}

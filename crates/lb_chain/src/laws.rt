@@ -1,0 +1,13 @@
+//! What holds of chains as they are seen at a moment.
+
+ghost use Rattle.lb_chain.specs.Seen.{SeenWalks, SeenTwice};
+
+/// Passes that no longer count at a moment have no part in a walk then or later; nor has what is reserved.
+pub fn seen_walks()
+    ensures { SeenWalks }
+{}
+
+/// What is seen later does not depend on what was seen before.
+pub fn seen_twice()
+    ensures { SeenTwice }
+{}

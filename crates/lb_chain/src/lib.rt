@@ -1,0 +1,30 @@
+//! The rule chain: the list of rules in their order, its edits, the walk of a query through it, and the rate limiters of
+//! the rules.
+#![tactic(auto)]
+
+mod action;
+mod addrs;
+mod chain;
+mod edits;
+mod fault;
+mod laws;
+mod limiters;
+mod listed;
+mod numbered;
+mod rooms;
+mod rule;
+#[cfg(test)]
+mod tests;
+mod walk;
+mod walked;
+
+pub use action::Action;
+pub use addrs::Addrs;
+pub use chain::Chain;
+pub use fault::ChainFault;
+pub use laws::{seen_twice, seen_walks};
+pub use limiters::Limiters;
+pub use listed::{Listed, RulePass, RulePasses};
+pub use numbered::Numbered;
+pub use rule::Rule;
+pub use walked::{Passed, PassedList, Verdict, Walked};

@@ -1,0 +1,155 @@
+//! The walk of a query through the rules.
+
+ghost use Rattle.std.specs.Prelude.{◌≡◌, ◌≤◌, ◌+◌, ◌++◌, length, map};
+ghost use Rattle.std.specs.List.{All, list_any};
+ghost use Rattle.lb_wire.specs.Answer.{fits_type as fits_type_of};
+ghost use Rattle.lb_terms.specs.Truth.{limiters_of};
+ghost use Rattle.lb_chain.specs.Edits.{limiters_in};
+ghost use Rattle.lb_chain.specs.Walk.{answers as answers_of, ending_of as ending_of_action, is_no_recurse as is_no_recurse_of, is_skip_cache as is_skip_cache_of, passes_of, truth_of, walk_of};
+
+use crate::action::Action;
+use crate::numbered::Numbered;
+use crate::walked::{Passed, PassedList, Verdict, Walked};
+use arrayvec::ArrayVec;
+use lb_terms::holds;
+use lb_wire::{Addr, Class, Kind, QueryView, RecordType, RuleId};
+
+/// Whether an address answers a question of this type.
+fn fits_type(qtype: RecordType, addr: &Addr) -> bool
+    ensures { result ≡ fits_type_of qtype.0 addr.now }
+{
+    match addr {
+        Addr::V4(_) => qtype.0 == RecordType::A.0 || qtype.0 == RecordType::ANY.0,
+        Addr::V6(_) => qtype.0 == RecordType::AAAA.0 || qtype.0 == RecordType::ANY.0,
+    }
+}
+
+/// Whether one of the addresses answers a question of this type.
+fn one_fits(qtype: RecordType, addrs: &[Addr]) -> bool
+    ensures { result ≡ list_any (fits_type_of qtype.0) addrs.now }
+{
+    addrs.iter().any(|addr| fits_type(qtype, addr))
+}
+
+/// Whether one of the addresses answers the question.
+fn answers(view: &QueryView, addrs: &[Addr]) -> bool
+    ensures { result ≡ answers_of view.now addrs.now }
+{
+    view.qclass.0 == Class::IN.0 && one_fits(view.qtype, addrs)
+}
+
+/// The verdict of an action that ends the walk for a query of this transport.
+fn ending_of(action: &Action, view: &QueryView, kind: Kind) -> Option<Verdict>
+    ensures { result ≡ ending_of_action action.now view.now kind }
+{
+    match action {
+        Action::Allow => Some(Verdict::Allow),
+        Action::Drop => Some(Verdict::Drop),
+        Action::Rcode(rcode) => Some(Verdict::Rcode(*rcode)),
+        Action::Pool(pool) => Some(Verdict::Pool(*pool)),
+        Action::Tc => match kind {
+            Kind::Datagram => Some(Verdict::Tc),
+            Kind::Stream => None,
+        },
+        Action::Spoof(addrs) => {
+            if answers(view, addrs.as_slice()) {
+                Some(Verdict::Spoof(*addrs))
+            } else {
+                None
+            }
+        }
+        Action::None => None,
+        Action::NoRecurse => None,
+        Action::SkipCache => None,
+    }
+}
+
+fn is_no_recurse(action: &Action) -> bool
+    ensures { result ≡ is_no_recurse_of action.now }
+{
+    match action {
+        Action::NoRecurse => true,
+        _ => false,
+    }
+}
+
+fn is_skip_cache(action: &Action) -> bool
+    ensures { result ≡ is_skip_cache_of action.now }
+{
+    match action {
+        Action::SkipCache => true,
+        _ => false,
+    }
+}
+
+/// Puts the limiters of a rule with these numbers behind the others.
+fn add_passes(passes: &mut PassedList, rule: RuleId, limiters: &[u8])
+    requires { length passes.old + length limiters.now ≤ 16 }
+    ensures { passes.new ≡ passes.old ++ map (λ at. record { rule = rule; limiter = at }) limiters.now }
+{
+    for limiter in limiters {
+        passes.items.push(Passed {
+            rule,
+            limiter: *limiter,
+        });
+    }
+}
+
+/// Whether a rule holds of a query. Those of its limiters that count the query go behind the passes.
+fn test_rule(n: &Numbered, view: &QueryView, addr: &Addr, now: u64, passes: &mut PassedList) -> bool
+    requires limiters { length n.now.limits ≡ limiters_of n.now.rule.term }
+    requires moments { All (λ l. l.moment ≤ now) n.now.limits }
+    requires room { length passes.old + length n.now.limits ≤ 16 }
+    ensures truth { result ≡ truth_of n.now view.now addr.now now }
+    ensures passes { passes.new ≡ passes.old ++ passes_of n.now view.now addr.now now }
+{
+    let tested = holds(&n.rule.term, view, addr, n.limits.as_slice(), now);
+    add_passes(passes, n.id, tested.passes.as_slice());
+    tested.truth
+}
+
+/// Walks the rules for a query.
+pub(crate) fn walk_rules(
+    rules: &[Numbered],
+    view: &QueryView,
+    addr: &Addr,
+    kind: Kind,
+    now: u64,
+) -> Walked
+    requires limiters { All (λ n. length n.limits ≡ limiters_of n.rule.term) rules.now }
+    requires few { limiters_in rules.now ≤ 16 }
+    requires moments { All (λ n. All (λ l. l.moment ≤ now) n.limits) rules.now }
+    ensures { result ≡ walk_of rules.now view.now addr.now kind now }
+{
+    let mut no_recurse = false;
+    let mut skip_cache = false;
+    let mut passes = PassedList {
+        items: ArrayVec::new(),
+    };
+    for n in rules {
+        if test_rule(n, view, addr, now, &mut passes) {
+            match ending_of(&n.rule.action, view, kind) {
+                Some(verdict) => {
+                    return Walked {
+                        rule: Some(n.id),
+                        verdict,
+                        no_recurse,
+                        skip_cache,
+                        passes,
+                    };
+                }
+                None => {
+                    no_recurse |= is_no_recurse(&n.rule.action);
+                    skip_cache |= is_skip_cache(&n.rule.action);
+                }
+            }
+        }
+    }
+    Walked {
+        rule: None,
+        verdict: Verdict::Allow,
+        no_recurse,
+        skip_cache,
+        passes,
+    }
+}

@@ -1,0 +1,161 @@
+//! The buckets of all addresses, in the order of addresses.
+
+ghost use Rattle.std.specs.Prelude.{◌≡◌, ◌+◌, ◌≤◌, ◌<◌, ℕ, true, false, cond, drop, length, IfOk, IfSome, OnOk};
+ghost use Rattle.std.specs.List.{All, list_any};
+ghost use Rattle.lb_wire.specs.declared.addr.Addr.{Addr};
+ghost use Rattle.lb_limits.specs.Order.{same_addr};
+ghost use Rattle.lb_limits.specs.Window.{put_pass};
+ghost use Rattle.lb_limits.specs.Moments.{is_recent, ends_recent};
+ghost use Rattle.lb_limits.specs.Buckets.{Ascends, IsHeld, IsPlace, Keeps, begins, free_of, held_at, live_count, pass_of, stays, window_count};
+
+use crate::bucket::Bucket;
+use crate::order::{is_below, same_addr};
+use crate::pass::Pass;
+use crate::reserved::has_addr;
+use lb_wire::Addr;
+use std::alloc::{AllocError, Global};
+
+/// The most buckets that there may be. A limiter that is swept comes nowhere near.
+const MAX_BUCKETS: usize = 4294967296;
+
+/// The place of a masked address.
+fn place_of(key: &Addr, buckets: &[Bucket]) -> usize
+    requires { Ascends buckets.now }
+    ensures { IsPlace key.now result buckets.now }
+{
+    buckets.partition_point(|bucket| is_below(key, &bucket.source))
+}
+
+/// Whether the bucket at a place is that of a masked address.
+fn is_at(key: &Addr, place: usize, buckets: &[Bucket]) -> bool
+    ensures found { result ≡ begins key.now (drop place buckets.now) }
+    ensures within { result ≡ true → place < length buckets.now }
+{
+    match buckets.get(place) {
+        Some(bucket) => same_addr(key, &bucket.source),
+        None => false,
+    }
+}
+
+/// How many passes of a masked address count.
+pub(crate) fn window_count(key: &Addr, now: u64, buckets: &[Bucket]) -> usize
+    requires { IsHeld now buckets.now }
+    ensures { result ≡ window_count key.now now buckets.now }
+{
+    let place = place_of(key, buckets);
+    if is_at(key, place, buckets) {
+        buckets[place].recent(now)
+    } else {
+        0
+    }
+}
+
+/// Puts an empty bucket at the place of a masked address that has none.
+fn open(buckets: &mut Vec<Bucket>, place: usize, key: Addr, moment: u64) -> Result<(), AllocError>
+    requires held { IsHeld moment buckets.old.items }
+    requires place { IsPlace key place buckets.old.items }
+    requires new { begins key (drop place buckets.old.items) ≡ false }
+    ensures keeps { Keeps moment buckets.old.items buckets.new.items }
+    ensures rooms { (other : Addr) → 0 < free_of other buckets.old.items → 0 < free_of other buckets.new.items }
+    ensures room { OnOk result (0 < free_of key buckets.new.items) }
+{
+    if buckets.len() >= MAX_BUCKETS {
+        return Err(AllocError);
+    }
+    let bucket = Bucket::new(*buckets.allocator(), key)?;
+    buckets.insert(place, bucket)?;
+    Ok(())
+}
+
+/// Takes the room for one moment in the bucket of a masked address.
+fn widen(buckets: &mut Vec<Bucket>, place: usize, key: &Addr, moment: u64) -> Result<(), AllocError>
+    requires held { IsHeld moment buckets.old.items }
+    requires place { IsPlace key.now place buckets.old.items }
+    requires within { place < length buckets.old.items }
+    requires found { begins key.now (drop place buckets.old.items) ≡ true }
+    ensures keeps { Keeps moment buckets.old.items buckets.new.items }
+    ensures rooms { (other : Addr) → 0 < free_of other buckets.old.items → 0 < free_of other buckets.new.items }
+    ensures room { OnOk result (0 < free_of key.now buckets.new.items) }
+{
+    buckets[place].make_room(moment)
+}
+
+/// Takes the room for one moment of a masked address.
+pub(crate) fn make_room(buckets: &mut Vec<Bucket>, key: Addr, moment: u64) -> Result<(), AllocError>
+    requires { IsHeld moment buckets.old.items }
+    ensures keeps { Keeps moment buckets.old.items buckets.new.items }
+    ensures rooms { (other : Addr) → 0 < free_of other buckets.old.items → 0 < free_of other buckets.new.items }
+    ensures room { OnOk result (0 < free_of key buckets.new.items) }
+{
+    let place = place_of(&key, buckets.as_slice());
+    if is_at(&key, place, buckets.as_slice()) {
+        widen(buckets, place, &key, moment)
+    } else {
+        open(buckets, place, key, moment)
+    }
+}
+
+/// Whether a sweep keeps a bucket: its last moment counts, or there is room reserved in it.
+fn stays(bucket: &Bucket, reserved: &[Addr], moment: u64) -> bool
+    ensures { result ≡ stays reserved.now moment bucket.now }
+{
+    bucket.ends_recent(moment) || has_addr(&bucket.source, reserved)
+}
+
+/// Gives up the buckets of addresses that have no moment that counts and no room reserved.
+pub(crate) fn sweep(buckets: &mut Vec<Bucket>, reserved: &[Addr], moment: u64)
+    requires { IsHeld moment buckets.old.items }
+    ensures keeps { Keeps moment buckets.old.items buckets.new.items }
+    ensures rooms { All (λ key. 0 < free_of key buckets.old.items) reserved.now → All (λ key. 0 < free_of key buckets.new.items) reserved.now }
+{
+    buckets.retain(|bucket| stays(bucket, reserved, moment));
+}
+
+/// Adds a pass to the bucket of its address.
+fn add_at(buckets: &mut Vec<Bucket>, place: usize, key: &Addr, now: u64) -> Option<u64>
+    requires held { IsHeld now buckets.old.items }
+    requires place { IsPlace key.now place buckets.old.items }
+    requires room { 0 < free_of key.now buckets.old.items }
+    ensures held { IsHeld now buckets.new.items }
+    ensures passes { held_at now buckets.new.items ≡ put_pass (pass_of key.now now) (held_at now buckets.old.items) }
+    ensures live { (later : ℕ) → live_count later buckets.new.items + cond (ends_recent later result) 1 0 ≡ live_count later buckets.old.items + cond (is_recent later now) 1 0 }
+    ensures last { IfSome result (λ m. live_count (m + 1000) buckets.old.items < live_count (m + 999) buckets.old.items) }
+{
+    buckets[place].add(now)
+}
+
+/// Adds a pass, and returns the moment of the last one of its address.
+pub(crate) fn add_pass(buckets: &mut Vec<Bucket>, key: &Addr, now: u64) -> Option<u64>
+    requires held { IsHeld now buckets.old.items }
+    requires room { 0 < free_of key.now buckets.old.items }
+    ensures held { IsHeld now buckets.new.items }
+    ensures passes { held_at now buckets.new.items ≡ put_pass (pass_of key.now now) (held_at now buckets.old.items) }
+    ensures live { (later : ℕ) → live_count later buckets.new.items + cond (ends_recent later result) 1 0 ≡ live_count later buckets.old.items + cond (is_recent later now) 1 0 }
+    ensures last { IfSome result (λ m. live_count (m + 1000) buckets.old.items < live_count (m + 999) buckets.old.items) }
+{
+    let place = place_of(key, buckets.as_slice());
+    add_at(buckets, place, key, now)
+}
+
+/// How many passes count.
+pub(crate) fn count(buckets: &[Bucket], moment: u64) -> usize
+    requires { IsHeld moment buckets.now }
+    ensures { result ≡ length (held_at moment buckets.now) }
+{
+    let mut count = 0;
+    for bucket in buckets {
+        count += bucket.recent(moment);
+    }
+    count
+}
+
+/// The passes that count, in order.
+pub(crate) fn list(alloc: Global, buckets: &[Bucket], moment: u64) -> Result<Vec<Pass>, AllocError>
+    ensures { IfOk result (λ list. list.items ≡ held_at moment buckets.now) }
+{
+    let mut passes = Vec::new(alloc);
+    for bucket in buckets {
+        bucket.list(moment, &mut passes)?;
+    }
+    Ok(passes)
+}

@@ -1,0 +1,22 @@
+//! Rule selectors: what a rule asks of a query, whether it holds, and which rate limiters count the query.
+#![tactic(auto)]
+
+mod check;
+mod copy;
+mod fault;
+mod laws;
+mod limiters;
+mod names;
+mod term;
+mod test;
+mod tested;
+#[cfg(test)]
+mod tests;
+
+pub use fault::TermFault;
+pub use laws::{mask_test_decides, suffix_test_decides};
+pub use limiters::{limiter_count, new_limiters};
+pub use names::Names;
+pub use term::{CheckedTerm, Term};
+pub use test::holds;
+pub use tested::{Passes, Tested};

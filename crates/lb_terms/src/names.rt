@@ -1,0 +1,78 @@
+//! Sets of names.
+
+ghost use Rattle.std.specs.Prelude.{◌≡◌, IfOk, length};
+ghost use Rattle.lb_terms.specs.Sets.{is_under, in_suffixes};
+
+use lb_name::Name;
+use std::alloc::{AllocError, Global};
+use std::marker::Model;
+
+/// A list of names: a query is under it where its name is one of them or stands below one. A contract sees it as the
+/// list of names.
+#[derive(Debug, Drop)]
+pub struct Names {
+    items: Vec<Name>,
+}
+
+impl Model for Names {
+    ghost use Rattle.std.specs.Prelude.{List, ℕ};
+
+    ghost Value = { List (List (List ℕ)) };
+
+    ghost view = { λ n. n.items.items };
+}
+
+/// Whether the first name is the second or stands below it.
+fn is_under(name: &Name, suffix: &Name) -> bool
+    ensures { result ≡ is_under name.now suffix.now }
+{
+    name.is_under(suffix)
+}
+
+/// Whether the name is one of these or stands below one.
+fn any_over(suffixes: &[Name], name: &Name) -> bool
+    ensures { result ≡ in_suffixes suffixes.now name.now }
+{
+    suffixes.iter().any(|suffix| is_under(name, suffix))
+}
+
+impl Names {
+    /// These names, with no copy.
+    pub fn from_vec(items: Vec<Name>) -> Names
+        ensures { result ≡ items.items }
+    {
+        Names { items }
+    }
+
+    /// How many names there are.
+    pub fn len(&self) -> usize
+        ensures { result ≡ length self.now }
+    {
+        self.items.len()
+    }
+
+    /// The names, in order.
+    pub fn as_slice(&self) -> &[Name]
+        ensures { result.now ≡ self.now }
+    {
+        self.items.as_slice()
+    }
+
+    /// Whether the name is one of these or stands below one, without regard to the case of ASCII letters.
+    pub fn covers(&self, name: &Name) -> bool
+        ensures { result ≡ in_suffixes self.now name.now }
+    {
+        any_over(self.items.as_slice(), name)
+    }
+
+    /// An equal list. The one error is want of memory.
+    pub fn copy(&self, alloc: Global) -> Result<Names, AllocError>
+        ensures { IfOk result (λ copy. copy ≡ self.now) }
+    {
+        let mut items = Vec::with_capacity(alloc, self.items.len())?;
+        for name in self.items.iter() {
+            items.push(name.copy())?;
+        }
+        Ok(Names { items })
+    }
+}
