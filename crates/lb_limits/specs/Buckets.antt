@@ -10,6 +10,7 @@ use Rattle.lb_limits.specs.declared.bucket.Bucket.{Bucket}
 use Rattle.lb_limits.specs.Order.{same_addr, cmp_addr}
 use Rattle.lb_limits.specs.Moments.{recent_of, ends_recent}
 
+-- a pass of an address at a moment
 abbrev pub pass_of : Addr → ℕ → Pass
 pass_of source moment = record { source = source; moment = moment }
 
@@ -61,7 +62,8 @@ pub record IsPlace (key : Addr) (place : ℕ) (buckets : List Bucket) : Type 0 w
   pub below : All (λ b. is_below key b ≡ true) (take place buckets)
   pub above : All (λ b. is_below key b ≡ false) (drop place buckets)
 
--- no bucket holds more moments than this, nor a limiter more buckets than the second
+-- a bucket has no more places than the first, and a limiter no more buckets than the second, so that 64 bits count its
+-- passes
 abbrev pub max_places : ℕ
 max_places = 2 ^ 16
 
@@ -75,6 +77,7 @@ pub record IsBucket (moment : ℕ) (b : Bucket) : Type 0 where
   pub places : length b.moments.items ≤ b.moments.capacity
   pub few : b.moments.capacity ≤ max_places
 
+-- the buckets are in order, each as above, and not too many
 pub record IsHeld (moment : ℕ) (buckets : List Bucket) : Type 0 where
   pub order : Ascends buckets
   pub each : All (IsBucket moment) buckets

@@ -15,7 +15,7 @@ use std::alloc::{AllocError, Global};
 /// How many moments a new bucket has room for.
 const FIRST_PLACES: usize = 4;
 
-/// The most that a bucket has room for. No rate asks for as many.
+/// The most that a bucket has room for, so that all passes can be counted. No rate asks for as many.
 const MAX_PLACES: usize = 65536;
 
 /// The moments of one masked address, oldest first. Some may no longer count.
@@ -42,6 +42,7 @@ impl Bucket {
         ensures count { result ≡ length (recent_of now self.now.moments.items) }
         ensures within { result ≤ length self.now.moments.items }
     {
+        // All together they are fewer than 2^63, so the sum below fits.
         let _len = self.moments.len();
         let (front, back) = self.moments.as_slices();
         recent_count(front, now) + recent_count(back, now)

@@ -15,7 +15,7 @@ use crate::reserved::has_addr;
 use lb_wire::Addr;
 use std::alloc::{AllocError, Global};
 
-/// The most buckets that there may be. A limiter that is swept comes nowhere near.
+/// The most buckets that there may be, so that all passes can be counted. A limiter that is swept comes nowhere near.
 const MAX_BUCKETS: usize = 4294967296;
 
 /// The place of a masked address.

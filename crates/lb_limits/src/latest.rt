@@ -1,4 +1,5 @@
-//! The last moment of each address, as a list that ascends: it tells how many addresses are live.
+//! The last moments of all addresses, as a list that ascends: those that count tell how many addresses are live. One that
+//! no longer counts may still stand there.
 
 ghost use Rattle.std.specs.Prelude.{◌≡◌, ◌+◌, ◌≤◌, ◌<◌, ℕ, true, cond, Contains, IfSome, get_or, length, vec_len, vec_capacity};
 ghost use Rattle.std.specs.List.{All, count_by};

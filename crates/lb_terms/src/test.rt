@@ -130,7 +130,19 @@ pub fn holds(
     requires moments { All (λ limiter. limiter.moment ≤ now) limits.now }
     ensures { result ≡ tested_of term.now (asked_of view.now addr.now limits.now now) }
 {
-    let mut passes = Passes::new();
-    let truth = test(term.as_term(), view, addr, limits, now, 0, &mut passes);
-    Tested { truth, passes }
+    // The result is filled where it stands: to move it at each rule costs more than the test.
+    let mut tested = Tested {
+        truth: false,
+        passes: Passes::new(),
+    };
+    tested.truth = test(
+        term.as_term(),
+        view,
+        addr,
+        limits,
+        now,
+        0,
+        &mut tested.passes,
+    );
+    tested
 }
