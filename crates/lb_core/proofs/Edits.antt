@@ -1,7 +1,7 @@
 -- Edits of rules as they are seen at a moment are the edits of the rules, seen then.
-use Rattle.std.proofs.Common.{◌≡◌, ℕ, suc, ◌+◌, ◌^◌, Bool, true, false, IsTrue, List, [], ◌∷◌, ◌++◌, length, map, take, drop, Option, None, Some, Result, Err, Ok, nat_le, nat_lt, ◌==◌, refl, sym, ◌∙◌, ap, arith}
+use Rattle.std.proofs.Common.{◌≡◌, ℕ, suc, ◌+◌, ◌^◌, Bool, true, false, IsTrue, List, [], ◌∷◌, length, map, take, drop, Option, None, Some, Result, Err, Ok, nat_le, nat_lt, ◌==◌, refl, sym, ◌∙◌, ap, arith}
 use Rattle.std.specs.Prelude.{slice_get, option_map, if◌then◌else◌}
-use Rattle.std.specs.List.{insert, remove, position, position_or_len}
+use Rattle.std.specs.List.{insert, remove, position_or_len}
 use Rattle.std.proofs.lemmas.List.{length-map, map-append, take-map, drop-map}
 use Rattle.std.proofs.lemmas.Option.{slice_get-map}
 use Rattle.lb_wire.specs.declared.ids.RuleId.{RuleId}
@@ -76,7 +76,7 @@ seen_put twice m rules at place (Some n) =
     ∙ sym (map_insert (seen_rule m) (remove rules at) place n)
 
 -- what is left and answered goes by the rules as they are seen
-abbrev left_and_told : ℕ → ℕ → Answer → List Numbered → Plain × Answer
+abbrev pub left_and_told : ℕ → ℕ → Answer → List Numbered → Plain × Answer
 left_and_told m next answer seen = (record { moment = m; next_rule = next; rules = seen }, answer)
 
 -- an edit by cases

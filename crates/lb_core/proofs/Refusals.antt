@@ -2,7 +2,6 @@
 use Rattle.std.proofs.Common.{◌≡◌, ℕ, ◌+◌, ◌^◌, Bool, true, false, List, length, Option, None, Some, Result, Ok, Err, nat_le, nat_lt, ◌==◌, refl, sym, ◌∙◌, ap, arith}
 use Rattle.std.specs.Prelude.{if◌then◌else◌}
 use Rattle.lb_wire.specs.declared.addr.Addr.{Addr}
-use Rattle.lb_wire.specs.declared.ids.RuleId.{RuleId}
 use Rattle.lb_wire.specs.declared.transport.Kind.{Kind}
 use Rattle.lb_wire.specs.declared.query.QueryView.{QueryView}
 use Rattle.lb_wire.specs.declared.query.QueryFault.{QueryFault}
@@ -17,7 +16,6 @@ use Rattle.lb_chain.specs.declared.fault.ChainFault.{ChainFault}
 use Rattle.lb_chain.specs.Walk.{walk_of}
 use Rattle.lb_chain.specs.Edits.{Rules, added, removed, removed_at, moved, moved_at, place_of, limiters_in, max_rules, max_limiters}
 use Rattle.lb_chain.specs.Seen.{seen_rules, SeenTwice}
-use Rattle.lb_core.specs.declared.event.Event.{Event}
 use Rattle.lb_core.specs.declared.event.Event.TheVariants.{Query, Edit}
 use Rattle.lb_core.specs.declared.event.Command.{Command}
 use Rattle.lb_core.specs.declared.event.Command.TheVariants.{RuleAdd, RuleRemove, RuleMove}
@@ -26,7 +24,7 @@ use Rattle.lb_core.specs.declared.answer.Note.{Note}
 use Rattle.lb_core.specs.declared.answer.Note.TheVariants.{RuleAdded, RuleRemoved, RuleMoved}
 use Rattle.lb_core.specs.Plain.{Plain, plain_of, chain_of, at_moment}
 use Rattle.lb_core.specs.Edit.{edited, edit_of, told, place_or_end}
-use Rattle.lb_core.specs.Step.{Steps, RefusalsChangeNothing, is_refused, is_transfer, marked, query_step, read_step, walked_step, verdict_answer}
+use Rattle.lb_core.specs.Step.{RefusalsChangeNothing, is_refused, is_transfer, marked, query_step, walked_step, verdict_answer}
 use Rattle.lb_core.proofs.Edits.{false_true}
 
 -- an edit of a chain that is refused leaves the chain

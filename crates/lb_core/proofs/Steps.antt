@@ -1,5 +1,5 @@
 -- Steps of the balancer over its plain state.
-use Rattle.std.proofs.Common.{◌≡◌, ℕ, ◌≤◌, ◌<◌, Bool, true, false, IsTrue, List, length, max, Result, refl, sym, ◌∙◌, ap, arith, rules}
+use Rattle.std.proofs.Common.{◌≡◌, ℕ, ◌<◌, true, false, IsTrue, List, length, max, Result, refl, sym, ◌∙◌, ap, arith, rules}
 use Rattle.lb_wire.specs.Query.{Reads}
 use Rattle.lb_wire.specs.declared.addr.Addr.{Addr}
 use Rattle.lb_wire.specs.declared.addr.Origin.{Origin}
@@ -17,9 +17,10 @@ use Rattle.lb_core.specs.declared.event.Event.TheVariants.{Query, Edit}
 use Rattle.lb_core.specs.declared.event.Command.{Command}
 use Rattle.lb_core.specs.declared.answer.Answer.{Answer}
 use Rattle.lb_core.specs.declared.answer.Answer.TheVariants.{NoMemory}
-use Rattle.lb_core.specs.Plain.{Plain, plain_of, chain_of, at_moment}
+use Rattle.lb_core.specs.Plain.{plain_of, at_moment}
 use Rattle.lb_core.specs.Edit.{edit_of}
 use Rattle.lb_core.specs.Step.{failure_of, verdict_answer, walked_step, query_step, marked, takes_memory, is_spoof, MayLack, MayLackAt, Answers}
+use Rattle.lb_core.proofs.Edits.{left_and_told}
 
 -- the state of a chain, seen later
 later : SeenTwice → (m now : ℕ) (chain : Rules) → at_moment now (plain_of m chain) ≡ plain_of (max m now) chain
@@ -54,9 +55,6 @@ unmarked view (verdicts.Rcode rcode) = refl
 unmarked view (verdicts.Pool pool) = refl
 unmarked view verdicts.Tc = refl
 unmarked view (verdicts.Spoof addrs) = refl
-
-abbrev left_and_told : ℕ → ℕ → Answer → List Numbered → Plain × Answer
-left_and_told m next answer rules = (record { moment = m; next_rule = next; rules = rules }, answer)
 
 -- a query whose passes were counted
 pub counted_step : (m : ℕ) (old new : Rules) (source : Addr) (view : QueryView) (walked asked : Walked) (answer : Answer) →

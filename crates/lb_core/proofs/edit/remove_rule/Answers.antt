@@ -1,5 +1,4 @@
 use Rattle.std.proofs.Common.{false, Err, Ok}
-use Rattle.lb_core.specs.Step.{marked}
 use Rattle.lb_core.proofs.Edits.{remove_told}
 use Rattle.lb_core.proofs.edit.remove_rule.Goals as goal
 
