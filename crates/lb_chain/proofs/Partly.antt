@@ -6,7 +6,7 @@ use Rattle.lb_wire.specs.declared.addr.Addr.{Addr}
 use Rattle.lb_wire.specs.declared.ids.RuleId.{RuleId}
 use Rattle.lb_limits.specs.Window.{Limits, reserved_at}
 use Rattle.lb_limits.specs.declared.pass.Pass.{Pass}
-use Rattle.lb_limits.proofs.Late.{late_twice}
+use Rattle.lb_limits.proofs.Late.{recent_twice}
 use Rattle.lb_chain.specs.declared.rule.Rule.{Rule}
 use Rattle.lb_chain.specs.declared.walked.Passed.{Passed}
 use Rattle.lb_chain.specs.declared.numbered.Numbered.{Numbered}
@@ -85,7 +85,7 @@ partly_like passes addr now (a ∷ old) (b ∷ new) past partly =
 taken_seen : (addr : Addr) (now : ℕ) (taken : Bool) (l m : Limits) → m ≡ (if taken then reserved_at l addr now else l) → seen_limits now m ≡ seen_limits now l
 taken_seen addr now false l m is = ap (seen_limits now) is
 taken_seen addr now true l m is =
-    ap (seen_limits now) is ∙ ap (λ (passes : List Pass). record l { moment = now; passes = passes; reserved = [] }) (late_twice now now l.passes (omega arith))
+    ap (seen_limits now) is ∙ ap (λ (passes : List Pass). record l { moment = now; passes = passes; reserved = [] }) (recent_twice now now l.passes (omega arith))
 
 some_seen : (passes : List Passed) (addr : Addr) (now : ℕ) (rule : RuleId) (at : ℕ) (old new : List Limits) → SomeReserved passes addr now rule at old new → map (seen_limits now) new ≡ map (seen_limits now) old
 some_seen passes addr now rule at [] [] some = refl

@@ -9,7 +9,7 @@ use Rattle.lb_wire.specs.declared.addr.Addr.{Addr}
 use Rattle.lb_wire.specs.declared.ids.RuleId.{RuleId}
 use Rattle.lb_wire.specs.declared.transport.Kind.{Kind}
 use Rattle.lb_wire.specs.declared.query.QueryView.{QueryView}
-use Rattle.lb_limits.specs.Window.{Limits, key_of, matches, passed_at, reserved_at}
+use Rattle.lb_limits.specs.Window.{Limits, source_of, matches, passed_at, reserved_at}
 use Rattle.lb_limits.proofs.Keys.{put_contains}
 use Rattle.lb_limits.proofs.Late.{same_matches}
 use Rattle.lb_terms.specs.Truth.{Asked, asked_of, passes_at}
@@ -85,7 +85,7 @@ strange id (n ∷ rules) view addr kind now none =
 -- a limiter that does not match may count the query once it is reserved
 ready_one : (addr : Addr) (now : ℕ) (l : Limits) → matches l addr now ≡ false → IsReady addr now (reserved_at l addr now)
 ready_one addr now l fails = record {
-  reserved = put_contains (key_of l addr) l.reserved;
+  reserved = put_contains (source_of l addr) l.reserved;
   within = same_matches l addr addr now now (omega arith) ∙ fails;
 }
 

@@ -10,9 +10,10 @@ use Rattle.lb_wire.specs.declared.addr.Addr.{Addr}
 use Rattle.lb_wire.specs.declared.ids.RuleId.{RuleId}
 use Rattle.lb_wire.specs.declared.transport.Kind.{Kind}
 use Rattle.lb_wire.specs.declared.query.QueryView.{QueryView}
-use Rattle.lb_limits.specs.Window.{Limits, is_late, late_of, key_of, matches, passed_at, put_pass}
+use Rattle.lb_limits.specs.Moments.{is_recent}
+use Rattle.lb_limits.specs.Window.{Limits, recent_passes, source_of, matches, passed_at, put_pass}
 use Rattle.lb_limits.specs.declared.pass.Pass.{Pass}
-use Rattle.lb_limits.proofs.Late.{late_twice, same_matches}
+use Rattle.lb_limits.proofs.Late.{recent_twice, same_matches}
 use Rattle.lb_terms.specs.Truth.{Asked, asked_of, truth_at, passes_at}
 use Rattle.lb_chain.specs.declared.walked.Passed.{Passed}
 use Rattle.lb_chain.specs.declared.walked.Verdict.{Verdict}
@@ -26,7 +27,7 @@ use Rattle.lb_chain.specs.Walk.{ending_of, tested_by, walk_of}
 limits_twice : (moment now : ℕ) (limits : List Limits) → moment ≤ now → map (seen_limits now) (map (seen_limits moment) limits) ≡ map (seen_limits now) limits
 limits_twice moment now [] le = refl
 limits_twice moment now (l ∷ limits) le =
-    let here : seen_limits now (seen_limits moment l) ≡ seen_limits now l = ap (λ (passes : List Pass). record l { moment = now; passes = passes; reserved = [] }) (late_twice moment now l.passes le) in
+    let here : seen_limits now (seen_limits moment l) ≡ seen_limits now l = ap (λ (passes : List Pass). record l { moment = now; passes = passes; reserved = [] }) (recent_twice moment now l.passes le) in
     ap (λ (k : Limits). k ∷ map (seen_limits now) (map (seen_limits moment) limits)) here ∙ ap (λ (ks : List Limits). seen_limits now l ∷ ks) (limits_twice moment now limits le)
 
 -- what is seen later does not depend on what was seen before
@@ -75,20 +76,20 @@ filter_insert p xs i y all here =
     filter-append p (take i xs) (y ∷ drop i xs) ∙ ap (λ (zs : List Pass). zs ++ filter p (y ∷ drop i xs)) front ∙ ap (λ (zs : List Pass). take i xs ++ zs) own
 
 -- a pass counts at its own moment
-counts_now : (now : ℕ) (pass : Pass) → pass.moment ≡ now → is_late now pass ≡ true
+counts_now : (now : ℕ) (pass : Pass) → pass.moment ≡ now → is_recent now pass.moment ≡ true
 counts_now now pass is = grind (arith, nat_tests)
 
-late_put : (now : ℕ) (pass : Pass) (xs : List Pass) → pass.moment ≡ now → late_of now (put_pass pass (late_of now xs)) ≡ put_pass pass (late_of now xs)
+late_put : (now : ℕ) (pass : Pass) (xs : List Pass) → pass.moment ≡ now → recent_passes now (put_pass pass (recent_passes now xs)) ≡ put_pass pass (recent_passes now xs)
 late_put now pass xs is =
-    let ys : List Pass = late_of now xs in
-    filter_insert (is_late now) ys (unwrap_or (position (is_before pass) ys) (length ys)) pass (filter_passes (is_late now) xs) (counts_now now pass is)
+    let ys : List Pass = recent_passes now xs in
+    filter_insert (λ (pass : Pass). is_recent now pass.moment) ys (unwrap_or (position (is_before pass) ys) (length ys)) pass (filter_passes (λ (pass : Pass). is_recent now pass.moment) xs) (counts_now now pass is)
 
 -- a limiter is seen with the pass that it counts now
 passed_seen : (addr : Addr) (now : ℕ) (l : Limits) → seen_limits now (passed_at l addr now) ≡ passed_at (seen_limits now l) addr now
 passed_seen addr now l =
-    let pass : Pass = record { source = key_of l addr; moment = now } in
+    let pass : Pass = record { source = source_of l addr; moment = now } in
     ap (λ (passes : List Pass). record l { moment = now; passes = passes; reserved = [] })
-    (late_put now pass l.passes refl ∙ ap (put_pass pass) (sym (late_twice now now l.passes (omega arith))))
+    (late_put now pass l.passes refl ∙ ap (put_pass pass) (sym (recent_twice now now l.passes (omega arith))))
 
 limits_counted : (addr : Addr) (now : ℕ) (passes : List Passed) (rule : RuleId) (at : ℕ) (limits : List Limits) → map (seen_limits now) (changed_limits (λ l. passed_at l addr now) passes rule at limits) ≡ changed_limits (λ l. passed_at l addr now) passes rule at (map (seen_limits now) limits)
 limits_counted addr now passes rule at [] = refl

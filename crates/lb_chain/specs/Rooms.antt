@@ -3,7 +3,7 @@ use Rattle.std.specs.Prelude.{◌≡◌, ℕ, ◌+◌, Bool, true, false, ◌==�
 use Rattle.std.specs.List.{list_any}
 use Rattle.lb_wire.specs.declared.addr.Addr.{Addr}
 use Rattle.lb_wire.specs.declared.ids.RuleId.{RuleId}
-use Rattle.lb_limits.specs.Window.{Limits, key_of, matches, reserved_at, passed_at}
+use Rattle.lb_limits.specs.Window.{Limits, source_of, matches, reserved_at, passed_at}
 use Rattle.lb_chain.specs.declared.walked.Passed.{Passed}
 use Rattle.lb_chain.specs.declared.numbered.Numbered.{Numbered}
 use Rattle.lb_chain.specs.Edits.{Rules}
@@ -38,7 +38,7 @@ passed_rules passes addr now chain = record chain { moment = now; rules = counte
 
 -- a limiter that may count a query of the address: room is taken, and it does not match
 pub record IsReady (addr : Addr) (now : ℕ) (l : Limits) : Type 0 where
-  pub reserved : Contains l.reserved (key_of l addr)
+  pub reserved : Contains l.reserved (source_of l addr)
   pub within : matches l addr now ≡ false
 
 -- each limiter of a rule, counted from a number, that has a pass may count the query

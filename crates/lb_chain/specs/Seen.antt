@@ -3,13 +3,13 @@ use Rattle.std.specs.Prelude.{◌≡◌, ℕ, ◌≤◌, List, [], map}
 use Rattle.lb_wire.specs.declared.addr.Addr.{Addr}
 use Rattle.lb_wire.specs.declared.transport.Kind.{Kind}
 use Rattle.lb_wire.specs.declared.query.QueryView.{QueryView}
-use Rattle.lb_limits.specs.Window.{Limits, late_of}
+use Rattle.lb_limits.specs.Window.{Limits, recent_passes}
 use Rattle.lb_chain.specs.declared.numbered.Numbered.{Numbered}
 use Rattle.lb_chain.specs.Walk.{walk_of}
 
 -- a limiter at a moment: the passes that count then, and nothing reserved
 abbrev pub seen_limits : ℕ → Limits → Limits
-seen_limits moment l = record l { moment = moment; passes = late_of moment l.passes; reserved = [] }
+seen_limits moment l = record l { moment = moment; passes = recent_passes moment l.passes; reserved = [] }
 
 -- a rule at a moment
 abbrev pub seen_rule : ℕ → Numbered → Numbered

@@ -10,7 +10,7 @@ use Rattle.lb_wire.specs.declared.addr.Addr.{Addr}
 use Rattle.lb_limits.specs.declared.pass.Pass.{Pass}
 use Rattle.lb_limits.specs.declared.bucket.Bucket.{Bucket}
 use Rattle.lb_limits.specs.Order.{same_addr}
-use Rattle.lb_limits.specs.Window.{is_late, late_of, in_window, live_of}
+use Rattle.lb_limits.specs.Window.{recent_passes, in_window, live_of}
 use Rattle.lb_limits.specs.Moments.{is_recent, recent_of}
 use Rattle.lb_limits.specs.Buckets.{pass_of, late_passes, held_at, window_in, window_count, is_live, live_count, Ascends, is_below}
 use Rattle.lb_limits.proofs.Addresses.{less_differs}
@@ -18,22 +18,22 @@ use Rattle.lb_limits.proofs.Keys.{same_decides}
 use Rattle.lb_limits.proofs.Recent.{recent_twice, positive}
 use Rattle.lb_limits.proofs.Pairs.{pairs_head, pairs_tail}
 
-late_map : (now : ℕ) (source : Addr) (ms : List ℕ) → late_of now (map (pass_of source) ms) ≡ map (pass_of source) (recent_of now ms)
+late_map : (now : ℕ) (source : Addr) (ms : List ℕ) → recent_passes now (map (pass_of source) ms) ≡ map (pass_of source) (recent_of now ms)
 late_map now source [] = refl
 late_map now source (m ∷ ms) = elim (cases_Bool (is_recent now m)) [
   | inl here ↦ rw here (ap (λ (ps : List Pass). pass_of source m ∷ ps) (late_map now source ms))
   | inr old ↦ rw old (late_map now source ms)
 ]
 
-late_bucket : (m now : ℕ) (b : Bucket) → m ≤ now → late_of now (late_passes m b) ≡ late_passes now b
+late_bucket : (m now : ℕ) (b : Bucket) → m ≤ now → recent_passes now (late_passes m b) ≡ late_passes now b
 late_bucket m now b le = late_map now b.source (recent_of m b.moments.items) ∙ ap (λ (ms : List ℕ). map (pass_of b.source) ms) (recent_twice m now b.moments.items le)
 
 -- what counts later of what counts earlier
-pub late_held : (m now : ℕ) (bs : List Bucket) → m ≤ now → late_of now (held_at m bs) ≡ held_at now bs
+pub late_held : (m now : ℕ) (bs : List Bucket) → m ≤ now → recent_passes now (held_at m bs) ≡ held_at now bs
 late_held m now [] le = refl
 late_held m now (b ∷ bs) le =
-    filter-append (is_late now) (late_passes m b) (held_at m bs)
-    ∙ ap (λ (ps : List Pass). ps ++ late_of now (held_at m bs)) (late_bucket m now b le)
+    filter-append (λ (pass : Pass). is_recent now pass.moment) (late_passes m b) (held_at m bs)
+    ∙ ap (λ (ps : List Pass). ps ++ recent_passes now (held_at m bs)) (late_bucket m now b le)
     ∙ ap (λ (ps : List Pass). late_passes now b ++ ps) (late_held m now bs le)
 
 own_count : (key source : Addr) (ms : List ℕ) → length (filter (λ pass. same_addr key pass.source) (map (pass_of source) ms)) ≡ cond (same_addr key source) (length ms) 0

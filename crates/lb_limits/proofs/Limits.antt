@@ -12,7 +12,7 @@ use Rattle.lb_masks.specs.Mask.{masked_of}
 use Rattle.lb_limits.specs.declared.pass.Pass.{Pass}
 use Rattle.lb_limits.specs.declared.bucket.Bucket.{Bucket}
 use Rattle.lb_limits.specs.Order.{same_addr}
-use Rattle.lb_limits.specs.Window.{Limits, late_of, put_pass, put_key, reserved_at, passed_at}
+use Rattle.lb_limits.specs.Window.{Limits, recent_passes, put_pass, put_key, reserved_at, passed_at}
 use Rattle.lb_limits.specs.Moments.{is_recent, recent_of, ends_recent}
 use Rattle.lb_limits.specs.Buckets.{IsHeld, Keeps, free_of, held_at, live_count, pass_of}
 use Rattle.lb_limits.specs.Rooms.{IsLatest, IsRoom, IsLimiter}
@@ -74,15 +74,15 @@ module _ (v4 v6 m : ℕ) (bs cs : List Bucket) (latest more : List ℕ) (held pl
 -- what a reservation leaves is seen as it should be
 pub reserved_is : (qps v4 v6 m now : ℕ) (bs cs : List Bucket) (addr key : Addr) (reserved keys : List Addr) → m ≤ now → key ≡ masked_of v4 v6 addr → Keeps m bs cs → keys ≡ put_key key reserved → view_of qps v4 v6 now (held_at now cs) keys ≡ reserved_at (view_of qps v4 v6 m (held_at m bs) reserved) addr now
 reserved_is qps v4 v6 m now bs cs addr key reserved keys le masked keeps put =
-    let passes : held_at now cs ≡ late_of now (held_at m bs) = keeps.passes now le ∙ sym (late_held m now bs le) in
+    let passes : held_at now cs ≡ recent_passes now (held_at m bs) = keeps.passes now le ∙ sym (late_held m now bs le) in
     let set : keys ≡ put_key (masked_of v4 v6 addr) reserved = put ∙ ap (λ (a : Addr). put_key a reserved) masked in
-    ap (λ (ps : List Pass). view_of qps v4 v6 now ps keys) passes ∙ ap (λ (keys : List Addr). view_of qps v4 v6 now (late_of now (held_at m bs)) keys) set
+    ap (λ (ps : List Pass). view_of qps v4 v6 now ps keys) passes ∙ ap (λ (keys : List Addr). view_of qps v4 v6 now (recent_passes now (held_at m bs)) keys) set
 
 pub passed_is : (qps v4 v6 m now : ℕ) (bs cs : List Bucket) (addr key : Addr) (reserved keys : List Addr) → m ≤ now → key ≡ masked_of v4 v6 addr → held_at now cs ≡ put_pass (pass_of key now) (held_at now bs) → keys ≡ [] → view_of qps v4 v6 now (held_at now cs) keys ≡ passed_at (view_of qps v4 v6 m (held_at m bs) reserved) addr now
 passed_is qps v4 v6 m now bs cs addr key reserved keys le masked put none =
-    let passes : held_at now cs ≡ put_pass (pass_of (masked_of v4 v6 addr) now) (late_of now (held_at m bs)) =
+    let passes : held_at now cs ≡ put_pass (pass_of (masked_of v4 v6 addr) now) (recent_passes now (held_at m bs)) =
     put ∙ ap (λ (a : Addr). put_pass (pass_of a now) (held_at now bs)) masked ∙ ap (put_pass (pass_of (masked_of v4 v6 addr) now)) (sym (late_held m now bs le)) in
-    ap (λ (ps : List Pass). view_of qps v4 v6 now ps keys) passes ∙ ap (λ (keys : List Addr). view_of qps v4 v6 now (put_pass (pass_of (masked_of v4 v6 addr) now) (late_of now (held_at m bs))) keys) none
+    ap (λ (ps : List Pass). view_of qps v4 v6 now ps keys) passes ∙ ap (λ (keys : List Addr). view_of qps v4 v6 now (put_pass (pass_of (masked_of v4 v6 addr) now) (recent_passes now (held_at m bs))) keys) none
 
 -- a pass
 pub passed_limiter : (v4 v6 m now : ℕ) (bs cs : List Bucket) (latest more : List ℕ) (held places size wider : ℕ) (reserved keys : List Addr) (last : Option ℕ) → IsLimiter v4 v6 m bs latest held places reserved → m ≤ now → IsHeld now cs → IsNonDecreasing more → All (λ x. x ≤ now) more → ((later : ℕ) → now ≤ later → count_by (is_recent later) more + cond (ends_recent later last) 1 0 ≡ count_by (is_recent later) latest + cond (is_recent later now) 1 0) → ((later : ℕ) → live_count later cs + cond (ends_recent later last) 1 0 ≡ live_count later bs + cond (is_recent later now) 1 0) → keys ≡ [] → IsLimiter v4 v6 now cs more size wider keys

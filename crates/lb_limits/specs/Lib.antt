@@ -4,3 +4,4 @@ pub mod Window
 pub mod Moments
 pub mod Buckets
 pub mod Rooms
+pub mod Laws

@@ -1,5 +1,5 @@
 -- Rate windows: the passes of each masked address within the last 1,000 milliseconds.
-use Rattle.std.specs.Prelude.{ℕ, ◌+◌, Bool, not, ◌&&◌, ◌||◌, ◌==◌, nat_lt, nat_le, List, [], ◌∷◌, ◌++◌, length, map, if◌then◌else◌}
+use Rattle.std.specs.Prelude.{ℕ, Bool, not, ◌&&◌, ◌||◌, ◌==◌, nat_le, List, [], ◌∷◌, ◌++◌, length, map, if◌then◌else◌}
 use Rattle.std.specs.List.{filter, insert, position, list_any}
 use Rattle.std.specs.Option.{unwrap_or}
 use Rattle.std.specs.Set.{distinct_count}
@@ -7,6 +7,7 @@ use Rattle.lb_wire.specs.declared.addr.Addr.{Addr}
 use Rattle.lb_masks.specs.Mask.{masked_of}
 use Rattle.lb_limits.specs.declared.pass.Pass.{Pass}
 use Rattle.lb_limits.specs.Order.{same_addr, is_before}
+use Rattle.lb_limits.specs.Moments.{is_recent}
 
 -- a limiter: how many passes an address may have, the lengths that addresses are masked to, the moment that it stands
 -- at, the passes in order, and the masked addresses that there is room reserved for
@@ -23,27 +24,23 @@ abbrev pub limits_of : ℕ → ℕ → ℕ → Limits
 limits_of qps v4 v6 = record { qps = qps; v4 = v4; v6 = v6; moment = 0; passes = []; reserved = [] }
 
 -- the address that passes are counted under
-abbrev pub key_of : Limits → Addr → Addr
-key_of l addr = masked_of l.v4 l.v6 addr
+abbrev pub source_of : Limits → Addr → Addr
+source_of l addr = masked_of l.v4 l.v6 addr
 
--- a pass counts where its moment is later than 1,000 milliseconds before now
-abbrev pub is_late : ℕ → Pass → Bool
-is_late now pass = nat_lt now (pass.moment + 1000)
-
--- the passes that count
-abbrev pub late_of : ℕ → List Pass → List Pass
-late_of now passes = filter (is_late now) passes
+-- the passes that count: those whose moments are later than 1,000 milliseconds before now
+abbrev pub recent_passes : ℕ → List Pass → List Pass
+recent_passes now passes = filter (λ (pass : Pass). is_recent now pass.moment) passes
 
 -- the window of a masked address: its passes that count
 abbrev pub window_of : Addr → ℕ → List Pass → List Pass
-window_of key now passes = filter (λ pass. same_addr key pass.source) (late_of now passes)
+window_of key now passes = filter (λ pass. same_addr key pass.source) (recent_passes now passes)
 
 abbrev pub in_window : Addr → ℕ → List Pass → ℕ
 in_window key now passes = length (window_of key now passes)
 
 -- the sources other than a masked address of the passes that count
 abbrev pub others_of : Addr → ℕ → List Pass → List Addr
-others_of key now passes = filter (λ source. not (same_addr key source)) (map (λ pass. pass.source) (late_of now passes))
+others_of key now passes = filter (λ source. not (same_addr key source)) (map (λ pass. pass.source) (recent_passes now passes))
 
 -- how many other addresses have passes that count; each is counted once, wherever its passes stand
 abbrev pub live_of : Addr → ℕ → List Pass → ℕ
@@ -56,7 +53,7 @@ max_live = 4096
 -- whether a query from the address is over the rate: its window is full, or it has none and there are too many others
 abbrev pub matches : Limits → Addr → ℕ → Bool
 matches l addr now =
-    nat_le l.qps (in_window (key_of l addr) now l.passes) || (in_window (key_of l addr) now l.passes == 0 && nat_le max_live (live_of (key_of l addr) now l.passes))
+    nat_le l.qps (in_window (source_of l addr) now l.passes) || (in_window (source_of l addr) now l.passes == 0 && nat_le max_live (live_of (source_of l addr) now l.passes))
 
 -- with a pass at its place in the order, behind those equal to it
 abbrev pub put_pass : Pass → List Pass → List Pass
@@ -68,8 +65,8 @@ put_key key reserved = if list_any (same_addr key) reserved then reserved else r
 
 -- passes that no longer count are given up, and there is room for one more of the address
 abbrev pub reserved_at : Limits → Addr → ℕ → Limits
-reserved_at l addr now = record l { moment = now; passes = late_of now l.passes; reserved = put_key (key_of l addr) l.reserved }
+reserved_at l addr now = record l { moment = now; passes = recent_passes now l.passes; reserved = put_key (source_of l addr) l.reserved }
 
 -- a query is counted, and nothing is reserved any more
 abbrev pub passed_at : Limits → Addr → ℕ → Limits
-passed_at l addr now = record l { moment = now; passes = put_pass (record { source = key_of l addr; moment = now }) (late_of now l.passes); reserved = [] }
+passed_at l addr now = record l { moment = now; passes = put_pass (record { source = source_of l addr; moment = now }) (recent_passes now l.passes); reserved = [] }

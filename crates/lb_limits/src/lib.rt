@@ -14,6 +14,6 @@ mod reserved;
 #[cfg(test)]
 mod tests;
 
-pub use laws::reserving_keeps_matches;
+pub use laws::{put_is_there, recent_twice, reserving_keeps_matches};
 pub use limiter::Limiter;
 pub use pass::Pass;

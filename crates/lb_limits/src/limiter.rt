@@ -4,7 +4,7 @@ ghost use Rattle.std.specs.Prelude.{◌≡◌, ◌≤◌, ◌&&◌, ◌||◌, �
 ghost use Rattle.std.specs.List.Sorted.{IsNonDecreasing, IsSorted};
 ghost use Rattle.lb_limits.specs.Moments.{recent_of};
 ghost use Rattle.lb_limits.specs.Order.{cmp_pass};
-ghost use Rattle.lb_limits.specs.Window.{key_of, limits_of, matches, max_live, passed_at, reserved_at};
+ghost use Rattle.lb_limits.specs.Window.{source_of, limits_of, matches, max_live, passed_at, reserved_at};
 
 use crate::bucket::Bucket;
 use crate::buckets;
@@ -95,7 +95,7 @@ impl Limiter {
     pub fn reserve(&mut self, addr: &Addr, now: u64) -> Result<(), AllocError>
         requires { self.old.moment ≤ now }
         ensures ok { OnOk result (self.new ≡ reserved_at self.old addr.now now) }
-        ensures reserved { OnOk result (Contains self.new.reserved (key_of self.new addr.now)) }
+        ensures reserved { OnOk result (Contains self.new.reserved (source_of self.new addr.now)) }
         ensures err { OnErr result (self.new ≡ self.old) }
     {
         self.sweep();
@@ -121,7 +121,7 @@ impl Limiter {
     /// Counts a query. It takes no memory.
     pub fn pass(&mut self, addr: &Addr, now: u64)
         requires moment { self.old.moment ≤ now }
-        requires reserved { Contains self.old.reserved (key_of self.old addr.now) }
+        requires reserved { Contains self.old.reserved (source_of self.old addr.now) }
         requires within { matches self.old addr.now now ≡ false }
         ensures { self.new ≡ passed_at self.old addr.now now }
     {

@@ -47,6 +47,6 @@ pub use question::Question;
 pub use rcode::Rcode;
 pub use record_type::{Class, RecordType};
 pub use reply::{ReplyFault, ReplyView, read_reply, respell, restore_id, survey};
-pub use spoof::spoofed;
+pub use spoof::{fits_type, spoofed};
 pub use tally::Survey;
 pub use transport::{Kind, Lane};

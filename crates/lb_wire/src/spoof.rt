@@ -66,8 +66,8 @@ fn push_addresses(
     Ok(number)
 }
 
-/// Whether an address answers a question of a type.
-fn fits_type(qtype: RecordType, addr: &Addr) -> bool
+/// Whether an address answers a question of a type: V4 for A, V6 for AAAA, both for ANY.
+pub fn fits_type(qtype: RecordType, addr: &Addr) -> bool
     ensures { result ≡ fits_type_of qtype.0 addr.now }
 {
     match addr {

@@ -1,0 +1,5 @@
+use Rattle.lb_limits.proofs.Keys.{put_contains}
+use Rattle.lb_limits.proofs.laws.put_is_there.Goals as goal
+
+pub returns : goal.returns
+returns c = put_contains
