@@ -1,5 +1,5 @@
 pub mod Replays
-pub mod Taking
-pub mod Left
-pub mod Turning
-pub mod Counting
+pub mod Takes
+pub mod ToldLines
+pub mod Turns
+pub mod Counts

@@ -7,9 +7,9 @@ use Rattle.lb_core.specs.declared.event.Event.{Event}
 use Rattle.lb_core.specs.declared.answer.Answer.{Answer}
 use Rattle.lb_core.specs.Plain.{Plain, empty}
 use Rattle.lb_core.specs.Step.{IsRun, Answers}
-use Rattle.lb.specs.Lines.{line_of, lines_of}
+use Rattle.lb.specs.Answers.{line_of, lines_of}
 use Rattle.lb.specs.Input.{told_lines}
-use Rattle.lb.specs.Replay.{Replayed, Replays, Answered}
+use Rattle.lb.specs.Replaying.{Replayed, Replays, Answered}
 
 -- a run and one more step are a run
 pub run_more : (old : Plain) (events : List Event) (answers : List Answer) (mid : Plain) (event : Event) (answer : Answer) (new : Plain) → IsRun old events answers mid → Answers mid event answer new → IsRun old (events ++ event ∷ []) (answers ++ answer ∷ []) new

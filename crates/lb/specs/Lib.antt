@@ -2,9 +2,8 @@ pub use Rattle.lb_wire.specs.Query
 pub use Rattle.lb_core.specs.Plain
 pub use Rattle.lb_core.specs.Step
 pub mod Faults
-pub mod Input
 pub mod Shown
-pub mod Shedding
-pub mod Left
-pub mod Lines
-pub mod Replay
+pub mod Line
+pub mod Input
+pub mod Answers
+pub mod Replaying

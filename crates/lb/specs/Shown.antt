@@ -1,9 +1,12 @@
 -- What reading shows of a line.
-use Rattle.std.specs.Prelude.{◌≡◌, ℕ, List, [], ◌∷◌, ◌++◌, Option, Some, false}
+use Rattle.std.specs.Prelude.{◌≡◌, ℕ, List, [], ◌∷◌, ◌++◌, Option, Some, Bool, false, ◌==◌}
 use Rattle.std.specs.List.{All}
-use Rattle.lb.specs.Input.{is_line_feed}
-use Rattle.lb.specs.declared.input.Shown.{Shown}
-use Rattle.lb.specs.declared.input.Shown.TheVariants.{Piece, LineFeed, End}
+use Rattle.lb.specs.declared.shown.Shown.{Shown}
+use Rattle.lb.specs.declared.shown.Shown.TheVariants.{Piece, LineFeed, End}
+
+-- the byte is a line feed
+abbrev pub is_line_feed : ℕ → Bool
+is_line_feed byte = byte == 10
 
 -- of the bytes that remained a piece without a line feed went to the line, and the rest remains: all, or what stands
 -- behind a line feed, or nothing

@@ -1,7 +1,7 @@
 //! Writing answers as lines.
 
 ghost use Rattle.std.specs.Prelude.{◌≡◌, IfOk, string_bytes};
-ghost use Rattle.lb.specs.Lines.{drop_text, hex_text, line_of, local_text, refused_text};
+ghost use Rattle.lb.specs.Answers.{drop_text, hex_text, line_of, local_text, refused_text};
 
 use lb_chain::ChainFault;
 use lb_core::{Answer, DropReason, EditFault, LocalReason, Note};

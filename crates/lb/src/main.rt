@@ -6,16 +6,18 @@ mod answers;
 mod events;
 mod faults;
 mod input;
-mod lines;
+mod line;
+mod replaying;
 #[cfg(test)]
 mod rows;
+mod shown;
 #[cfg(test)]
 mod tests;
 mod words;
 
 pub use answers::answer_line;
 pub use faults::{Fault, LineFault};
-pub use lines::replay;
+pub use replaying::replay;
 use std::process::ExitCode;
 
 fn main(rt: HostRuntime) -> ExitCode {

@@ -1,3 +1,4 @@
+-- shared by several files: Plain, Step
 pub use Rattle.lb_name.specs.Name
 pub use Rattle.lb_wire.specs.Words
 pub use Rattle.lb_wire.specs.Numbers

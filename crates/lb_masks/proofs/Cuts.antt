@@ -5,7 +5,7 @@ use Rattle.std.proofs.lemmas.List.Splits.{slice_split_first}
 use Rattle.std.proofs.lemmas.Bool.{ltb-true, ltb-false, cond-true, cond-false, cases_Bool}
 use Rattle.std.specs.Borrow.{Bor}
 use Rattle.std.specs.List.{position, position_or_len, slice_split, onto_first}
-use Rattle.lb_masks.specs.Pieces.{cut_at}
+use Rattle.lb_masks.specs.Form.{cut_at}
 
 -- the byte is the mark
 abbrev pub is_mark : ℕ → ℕ → Bool

@@ -2,7 +2,8 @@
 use Rattle.std.proofs.Common.{◌≡◌, ℕ, ◌<◌, List, ◌∷◌, ◌++◌, length, Option, Some, None, refl, sym, ◌∙◌, ap, append_assoc, arith}
 use Rattle.std.proofs.lemmas.List.{length-append}
 use Rattle.std.specs.Borrow.{Bor}
-use Rattle.lb_masks.specs.Pieces.{cut_at, pieces_left, mark_of, piece_octets, joined, all_octets}
+use Rattle.lb_masks.proofs.Pieces.{pieces_left}
+use Rattle.lb_masks.specs.Form.{cut_at, mark_of, piece_octets, joined, all_octets}
 use Rattle.lb_masks.specs.declared.form.Form.{Form}
 
 join_on : (a : List ℕ) (b c : Option (List ℕ)) → joined (Some a) (joined b c) ≡ joined (joined (Some a) b) c

@@ -1,4 +1,5 @@
-pub mod Kept
+pub mod Pieces
+pub mod KeepsBits
 pub mod Prefixes
 pub mod Digits
 pub mod Cuts

@@ -1,6 +1,7 @@
+-- shared by several files: Text
 pub mod Bits
 pub mod Mask
 pub mod Fault
 pub mod Number
-pub mod Pieces
+pub mod Form
 pub mod Text

@@ -5,7 +5,7 @@ use Rattle.lb_wire.specs.declared.addr.Addr.{Addr}
 use Rattle.lb_wire.specs.declared.addr.Addr.TheVariants.{V4, V6}
 use Rattle.lb_masks.specs.Mask.{Prefix, width, prefix_of}
 use Rattle.lb_masks.specs.Number.{number_up_to}
-use Rattle.lb_masks.specs.Pieces.{before, behind, spelled}
+use Rattle.lb_masks.specs.Form.{before, behind, spelled}
 use Rattle.lb_masks.specs.declared.form.Form.TheVariants.{Dotted, Colons}
 use Rattle.lb_masks.specs.declared.fault.MaskFault.{MaskFault}
 use Rattle.lb_masks.specs.declared.fault.MaskFault.TheVariants.{BadAddress, BadLength}

@@ -1,7 +1,8 @@
 //! The two forms of an address's text: numbers between dots, and groups between colons (RFC 4291 section 2.2).
 
-ghost use Rattle.std.specs.Prelude.{◌≡◌, ◌==◌, ◌<◌, position, List, ℕ, Some, ◌∷◌, ◌++◌, length, option_map, MatchOption, IfSome, IfNone};
-ghost use Rattle.lb_masks.specs.Pieces.{cut_at, before, behind, pieces_left, mark_of, piece_octets, joined, spelled};
+ghost use Rattle.std.specs.Prelude.{◌≡◌, ◌==◌, ◌<◌, position, List, [], ℕ, Some, ◌∷◌, ◌++◌, length, option_map, MatchOption, IfSome, IfNone};
+ghost use Rattle.lb_masks.specs.Form.{cut_at, before, behind, mark_of, piece_octets, joined, spelled};
+ghost use Rattle.std.specs.Option.{unwrap_or};
 
 use crate::number::{decimal_octet, group};
 use arrayvec::ArrayVec;
@@ -41,7 +42,7 @@ fn first_mark(text: &[u8], mark: u8) -> Option<usize>
 pub(crate) fn first_piece(text: &[u8], mark: u8) -> (&[u8], Option<&[u8]>)
     ensures before { result.0.now ≡ before mark text.now }
     ensures behind { option_map (λ rest. rest.now) result.1 ≡ behind mark text.now }
-    ensures pieces { cut_at mark text.now ≡ result.0.now ∷ pieces_left mark result.1 }
+    ensures pieces { cut_at mark text.now ≡ result.0.now ∷ unwrap_or (option_map (λ rest. cut_at mark rest.now) result.1) [] }
     ensures shorter { IfSome result.1 (λ rest. length rest.now < length text.now) }
 {
     match first_mark(text, mark) {

@@ -1,4 +1,4 @@
-use Rattle.lb_core.proofs.Once.{one_end}
+use Rattle.lb_core.proofs.OneRunPerMarks.{one_end}
 use Rattle.lb_core.proofs.laws.one_run_per_marks.Goals as goal
 
 pub returns : goal.returns

@@ -1,5 +1,5 @@
 use Rattle.std.proofs.Common.{sym, ◌∙◌, arith}
-use Rattle.lb_masks.proofs.Kept.{keeps_bits, kept_whole, put_kept}
+use Rattle.lb_masks.proofs.KeepsBits.{keeps_bits, kept_whole, put_kept}
 use Rattle.lb_masks.proofs.bits.keep_bits.Goals as goal
 
 pub returns-then-whole-octets-clause-octets : goal.returns-then-whole-octets-clause-octets

@@ -1,5 +1,5 @@
 use Rattle.std.proofs.Common.{◌/◌, ◌%◌, sym, ◌∙◌, eq-eqb, eqb-true, arith}
-use Rattle.lb_masks.proofs.Kept.{front_same, kept_there, bits_same, slices_differ, slices_equal}
+use Rattle.lb_masks.proofs.KeepsBits.{front_same, kept_there, bits_same, slices_differ, slices_equal}
 use Rattle.lb_masks.proofs.bits.same_bits.Goals as goal
 
 pub returns-then-ne : goal.returns-then-ne

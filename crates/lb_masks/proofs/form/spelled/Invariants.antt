@@ -1,5 +1,6 @@
 use Rattle.std.proofs.Common.{◌≡◌, Some}
-use Rattle.lb_masks.specs.Pieces.{pieces_left, mark_of, joined, all_octets, spelled}
+use Rattle.lb_masks.proofs.Pieces.{pieces_left}
+use Rattle.lb_masks.specs.Form.{mark_of, joined, all_octets, spelled}
 use Rattle.lb_masks.proofs.Cuts.{text_left}
 use Rattle.lb_masks.proofs.form.spelled.Given as goal
 

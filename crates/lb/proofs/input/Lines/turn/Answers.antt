@@ -1,6 +1,6 @@
 use Rattle.std.proofs.Common.{ap}
 use Rattle.std.specs.Io.Buffered.{reader_remaining}
-use Rattle.lb.proofs.Turning.{turn_piece, result_feed, result_last}
+use Rattle.lb.proofs.Turns.{turn_piece, result_feed, result_last}
 use Rattle.lb.proofs.input.Lines.turn.Goals as goal
 
 pub returns-in-Ok : goal.returns-in-Ok

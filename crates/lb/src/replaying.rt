@@ -1,0 +1,147 @@
+//! Replaying lines: each is an event of one balancer, and each answer becomes a line.
+
+ghost use Rattle.std.specs.Prelude.{◌≡◌, ◌≢◌, ◌≤◌, ◌++◌, [], List, ℕ, Option, codes, length, IfSome, OnOk, IsTrue};
+ghost use Rattle.std.specs.Io.KnownBytes.{Appends, Keeps};
+ghost use Rattle.lb_core.specs.Plain.{Plain};
+ghost use Rattle.lb_core.specs.Step.{Answers};
+ghost use Rattle.lb_core.specs.declared.answer.Answer.{Answer};
+ghost use Rattle.lb.specs.Answers.{line_of};
+ghost use Rattle.lb.specs.Faults.{stop_text, stop_status};
+ghost use Rattle.lb.specs.Input.{told_lines};
+ghost use Rattle.lb.specs.Replaying.{Replayed, Replays, Answered, Judged};
+
+use crate::answers::answer_line;
+use crate::faults::Stop;
+use crate::input::{Lines, Turn};
+use lb_core::{Balancer, Event};
+use std::alloc::{AllocError, Global};
+use std::io;
+use std::io::{Read, Write};
+
+/// Replays the lines of an input over one balancer that begins empty: each event is one step of it, whose answer is
+/// written as a line. Gives the exit status: 0 at the end of the input, 1 after a line that does not read, 3 where a
+/// device fails or memory is wanting. What ended the replay early is told in one line on `faults`.
+///
+/// What was answered is written out before more input is waited for, and before this returns.
+pub fn replay<A: AllocGlobal, R: Read + Drop, W: Write, F: Write>(
+    rt: &A,
+    input: R,
+    output: &mut W,
+    faults: &mut F,
+) -> u8
+    ensures run { result ≤ 1 → Replayed (W.contents output.old) (W.contents output.new) }
+    // at the end of an input whose bytes are known, each of its told lines was an event
+    ensures all { result ≡ 0 → Replays (R.remaining input) (W.contents output.old) (W.contents output.new) }
+    ensures status { (result ≤ 3) × (result ≢ 2) }
+{
+    match replay_lines(rt.alloc(), input, output) {
+        Ok(()) => 0,
+        Err(stop) => {
+            let _ = tell(stop, faults);
+            stop.status()
+        }
+    }
+}
+
+/// Replays the lines of an input, and writes out what was answered.
+fn replay_lines<R: Read + Drop, W: Write>(
+    alloc: Global,
+    input: R,
+    output: &mut W,
+) -> Result<(), Stop>
+    ensures judged { Judged result → Replayed (W.contents output.old) (W.contents output.new) }
+    ensures all { OnOk result (Replays (R.remaining input) (W.contents output.old) (W.contents output.new)) }
+{
+    let mut held = Vec::new(alloc);
+    let result = answer_lines(alloc, input, output, &mut held);
+    write_out(output, &mut held)?;
+    result
+}
+
+/// Replays the lines of an input. Some of the answers' lines are written out, and the others held.
+fn answer_lines<R: Read + Drop, W: Write>(
+    alloc: Global,
+    input: R,
+    output: &mut W,
+    held: &mut Vec<u8>,
+) -> Result<(), Stop>
+    requires { held.old.items ≡ [] }
+    ensures judged { Judged result → (end : Plain) × (count : ℕ) × Answered (W.contents output.old) (W.contents output.new) held.new.items end count }
+    ensures all { OnOk result ((end : Plain) × (count : ℕ) × Answered (W.contents output.old) (W.contents output.new) held.new.items end count × IfSome (R.remaining input) (λ bytes. count ≡ length (told_lines bytes))) }
+{
+    let mut balancer = Balancer::new(alloc)?;
+    let mut lines = Lines::new(alloc, input)?;
+    'turns: for _ in 0..u64::MAX {
+        write_if(lines.may_wait(), output, held)?;
+        match lines.turn(alloc)? {
+            Turn::Nothing => {}
+            Turn::Event(event) => answer(alloc, &mut balancer, held, event)?,
+            Turn::End => return Ok(()),
+        }
+    }
+    Err(Stop::Device)
+}
+
+/// Steps the balancer, and holds the answer's line. The one error is want of memory.
+fn answer(
+    alloc: Global,
+    balancer: &mut Balancer,
+    held: &mut Vec<u8>,
+    event: Event,
+) -> Result<(), AllocError>
+    ensures { OnOk result ((answer : Answer) × Answers balancer.old event answer balancer.new × (held.new.items ≡ held.old.items ++ (line_of answer ++ codes "\n"))) }
+{
+    let answer = balancer.step(event);
+    let mut text = answer_line(alloc, &answer)?;
+    text.push('\n')?;
+    held.extend_from_slice(text.as_bytes())
+}
+
+/// Writes out what is held.
+fn write_out<W: Write>(output: &mut W, held: &mut Vec<u8>) -> io::Result<()>
+    ensures written { OnOk result (Appends (W.contents output.old) (W.contents output.new) held.old.items) }
+    ensures empty { OnOk result (held.new.items ≡ []) }
+{
+    if held.is_empty() {
+        return Ok(());
+    }
+    output.write_all(held.as_slice())?;
+    held.clear();
+    output.flush()
+}
+
+/// Writes out what is held, if the input may now be waited for.
+fn write_if<W: Write>(waits: bool, output: &mut W, held: &mut Vec<u8>) -> io::Result<()>
+    ensures kept { OnOk result ((first : Option (List ℕ)) (end : Plain) (count : ℕ) → Answered first (W.contents output.old) held.old.items end count → Answered first (W.contents output.new) held.new.items end count) }
+    ensures written { OnOk result (IsTrue waits → held.new.items ≡ []) }
+{
+    if waits {
+        write_out(output, held)
+    } else {
+        Ok(())
+    }
+}
+
+/// Tells in one line what ended a replay.
+fn tell<F: Write>(stop: Stop, faults: &mut F) -> io::Result<()>
+    ensures { OnOk result (Appends (F.contents faults.old) (F.contents faults.new) (stop_text stop)) }
+{
+    write_stop(stop, faults)?;
+    faults.flush()
+}
+
+/// Writes the line that tells what ended a replay.
+fn write_stop<F: Write>(stop: Stop, faults: &mut F) -> io::Result<()>
+    ensures { OnOk result (Appends (F.contents faults.old) (F.contents faults.new) (stop_text stop)) }
+{
+    match stop {
+        Stop::BadLine { number, fault } => {
+            let place = fault.place;
+            let kind = fault.kind.number();
+            let name = fault.kind.name();
+            writeln!(faults, "line {number}: at {place}: {kind} {name}")
+        }
+        Stop::Device => faults.write_all(b"device fault\n"),
+        Stop::NoMemory => faults.write_all(b"no memory\n"),
+    }
+}
