@@ -4,7 +4,7 @@ use Rattle.std.proofs.lemmas.List.{append_assoc, append-nil, map-append, length-
 use Rattle.std.proofs.lemmas.Bool.{ne_eqb}
 use Rattle.std.proofs.lemmas.Grind.{flat_map-append}
 use Rattle.std.specs.List.{flat_map, AllByRecursion}
-use Rattle.lb_wire.specs.Words.{word, long}
+use Rattle.lb_wire.specs.BigEndian.{two_octets, four_octets}
 use Rattle.lb_wire.specs.Record.{owner_octets, Record, record_octets, IsRecord}
 use Rattle.lb_wire.specs.Opt.{is_opt, ttl_value}
 use Rattle.lb_wire.specs.Message.{Message, Lays, header_octets, question_octets, message_octets, count_of}
@@ -49,23 +49,23 @@ record_end bytes at end r here within ends =
     omega (arith, size, length-drop at bytes, length-drop end bytes)
 
 -- a record whose TTL was lowered in its place
-pub record_ages : (bytes piece new : List ℕ) (at ttl_at secs : ℕ) (r : Record) (rest : List ℕ) → at ≤ length bytes → drop at bytes ≡ record_octets r ++ rest → is_opt r ≡ false → ttl_at ≡ at + length (owner_octets r.owner) + 4 → piece ≡ long (r.ttl - secs) → new ≡ (take ttl_at bytes ++ piece) ++ drop (ttl_at + length piece) bytes → new ≡ take at bytes ++ (record_octets (aged_record secs r) ++ rest)
+pub record_ages : (bytes piece new : List ℕ) (at ttl_at secs : ℕ) (r : Record) (rest : List ℕ) → at ≤ length bytes → drop at bytes ≡ record_octets r ++ rest → is_opt r ≡ false → ttl_at ≡ at + length (owner_octets r.owner) + 4 → piece ≡ four_octets (r.ttl - secs) → new ≡ (take ttl_at bytes ++ piece) ++ drop (ttl_at + length piece) bytes → new ≡ take at bytes ++ (record_octets (aged_record secs r) ++ rest)
 record_ages bytes piece new at ttl_at secs r rest within here other place is new_is =
-    let fixed = word r.rtype ++ word r.class in
-    let d = word (length r.rdata) ++ (r.rdata ++ rest) in
+    let fixed = two_octets r.rtype ++ two_octets r.class in
+    let d = two_octets (length r.rdata) ++ (r.rdata ++ rest) in
     let a = take at bytes ++ (owner_octets r.owner ++ fixed) in
     let older = record r { ttl = r.ttl - secs } in
     let regroup : (ttl : List ℕ) → take at bytes ++ (owner_octets r.owner ++ (fixed ++ (ttl ++ d))) ≡ a ++ (ttl ++ d) =
     λ ttl. ap (λ (xs : List ℕ). take at bytes ++ xs) (sym (append_assoc (owner_octets r.owner) fixed (ttl ++ d))) ∙ sym (append_assoc (take at bytes) (owner_octets r.owner ++ fixed) (ttl ++ d)) in
-    let whole : bytes ≡ a ++ (long r.ttl ++ d) =
-    sym (take-append-drop at bytes) ∙ ap (λ (xs : List ℕ). take at bytes ++ xs) (here ∙ nested r rest) ∙ regroup (long r.ttl) in
+    let whole : bytes ≡ a ++ (four_octets r.ttl ++ d) =
+    sym (take-append-drop at bytes) ∙ ap (λ (xs : List ℕ). take at bytes ++ xs) (here ∙ nested r rest) ∙ regroup (four_octets r.ttl) in
     let front : length (take at bytes) ≡ at = length-take-le at bytes within in
     let size : ttl_at ≡ length a = omega (arith, place, front, length-append (take at bytes) (owner_octets r.owner ++ fixed), length-append (owner_octets r.owner) fixed) in
-    let four : length (long r.ttl) ≡ length piece = ap (λ (xs : List ℕ). length xs) (sym is) in
+    let four : length (four_octets r.ttl) ≡ length piece = ap (λ (xs : List ℕ). length xs) (sym is) in
     new_is
-    ∙ put_at a (long r.ttl) piece d bytes ttl_at four whole size
+    ∙ put_at a (four_octets r.ttl) piece d bytes ttl_at four whole size
     ∙ ap (λ (xs : List ℕ). a ++ (xs ++ d)) is
-    ∙ sym (regroup (long (r.ttl - secs)))
+    ∙ sym (regroup (four_octets (r.ttl - secs)))
     ∙ ap (λ (xs : List ℕ). take at bytes ++ xs) (sym (nested older rest))
     ∙ ap (λ (s : Record). take at bytes ++ (record_octets s ++ rest)) (sym (other_ages r secs other))
 
@@ -81,8 +81,8 @@ read_there bytes at end read r rest is_read is here there = (one_record read r (
 -- older records take as many octets
 older_long : (r : Record) (secs : ℕ) → length (record_octets (aged_record secs r)) ≡ length (record_octets r)
 older_long r secs =
-    let left = length-append (owner_octets r.owner) (word r.rtype ++ (word r.class ++ (long (aged_record secs r).ttl ++ (word (length r.rdata) ++ r.rdata)))) in
-    let right = length-append (owner_octets r.owner) (word r.rtype ++ (word r.class ++ (long r.ttl ++ (word (length r.rdata) ++ r.rdata)))) in
+    let left = length-append (owner_octets r.owner) (two_octets r.rtype ++ (two_octets r.class ++ (four_octets (aged_record secs r).ttl ++ (two_octets (length r.rdata) ++ r.rdata)))) in
+    let right = length-append (owner_octets r.owner) (two_octets r.rtype ++ (two_octets r.class ++ (four_octets r.ttl ++ (two_octets (length r.rdata) ++ r.rdata)))) in
     omega (arith, left, right)
 
 -- the octets of records, so many seconds later

@@ -1,13 +1,15 @@
 -- What is written in a message, piece by piece.
 use Rattle.std.proofs.Common.{◌≡◌, ℕ, ◌+◌, ◌≤◌, List, [], ◌∷◌, ◌++◌, length, take, drop, map, refl, sym, ◌∙◌, ap, arith}
-use Rattle.std.proofs.lemmas.List.{append_assoc, length-append, length-map, take_at, drop_at}
+use Rattle.std.proofs.lemmas.List.{append_assoc, length-append, length-map, length-drop, length-take-le, take_at, drop_at, take-append-drop}
 use Rattle.std.specs.List.{flat_map}
 use Rattle.std.specs.Char.{to_ascii_lowercase}
 use Rattle.lb_name.specs.Name.{labels_octets, wire_of, lower_name, IsSame}
-use Rattle.lb_wire.specs.Words.{word}
+use Rattle.lb_wire.specs.BigEndian.{two_octets}
 use Rattle.lb_wire.specs.Record.{record_octets}
-use Rattle.lb_wire.specs.Message.{Message, Lays, header_octets, message_octets}
-use Rattle.lb_wire.specs.Reply.{with_name}
+use Rattle.lb_wire.specs.Message.{Message, header_octets, question_octets, message_octets}
+use Rattle.lb_wire.specs.Reply.{Asks}
+use Rattle.lb_wire.specs.declared.question.Question.{Question}
+use Rattle.lb_wire.proofs.Once.{one_question}
 use Rattle.lb_wire.proofs.Parts.{drop_after}
 
 -- a piece put in place of another of its length
@@ -36,24 +38,38 @@ same_long a b same =
 
 -- what follows the question name in a message
 abbrev pub behind_name : Message → List ℕ
-behind_name m = (word m.qtype.0 ++ word m.qclass.0) ++ (flat_map record_octets m.records ++ m.rest)
+behind_name m = (two_octets m.qtype.0 ++ two_octets m.qclass.0) ++ (flat_map record_octets m.records ++ m.rest)
 
 -- a message, its question name between what stands before and behind it
 pub named : (m : Message) → message_octets m ≡ header_octets m.header ++ (wire_of m.name ++ behind_name m)
-named m = ap (λ (xs : List ℕ). header_octets m.header ++ xs) (append_assoc (wire_of m.name) (word m.qtype.0 ++ word m.qclass.0) (flat_map record_octets m.records ++ m.rest))
+named m = ap (λ (xs : List ℕ). header_octets m.header ++ xs) (append_assoc (wire_of m.name) (two_octets m.qtype.0 ++ two_octets m.qclass.0) (flat_map record_octets m.records ++ m.rest))
+
+-- a question, its name before what follows it
+question_parts : (octets : List ℕ) (q : Question) (rest : List ℕ) → Asks octets q rest → octets ≡ wire_of q.name ++ ((two_octets q.qtype.0 ++ two_octets q.qclass.0) ++ rest)
+question_parts octets q rest asks = asks.parts ∙ append_assoc (wire_of q.name) (two_octets q.qtype.0 ++ two_octets q.qclass.0) rest
 
 -- there is room for another spelling of the question name
-pub respell_room : (bytes piece : List ℕ) (m : Message) (name : List (List ℕ)) → Lays bytes m → IsSame m.name name → piece ≡ wire_of name → 12 + length piece ≤ length bytes
-respell_room bytes piece m name lays same is =
-    let size : length bytes ≡ 12 + length (wire_of m.name ++ behind_name m) = ap (λ (xs : List ℕ). length xs) (lays.parts ∙ named m) ∙ omega arith in
+pub respell_room : (bytes piece : List ℕ) (q : Question) (rest : List ℕ) (name : List (List ℕ)) → Asks (drop 12 bytes) q rest → IsSame q.name name → piece ≡ wire_of name → 12 + length piece ≤ length bytes
+respell_room bytes piece q rest name asks same is =
+    let behind = (two_octets q.qtype.0 ++ two_octets q.qclass.0) ++ rest in
+    let size : length (drop 12 bytes) ≡ length (wire_of q.name) + (4 + length rest) = ap (λ (xs : List ℕ). length xs) (question_parts (drop 12 bytes) q rest asks) ∙ length-append (wire_of q.name) behind ∙ omega arith in
     let piece_size : length piece ≡ length (wire_of name) = ap (λ (xs : List ℕ). length xs) is in
-    omega (arith, size, piece_size, same_long m.name name same, length-append (wire_of m.name) (behind_name m))
+    omega (arith, size, piece_size, same_long q.name name same, length-drop 12 bytes)
 
--- the message with another spelling of its question name
-pub respelled : (bytes piece new : List ℕ) (m : Message) (name : List (List ℕ)) → Lays bytes m → IsSame m.name name → piece ≡ wire_of name → new ≡ (take 12 bytes ++ piece) ++ drop (12 + length piece) bytes → new ≡ message_octets (with_name name m)
-respelled bytes piece new m name lays same is new_is =
-    let size : length (wire_of m.name) ≡ length piece = same_long m.name name same ∙ ap (λ (xs : List ℕ). length xs) (sym is) in
+-- one question stands there
+same_question : (octets : List ℕ) (q r : Question) (x y : List ℕ) → Asks octets q x → Asks octets r y → (q.name ≡ r.name) × (q.qtype ≡ r.qtype) × (q.qclass ≡ r.qclass) × (x ≡ y)
+same_question octets q r x y at_q at_r = one_question q.name r.name q.qtype r.qtype q.qclass r.qclass x y at_q.name at_r.name at_q.qtype at_r.qtype at_q.qclass at_r.qclass (sym at_q.parts ∙ at_r.parts)
+
+-- the octets with another spelling of the question name
+pub respelled : (bytes piece new : List ℕ) (q r : Question) (rest other : List ℕ) (name : List (List ℕ)) → Asks (drop 12 bytes) q rest → IsSame q.name name → piece ≡ wire_of name → new ≡ (take 12 bytes ++ piece) ++ drop (12 + length piece) bytes → Asks (drop 12 bytes) r other → new ≡ take 12 bytes ++ (question_octets name r.qtype r.qclass ++ other)
+respelled bytes piece new q r rest other name asks same is new_is asks_r =
+    let behind = (two_octets r.qtype.0 ++ two_octets r.qclass.0) ++ other in
+    let alike : length (wire_of r.name) ≡ length (wire_of q.name) = ap (λ (n : List (List ℕ)). length (wire_of n)) (same_question (drop 12 bytes) r q other rest asks_r asks).0 in
+    let size : length (wire_of r.name) ≡ length piece = alike ∙ same_long q.name name same ∙ ap (λ (xs : List ℕ). length xs) (sym is) in
+    let room : 12 ≤ length bytes = omega (arith, respell_room bytes piece q rest name asks same is) in
+    let whole : bytes ≡ take 12 bytes ++ (wire_of r.name ++ behind) =
+    sym (take-append-drop 12 bytes) ∙ ap (λ (xs : List ℕ). take 12 bytes ++ xs) (question_parts (drop 12 bytes) r other asks_r) in
     new_is
-    ∙ put_at (header_octets m.header) (wire_of m.name) piece (behind_name m) bytes 12 size (lays.parts ∙ named m) refl
-    ∙ ap (λ (xs : List ℕ). header_octets m.header ++ (xs ++ behind_name m)) is
-    ∙ sym (named (with_name name m))
+    ∙ put_at (take 12 bytes) (wire_of r.name) piece behind bytes 12 size whole (sym (length-take-le 12 bytes room))
+    ∙ ap (λ (xs : List ℕ). take 12 bytes ++ (xs ++ behind)) is
+    ∙ ap (λ (xs : List ℕ). take 12 bytes ++ xs) (sym (append_assoc (wire_of name) (two_octets r.qtype.0 ++ two_octets r.qclass.0) other))

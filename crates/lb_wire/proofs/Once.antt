@@ -6,7 +6,7 @@ use Rattle.std.specs.Int.{w16, w32, from_be_bytes}
 use Rattle.std.specs.List.{flat_map, AllByRecursion}
 use Rattle.lb_name.specs.Name.{IsLabel, labels_octets, wire_of, IsName}
 use Rattle.lb_name.proofs.Names.{halves, one_name, NoLabel, goes_on}
-use Rattle.lb_wire.specs.Words.{word, long, word_at}
+use Rattle.lb_wire.specs.BigEndian.{two_octets, four_octets, number_at}
 use Rattle.lb_wire.specs.Record.{Owner, end_octets, owner_octets, IsPointer, IsOwner, Record, fixed_octets, record_octets, IsRecord}
 use Rattle.lb_wire.specs.Message.{Message, Lays, IsHeader, header_octets, question_octets, count_of}
 use Rattle.lb_wire.specs.Query.{view_of, Reads}
@@ -18,15 +18,15 @@ use Rattle.lb_wire.specs.declared.record_type.RecordType.{RecordType}
 use Rattle.lb_wire.specs.declared.record_type.Class.{Class}
 
 -- two octets are one number
-pub one_word : (a b : ℕ) (x y : List ℕ) → a < 2 ^ 16 → b < 2 ^ 16 → word a ++ x ≡ word b ++ y → (a ≡ b) × (x ≡ y)
-one_word a b x y fits_a fits_b whole =
-    let cut = halves (word a) (word b) x y refl whole in
+pub one_u16 : (a b : ℕ) (x y : List ℕ) → a < 2 ^ 16 → b < 2 ^ 16 → two_octets a ++ x ≡ two_octets b ++ y → (a ≡ b) × (x ≡ y)
+one_u16 a b x y fits_a fits_b whole =
+    let cut = halves (two_octets a) (two_octets b) x y refl whole in
     (sym (from_be_bytes-to_be_bytes_2 a fits_a) ∙ ap (λ (xs : List ℕ). from_be_bytes w16 xs) cut.0 ∙ from_be_bytes-to_be_bytes_2 b fits_b, cut.1)
 
 -- four octets are one number
-pub one_long : (a b : ℕ) (x y : List ℕ) → a < 2 ^ 32 → b < 2 ^ 32 → long a ++ x ≡ long b ++ y → (a ≡ b) × (x ≡ y)
-one_long a b x y fits_a fits_b whole =
-    let cut = halves (long a) (long b) x y refl whole in
+pub one_u32 : (a b : ℕ) (x y : List ℕ) → a < 2 ^ 32 → b < 2 ^ 32 → four_octets a ++ x ≡ four_octets b ++ y → (a ≡ b) × (x ≡ y)
+one_u32 a b x y fits_a fits_b whole =
+    let cut = halves (four_octets a) (four_octets b) x y refl whole in
     (sym (from_be_bytes-to_be_bytes_4 a fits_a) ∙ ap (λ (xs : List ℕ). from_be_bytes w32 xs) cut.0 ∙ from_be_bytes-to_be_bytes_4 b fits_b, cut.1)
 
 -- headers of equal fields are equal
@@ -42,12 +42,12 @@ same_header a b i f q n u r =
 -- twelve octets are one header
 pub one_header : (a b : Header) (x y : List ℕ) → IsHeader a → IsHeader b → header_octets a ++ x ≡ header_octets b ++ y → (a ≡ b) × (x ≡ y)
 one_header a b x y is_a is_b whole =
-    let id = one_word a.id b.id (word a.flags.0 ++ (word a.questions ++ (word a.answers ++ (word a.authorities ++ (word a.additionals ++ x))))) (word b.flags.0 ++ (word b.questions ++ (word b.answers ++ (word b.authorities ++ (word b.additionals ++ y))))) is_a.id is_b.id whole in
-    let flags = one_word a.flags.0 b.flags.0 (word a.questions ++ (word a.answers ++ (word a.authorities ++ (word a.additionals ++ x)))) (word b.questions ++ (word b.answers ++ (word b.authorities ++ (word b.additionals ++ y)))) is_a.flags is_b.flags id.1 in
-    let questions = one_word a.questions b.questions (word a.answers ++ (word a.authorities ++ (word a.additionals ++ x))) (word b.answers ++ (word b.authorities ++ (word b.additionals ++ y))) is_a.questions is_b.questions flags.1 in
-    let answers = one_word a.answers b.answers (word a.authorities ++ (word a.additionals ++ x)) (word b.authorities ++ (word b.additionals ++ y)) is_a.answers is_b.answers questions.1 in
-    let authorities = one_word a.authorities b.authorities (word a.additionals ++ x) (word b.additionals ++ y) is_a.authorities is_b.authorities answers.1 in
-    let additionals = one_word a.additionals b.additionals x y is_a.additionals is_b.additionals authorities.1 in
+    let id = one_u16 a.id b.id (two_octets a.flags.0 ++ (two_octets a.questions ++ (two_octets a.answers ++ (two_octets a.authorities ++ (two_octets a.additionals ++ x))))) (two_octets b.flags.0 ++ (two_octets b.questions ++ (two_octets b.answers ++ (two_octets b.authorities ++ (two_octets b.additionals ++ y))))) is_a.id is_b.id whole in
+    let flags = one_u16 a.flags.0 b.flags.0 (two_octets a.questions ++ (two_octets a.answers ++ (two_octets a.authorities ++ (two_octets a.additionals ++ x)))) (two_octets b.questions ++ (two_octets b.answers ++ (two_octets b.authorities ++ (two_octets b.additionals ++ y)))) is_a.flags is_b.flags id.1 in
+    let questions = one_u16 a.questions b.questions (two_octets a.answers ++ (two_octets a.authorities ++ (two_octets a.additionals ++ x))) (two_octets b.answers ++ (two_octets b.authorities ++ (two_octets b.additionals ++ y))) is_a.questions is_b.questions flags.1 in
+    let answers = one_u16 a.answers b.answers (two_octets a.authorities ++ (two_octets a.additionals ++ x)) (two_octets b.authorities ++ (two_octets b.additionals ++ y)) is_a.answers is_b.answers questions.1 in
+    let authorities = one_u16 a.authorities b.authorities (two_octets a.additionals ++ x) (two_octets b.additionals ++ y) is_a.authorities is_b.authorities answers.1 in
+    let additionals = one_u16 a.additionals b.additionals x y is_a.additionals is_b.additionals authorities.1 in
     (same_header a b id.0 flags.0 questions.0 answers.0 authorities.0 additionals.0, additionals.1)
 
 -- what an owner ends with is no label
@@ -93,17 +93,17 @@ same_record a b o t k l d =
     ∙ ap (λ (x : List ℕ). record b { rdata = x }) d
 
 -- a record and what follows it, its parts nested to the right
-pub nested : (r : Record) (x : List ℕ) → record_octets r ++ x ≡ owner_octets r.owner ++ (word r.rtype ++ (word r.class ++ (long r.ttl ++ (word (length r.rdata) ++ (r.rdata ++ x)))))
+pub nested : (r : Record) (x : List ℕ) → record_octets r ++ x ≡ owner_octets r.owner ++ (two_octets r.rtype ++ (two_octets r.class ++ (four_octets r.ttl ++ (two_octets (length r.rdata) ++ (r.rdata ++ x)))))
 nested r x = append_assoc (owner_octets r.owner) (fixed_octets r ++ r.rdata) x
 
 -- octets are one record
 pub one_record : (a b : Record) (x y : List ℕ) → IsRecord a → IsRecord b → record_octets a ++ x ≡ record_octets b ++ y → (a ≡ b) × (x ≡ y)
 one_record a b x y is_a is_b whole =
-    let owner = one_owner a.owner b.owner (word a.rtype ++ (word a.class ++ (long a.ttl ++ (word (length a.rdata) ++ (a.rdata ++ x))))) (word b.rtype ++ (word b.class ++ (long b.ttl ++ (word (length b.rdata) ++ (b.rdata ++ y))))) is_a.owner is_b.owner (sym (nested a x) ∙ whole ∙ nested b y) in
-    let rtype = one_word a.rtype b.rtype (word a.class ++ (long a.ttl ++ (word (length a.rdata) ++ (a.rdata ++ x)))) (word b.class ++ (long b.ttl ++ (word (length b.rdata) ++ (b.rdata ++ y)))) is_a.rtype is_b.rtype owner.1 in
-    let class = one_word a.class b.class (long a.ttl ++ (word (length a.rdata) ++ (a.rdata ++ x))) (long b.ttl ++ (word (length b.rdata) ++ (b.rdata ++ y))) is_a.class is_b.class rtype.1 in
-    let ttl = one_long a.ttl b.ttl (word (length a.rdata) ++ (a.rdata ++ x)) (word (length b.rdata) ++ (b.rdata ++ y)) is_a.ttl is_b.ttl class.1 in
-    let size = one_word (length a.rdata) (length b.rdata) (a.rdata ++ x) (b.rdata ++ y) is_a.rdata is_b.rdata ttl.1 in
+    let owner = one_owner a.owner b.owner (two_octets a.rtype ++ (two_octets a.class ++ (four_octets a.ttl ++ (two_octets (length a.rdata) ++ (a.rdata ++ x))))) (two_octets b.rtype ++ (two_octets b.class ++ (four_octets b.ttl ++ (two_octets (length b.rdata) ++ (b.rdata ++ y))))) is_a.owner is_b.owner (sym (nested a x) ∙ whole ∙ nested b y) in
+    let rtype = one_u16 a.rtype b.rtype (two_octets a.class ++ (four_octets a.ttl ++ (two_octets (length a.rdata) ++ (a.rdata ++ x)))) (two_octets b.class ++ (four_octets b.ttl ++ (two_octets (length b.rdata) ++ (b.rdata ++ y)))) is_a.rtype is_b.rtype owner.1 in
+    let class = one_u16 a.class b.class (four_octets a.ttl ++ (two_octets (length a.rdata) ++ (a.rdata ++ x))) (four_octets b.ttl ++ (two_octets (length b.rdata) ++ (b.rdata ++ y))) is_a.class is_b.class rtype.1 in
+    let ttl = one_u32 a.ttl b.ttl (two_octets (length a.rdata) ++ (a.rdata ++ x)) (two_octets (length b.rdata) ++ (b.rdata ++ y)) is_a.ttl is_b.ttl class.1 in
+    let size = one_u16 (length a.rdata) (length b.rdata) (a.rdata ++ x) (b.rdata ++ y) is_a.rdata is_b.rdata ttl.1 in
     let rdata = halves a.rdata b.rdata x y size.0 size.1 in
     (same_record a b owner.0 rtype.0 class.0 ttl.0 rdata.0, rdata.1)
 
@@ -122,12 +122,12 @@ one_list (r ∷ a) (s ∷ b) x y each_a each_b many whole =
 -- octets are one question
 pub one_question : (a b : List (List ℕ)) (at bt : RecordType) (ac bc : Class) (x y : List ℕ) → IsName a → IsName b → at.0 < 2 ^ 16 → bt.0 < 2 ^ 16 → ac.0 < 2 ^ 16 → bc.0 < 2 ^ 16 → question_octets a at ac ++ x ≡ question_octets b bt bc ++ y → (a ≡ b) × (at ≡ bt) × (ac ≡ bc) × (x ≡ y)
 one_question a b at bt ac bc x y is_a is_b fit_at fit_bt fit_ac fit_bc whole =
-    let regroup_a : question_octets a at ac ++ x ≡ wire_of a ++ (word at.0 ++ (word ac.0 ++ x)) = append_assoc (wire_of a) (word at.0 ++ word ac.0) x in
-    let regroup_b : question_octets b bt bc ++ y ≡ wire_of b ++ (word bt.0 ++ (word bc.0 ++ y)) = append_assoc (wire_of b) (word bt.0 ++ word bc.0) y in
-    let grouped : wire_of a ++ (word at.0 ++ (word ac.0 ++ x)) ≡ wire_of b ++ (word bt.0 ++ (word bc.0 ++ y)) = sym regroup_a ∙ whole ∙ regroup_b in
-    let name = one_name (wire_of a ++ (word at.0 ++ (word ac.0 ++ x))) a b (word at.0 ++ (word ac.0 ++ x)) (word bt.0 ++ (word bc.0 ++ y)) (record { is_name = is_a; parts = refl }) (record { is_name = is_b; parts = grouped }) in
-    let qtype = one_word at.0 bt.0 (word ac.0 ++ x) (word bc.0 ++ y) fit_at fit_bt name.1 in
-    let qclass = one_word ac.0 bc.0 x y fit_ac fit_bc qtype.1 in
+    let regroup_a : question_octets a at ac ++ x ≡ wire_of a ++ (two_octets at.0 ++ (two_octets ac.0 ++ x)) = append_assoc (wire_of a) (two_octets at.0 ++ two_octets ac.0) x in
+    let regroup_b : question_octets b bt bc ++ y ≡ wire_of b ++ (two_octets bt.0 ++ (two_octets bc.0 ++ y)) = append_assoc (wire_of b) (two_octets bt.0 ++ two_octets bc.0) y in
+    let grouped : wire_of a ++ (two_octets at.0 ++ (two_octets ac.0 ++ x)) ≡ wire_of b ++ (two_octets bt.0 ++ (two_octets bc.0 ++ y)) = sym regroup_a ∙ whole ∙ regroup_b in
+    let name = one_name (wire_of a ++ (two_octets at.0 ++ (two_octets ac.0 ++ x))) a b (two_octets at.0 ++ (two_octets ac.0 ++ x)) (two_octets bt.0 ++ (two_octets bc.0 ++ y)) (record { is_name = is_a; parts = refl }) (record { is_name = is_b; parts = grouped }) in
+    let qtype = one_u16 at.0 bt.0 (two_octets ac.0 ++ x) (two_octets bc.0 ++ y) fit_at fit_bt name.1 in
+    let qclass = one_u16 ac.0 bc.0 x y fit_ac fit_bc qtype.1 in
     (name.0, ap (λ (n : ℕ). record { 0 = n }) qtype.0, ap (λ (n : ℕ). record { 0 = n }) qclass.0, qclass.1)
 
 -- messages of equal parts are equal
@@ -154,8 +154,8 @@ pub lays_long : (bytes : List ℕ) (m : Message) → Lays bytes m → 12 ≤ len
 lays_long bytes m lays = rw lays.parts (omega arith)
 
 -- the flags of a message stand at octet 2
-pub flags_there : (bytes : List ℕ) (m : Message) → Lays bytes m → word_at bytes 2 ≡ m.header.flags.0
-flags_there bytes m lays = ap (λ (xs : List ℕ). word_at xs 2) lays.parts ∙ from_be_bytes-to_be_bytes_2 m.header.flags.0 lays.header.flags
+pub flags_there : (bytes : List ℕ) (m : Message) → Lays bytes m → number_at bytes 2 ≡ m.header.flags.0
+flags_there bytes m lays = ap (λ (xs : List ℕ). number_at xs 2) lays.parts ∙ from_be_bytes-to_be_bytes_2 m.header.flags.0 lays.header.flags
 
 -- bytes are the parts of a query in one way, and then they have no fault
 pub one_reading_of : (bytes : List ℕ) (a b : Result QueryView QueryFault) → Reads bytes a → Reads bytes b → a ≡ b

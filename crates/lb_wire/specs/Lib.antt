@@ -1,6 +1,6 @@
 pub use Rattle.lb_name.specs.Name
 pub use Rattle.lb_name.specs.Reading
-pub mod Words
+pub mod BigEndian
 pub mod Numbers
 pub mod Flags
 pub mod Record

@@ -2,7 +2,7 @@
 use Rattle.std.specs.Prelude.{ℕ, ◌+◌, ◌/◌, ◌%◌, ◌^◌, ◌<◌, ◌≤◌, List, [], ◌∷◌, ◌++◌, length, Option, None, Some}
 use Rattle.std.specs.List.{AllByRecursion}
 use Rattle.lb_name.specs.Name.{IsLabel, labels_octets}
-use Rattle.lb_wire.specs.Words.{word, long}
+use Rattle.lb_wire.specs.BigEndian.{two_octets, four_octets}
 
 -- the owner of a record: labels, then the root or a pointer, which is never followed (section 4.1.4)
 pub record Owner : Type 0 where
@@ -39,7 +39,7 @@ pub record Record : Type 0 where
 
 -- TYPE, CLASS, TTL and RDLENGTH on the wire
 abbrev pub fixed_octets : Record → List ℕ
-fixed_octets r = word r.rtype ++ (word r.class ++ (long r.ttl ++ word (length r.rdata)))
+fixed_octets r = two_octets r.rtype ++ (two_octets r.class ++ (four_octets r.ttl ++ two_octets (length r.rdata)))
 
 -- a record on the wire
 abbrev pub record_octets : Record → List ℕ

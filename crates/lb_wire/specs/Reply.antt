@@ -1,7 +1,7 @@
 -- Replies (RFC 1035 section 4.1): their header and question, what their records live, and what is changed in them.
 use Rattle.std.specs.Prelude.{◌≡◌, ℕ, ◌-◌, ◌<◌, ◌≤◌, ◌^◌, false, List, ◌++◌, length, take, drop, map, Option, None, Some, Result, Ok, Err, ◌==◌, if◌then◌else◌}
 use Rattle.lb_name.specs.Name.{IsName}
-use Rattle.lb_wire.specs.Words.{word_at}
+use Rattle.lb_wire.specs.BigEndian.{number_at}
 use Rattle.lb_wire.specs.Flags.{opcode_of, tc_of, rcode_of}
 use Rattle.lb_wire.specs.Numbers.{opcode_number, rcode_number}
 use Rattle.lb_wire.specs.Record.{Record}
@@ -28,19 +28,19 @@ Repeats octets questions None = 0 < questions → (q : Question) (rest : List �
 -- the header and the question of a reply
 pub record Replies (bytes : List ℕ) (view : ReplyView) : Type 0 where
   pub long : 12 ≤ length bytes
-  pub response : 2 ^ 15 ≤ word_at bytes 2
-  pub id : view.id ≡ word_at bytes 0
-  pub opcode : opcode_number view.opcode ≡ opcode_of (word_at bytes 2)
-  pub truncated : view.truncated ≡ (tc_of (word_at bytes 2) == 1)
-  pub rcode : rcode_number view.rcode ≡ rcode_of (word_at bytes 2)
-  pub questions : view.questions ≡ word_at bytes 4
+  pub response : 2 ^ 15 ≤ number_at bytes 2
+  pub id : view.id ≡ number_at bytes 0
+  pub opcode : opcode_number view.opcode ≡ opcode_of (number_at bytes 2)
+  pub truncated : view.truncated ≡ (tc_of (number_at bytes 2) == 1)
+  pub rcode : rcode_number view.rcode ≡ rcode_of (number_at bytes 2)
+  pub questions : view.questions ≡ number_at bytes 4
   pub question : Repeats (drop 12 bytes) view.questions view.question
 
 -- what the bytes read as: a reply; or Short, with fewer than 12 octets; or NotReply, where QR is 0
 abbrev pub ReadsReply : List ℕ → Result ReplyView ReplyFault → Type 0
 ReadsReply bytes (Ok view) = Replies bytes view
 ReadsReply bytes (Err faults.Short) = length bytes < 12
-ReadsReply bytes (Err faults.NotReply) = (12 ≤ length bytes) × (word_at bytes 2 < 2 ^ 15)
+ReadsReply bytes (Err faults.NotReply) = (12 ≤ length bytes) × (number_at bytes 2 < 2 ^ 15)
 
 -- the least TTLs of a message: of all its records, and of its answer section; OPT is left aside
 abbrev pub survey_of : Message → Survey

@@ -9,10 +9,10 @@ ghost use Rattle.lb_wire.specs.Tally.{Holds};
 ghost use Rattle.lb_wire.specs.Aging.{Aged};
 
 use crate::header::{HEADER_LEN, read_header};
+use crate::octets::overwrite;
 use crate::question::read_question;
 use crate::record::read_record;
 use crate::record_type::RecordType;
-use crate::reply::put;
 
 /// Lowers each TTL by so many seconds, which every record outlives; the TTL field of an OPT is no time and stays
 /// (RFC 6891 section 6.1.3). By 0 seconds no octet changes.
@@ -53,7 +53,7 @@ fn age_record(bytes: &mut [u8], at: usize, secs: u32) -> usize
         unreachable!();
     };
     if spot.rtype.0 != RecordType::OPT.0 {
-        put(bytes, spot.ttl_at, &(spot.ttl - secs).to_be_bytes());
+        overwrite(bytes, spot.ttl_at, &(spot.ttl - secs).to_be_bytes());
     }
     spot.end
 }

@@ -1,7 +1,7 @@
 //! The layout of a message.
 
 ghost use Rattle.std.specs.Prelude.{◌≡◌, ℕ, ◌+◌, ◌≤◌, List, length, IfSome, IfNone, take, drop};
-ghost use Rattle.lb_wire.specs.Words.{word_at};
+ghost use Rattle.lb_wire.specs.BigEndian.{number_at};
 ghost use Rattle.lb_wire.specs.Message.{Message, Lays, question_octets};
 ghost use Rattle.lb_wire.specs.Tally.{tally_of};
 

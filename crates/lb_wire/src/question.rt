@@ -6,8 +6,8 @@ ghost use Rattle.lb_wire.specs.Message.{question_octets};
 ghost use Rattle.lb_wire.specs.declared.record_type.RecordType.{RecordType};
 ghost use Rattle.lb_wire.specs.declared.record_type.Class.{Class};
 
+use crate::big_endian::read_u16;
 use crate::record_type::{Class, RecordType};
-use crate::words::read_word;
 use lb_name::Name;
 
 /// A question (RFC 1035 section 4.1.2), its name as it was spelled.
@@ -32,8 +32,8 @@ pub(crate) fn read_question(bytes: &[u8], at: usize) -> Option<(Question, usize)
     if bytes.len() - place < AFTER_NAME {
         return None;
     }
-    let qtype = RecordType(read_word(bytes, place));
-    let qclass = Class(read_word(bytes, place + 2));
+    let qtype = RecordType(read_u16(bytes, place));
+    let qclass = Class(read_u16(bytes, place + 2));
     let question = Question {
         name,
         qtype,

@@ -4,10 +4,10 @@ ghost use Rattle.std.specs.Prelude.{◌≡◌, ℕ, ◌+◌, ◌<◌, ◌≤◌,
 ghost use Rattle.lb_wire.specs.Record.{Record, IsRecord, record_octets, owner_octets};
 ghost use Rattle.lb_wire.specs.Tally.{Holds, tally_of};
 
+use crate::big_endian::{read_u16, read_u32};
 use crate::owner::owner_len;
 use crate::record_type::RecordType;
 use crate::tally::Tally;
-use crate::words::{read_long, read_word};
 
 /// How many octets stand between a record's owner and its data: TYPE, CLASS, TTL and RDLENGTH (RFC 1035 section
 /// 4.1.3).
@@ -40,10 +40,10 @@ pub(crate) fn read_record(bytes: &[u8], at: usize) -> Option<Spot>
     if bytes.len() - fixed < FIXED_LEN {
         return None;
     }
-    let rtype = RecordType(read_word(bytes, fixed));
-    let ttl = read_long(bytes, fixed + TTL_AT);
+    let rtype = RecordType(read_u16(bytes, fixed));
+    let ttl = read_u32(bytes, fixed + TTL_AT);
     let rdata = fixed + FIXED_LEN;
-    let end = rdata + usize::from(read_word(bytes, fixed + RDLENGTH_AT));
+    let end = rdata + usize::from(read_u16(bytes, fixed + RDLENGTH_AT));
     if bytes.len() < end {
         return None;
     }
