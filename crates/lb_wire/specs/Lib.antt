@@ -6,6 +6,7 @@ pub mod Flags
 pub mod Record
 pub mod Opt
 pub mod Message
+pub mod Question
 pub mod Tally
 pub mod Query
 pub mod Answer

@@ -11,10 +11,10 @@ use crate::header::{HEADER_LEN, read_header};
 use crate::layout::lay;
 use crate::octets::overwrite;
 use crate::opcode::Opcode;
-use crate::question::{Question, read_question};
+use crate::question::{Question, read_question, skip_question};
 use crate::rcode::Rcode;
 use crate::tally::Survey;
-use lb_name::Name;
+use lb_name::{Name, labels_go_on};
 use thiserror::Error;
 
 /// Why bytes are no reply. `number` is the number that texts give it.
@@ -54,7 +54,8 @@ pub struct ReplyView {
     pub question: Option<Question>,
 }
 
-ghost use Rattle.lb_wire.specs.Reply.{ReadsReply, Surveys, Asks};
+ghost use Rattle.lb_wire.specs.Reply.{ReadsReply, Surveys};
+ghost use Rattle.lb_wire.specs.Question.{Asks};
 
 /// Reads the header and the question of a reply. The faults are tested in their order: fewer than 12 octets are
 /// `Short`, QR 0 is `NotReply`.
@@ -88,10 +89,17 @@ pub fn read_reply(bytes: &[u8]) -> Result<ReplyView, ReplyFault>
 pub fn survey(bytes: &[u8]) -> Option<Survey>
     ensures { Surveys bytes.now result }
 {
+    // a law: the call does nothing
+    labels_go_on();
     if bytes.len() < HEADER_LEN {
         return None;
     }
-    let laid = lay(bytes)?;
+    let header = read_header(bytes);
+    if header.questions != 1 {
+        return None;
+    }
+    let question_end = skip_question(bytes, HEADER_LEN)?;
+    let laid = lay(bytes, question_end, header)?;
     Some(Survey {
         least_all: laid.all.least,
         least_answer: laid.answers.least,
@@ -112,7 +120,7 @@ pub fn restore_id(bytes: &mut [u8], id: u16)
 /// stands behind the question may be cut off or miscounted, and stays as it is.
 pub fn respell(bytes: &mut [u8], name: &Name)
     requires { (q : Question) × (rest : List ℕ) × Asks (drop 12 bytes.old) q rest × IsSame q.name name.now }
-    ensures { (q : Question) (rest : List ℕ) → Asks (drop 12 bytes.old) q rest → bytes.new ≡ take 12 bytes.old ++ (question_octets name.now q.qtype q.qclass ++ rest) }
+    ensures { (q : Question) (rest : List ℕ) → Asks (drop 12 bytes.old) q rest → IsSame q.name name.now → bytes.new ≡ take 12 bytes.old ++ (question_octets name.now q.qtype q.qclass ++ rest) }
 {
     overwrite(bytes, HEADER_LEN, name.as_wire());
 }

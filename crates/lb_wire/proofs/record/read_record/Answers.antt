@@ -1,19 +1,19 @@
 use Rattle.std.proofs.Common.{◌≡◌, ◌+◌, drop, take, length, refl, arith}
 use Rattle.std.proofs.lemmas.List.{length-take-le, length-drop}
-use Rattle.lb_wire.proofs.Walks.{number_there, record_there, no_record_fixed, no_record_data}
+use Rattle.lb_wire.proofs.Holds.{number_there, record_there, no_record_fixed, no_record_data}
 use Rattle.lb_wire.proofs.record.read_record.Goals as goal
 
 pub returns-then-bytes-fixed-lt-FIXED_LEN-clause-none : goal.returns-then-bytes-fixed-lt-FIXED_LEN-clause-none
 returns-then-bytes-fixed-lt-FIXED_LEN-clause-none c =
     let found = c.in_ok-fixed.ensures.found in
     let at_owner = rw c.split_at.ensures.back at found.3 in
-    no_record_fixed _ _ _ _ found.1 at_owner c.if-bytes-fixed-lt-FIXED_LEN.true
+    no_record_fixed c.labels_go_on.ensures _ _ _ _ found.1 at_owner c.if-bytes-fixed-lt-FIXED_LEN.true
 
 pub returns-then-bytes-end-clause-none : goal.returns-then-bytes-end-clause-none
 returns-then-bytes-end-clause-none c =
     let found = c.in_ok-fixed.ensures.found in
     let at_owner = rw c.split_at.ensures.back at found.3 in
-    no_record_data c.args.bytes.now c.args.at c.in_ok-fixed.field-0 c.read_u16-2.result found.0 found.1 at_owner c.read_u16-2.type_inv c.read_u16-2.ensures (omega arith) (omega arith)
+    no_record_data c.labels_go_on.ensures c.args.bytes.now c.args.at c.in_ok-fixed.field-0 c.read_u16-2.result found.0 found.1 at_owner c.read_u16-2.type_inv c.read_u16-2.ensures (omega arith) (omega arith)
 
 pub returns-clause-found : goal.returns-clause-found
 returns-clause-found c =

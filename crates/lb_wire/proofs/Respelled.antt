@@ -7,19 +7,9 @@ use Rattle.lb_name.specs.Name.{labels_octets, wire_of, lower_name, IsSame}
 use Rattle.lb_wire.specs.BigEndian.{two_octets}
 use Rattle.lb_wire.specs.Record.{record_octets}
 use Rattle.lb_wire.specs.Message.{Message, header_octets, question_octets, message_octets}
-use Rattle.lb_wire.specs.Reply.{Asks}
+use Rattle.lb_wire.specs.Question.{Asks}
 use Rattle.lb_wire.specs.declared.question.Question.{Question}
-use Rattle.lb_wire.proofs.Once.{one_question}
-use Rattle.lb_wire.proofs.Parts.{drop_after}
-
--- a piece put in place of another of its length
-pub put_at : {X : Type 0} (a b c d xs : List X) (at : ℕ) → length b ≡ length c → xs ≡ a ++ (b ++ d) → at ≡ length a → (take at xs ++ c) ++ drop (at + length c) xs ≡ a ++ (c ++ d)
-put_at {X} a b c d xs at same whole place =
-    let front : take at xs ≡ a = ap (λ (ys : List X). take at ys) whole ∙ take_at a (b ++ d) at (sym place) in
-    let there : drop at xs ≡ b ++ d = ap (λ (ys : List X). drop at ys) whole ∙ drop_at a (b ++ d) at (sym place) in
-    let ends : at + length c ≡ at + length b = ap (λ (n : ℕ). at + n) (sym same) in
-    let behind : drop (at + length c) xs ≡ d = ap (λ (n : ℕ). drop n xs) ends ∙ drop_after xs b d at there in
-    ap (λ (ys : List X). (ys ++ c) ++ drop (at + length c) xs) front ∙ ap (λ (ys : List X). (a ++ c) ++ ys) behind ∙ append_assoc a c d
+use Rattle.lb_wire.proofs.Lists.{put_at}
 
 -- lower case keeps the length of labels on the wire
 lower_long : (labels : List (List ℕ)) → length (labels_octets (lower_name labels)) ≡ length (labels_octets labels)
@@ -56,20 +46,15 @@ respell_room bytes piece q rest name asks same is =
     let piece_size : length piece ≡ length (wire_of name) = ap (λ (xs : List ℕ). length xs) is in
     omega (arith, size, piece_size, same_long q.name name same, length-drop 12 bytes)
 
--- one question stands there
-same_question : (octets : List ℕ) (q r : Question) (x y : List ℕ) → Asks octets q x → Asks octets r y → (q.name ≡ r.name) × (q.qtype ≡ r.qtype) × (q.qclass ≡ r.qclass) × (x ≡ y)
-same_question octets q r x y at_q at_r = one_question q.name r.name q.qtype r.qtype q.qclass r.qclass x y at_q.name at_r.name at_q.qtype at_r.qtype at_q.qclass at_r.qclass (sym at_q.parts ∙ at_r.parts)
-
 -- the octets with another spelling of the question name
-pub respelled : (bytes piece new : List ℕ) (q r : Question) (rest other : List ℕ) (name : List (List ℕ)) → Asks (drop 12 bytes) q rest → IsSame q.name name → piece ≡ wire_of name → new ≡ (take 12 bytes ++ piece) ++ drop (12 + length piece) bytes → Asks (drop 12 bytes) r other → new ≡ take 12 bytes ++ (question_octets name r.qtype r.qclass ++ other)
-respelled bytes piece new q r rest other name asks same is new_is asks_r =
-    let behind = (two_octets r.qtype.0 ++ two_octets r.qclass.0) ++ other in
-    let alike : length (wire_of r.name) ≡ length (wire_of q.name) = ap (λ (n : List (List ℕ)). length (wire_of n)) (same_question (drop 12 bytes) r q other rest asks_r asks).0 in
-    let size : length (wire_of r.name) ≡ length piece = alike ∙ same_long q.name name same ∙ ap (λ (xs : List ℕ). length xs) (sym is) in
+pub respelled : (bytes piece new : List ℕ) (q : Question) (rest : List ℕ) (name : List (List ℕ)) → piece ≡ wire_of name → new ≡ (take 12 bytes ++ piece) ++ drop (12 + length piece) bytes → Asks (drop 12 bytes) q rest → IsSame q.name name → new ≡ take 12 bytes ++ (question_octets name q.qtype q.qclass ++ rest)
+respelled bytes piece new q rest name is new_is asks same =
+    let behind = (two_octets q.qtype.0 ++ two_octets q.qclass.0) ++ rest in
+    let size : length (wire_of q.name) ≡ length piece = same_long q.name name same ∙ ap (λ (xs : List ℕ). length xs) (sym is) in
     let room : 12 ≤ length bytes = omega (arith, respell_room bytes piece q rest name asks same is) in
-    let whole : bytes ≡ take 12 bytes ++ (wire_of r.name ++ behind) =
-    sym (take-append-drop 12 bytes) ∙ ap (λ (xs : List ℕ). take 12 bytes ++ xs) (question_parts (drop 12 bytes) r other asks_r) in
+    let whole : bytes ≡ take 12 bytes ++ (wire_of q.name ++ behind) =
+    sym (take-append-drop 12 bytes) ∙ ap (λ (xs : List ℕ). take 12 bytes ++ xs) (question_parts (drop 12 bytes) q rest asks) in
     new_is
-    ∙ put_at (take 12 bytes) (wire_of r.name) piece behind bytes 12 size whole (sym (length-take-le 12 bytes room))
+    ∙ put_at (take 12 bytes) (wire_of q.name) piece behind bytes 12 size whole (sym (length-take-le 12 bytes room))
     ∙ ap (λ (xs : List ℕ). take 12 bytes ++ (xs ++ behind)) is
-    ∙ ap (λ (xs : List ℕ). take 12 bytes ++ xs) (sym (append_assoc (wire_of name) (two_octets r.qtype.0 ++ two_octets r.qclass.0) other))
+    ∙ ap (λ (xs : List ℕ). take 12 bytes ++ xs) (sym (append_assoc (wire_of name) (two_octets q.qtype.0 ++ two_octets q.qclass.0) rest))

@@ -5,7 +5,8 @@ use Rattle.std.proofs.lemmas.Nat.{from_be_bytes-to_be_bytes_2, from_be_bytes-to_
 use Rattle.std.specs.Int.{w16, w32, from_be_bytes}
 use Rattle.std.specs.List.{flat_map, AllByRecursion}
 use Rattle.lb_name.specs.Name.{IsLabel, labels_octets, wire_of, IsName}
-use Rattle.lb_name.proofs.Names.{halves, one_name, NoLabel, goes_on}
+use Rattle.lb_name.specs.Laws.{NoLabel, LabelsGoOn}
+use Rattle.lb_wire.proofs.Lists.{halves}
 use Rattle.lb_wire.specs.BigEndian.{two_octets, four_octets, number_at}
 use Rattle.lb_wire.specs.Record.{Owner, end_octets, owner_octets, IsPointer, IsOwner, Record, fixed_octets, record_octets, IsRecord}
 use Rattle.lb_wire.specs.Message.{Message, Lays, IsHeader, header_octets, question_octets, count_of}
@@ -72,11 +73,11 @@ no_more pointer x tail [] each whole = refl
 no_more pointer x tail (label ∷ others) each whole = absurd (NoLabel-end pointer x (length label) ((label ++ labels_octets others) ++ tail) whole each.0.0 each.0.1)
 
 -- octets are one owner
-pub one_owner : (a b : Owner) (x y : List ℕ) → IsOwner a → IsOwner b → owner_octets a ++ x ≡ owner_octets b ++ y → (a ≡ b) × (x ≡ y)
-one_owner a b x y is_a is_b whole =
+pub one_owner : (go : LabelsGoOn) (a b : Owner) (x y : List ℕ) → IsOwner a → IsOwner b → owner_octets a ++ x ≡ owner_octets b ++ y → (a ≡ b) × (x ≡ y)
+one_owner go a b x y is_a is_b whole =
     let grouped : labels_octets a.labels ++ (end_octets a.pointer ++ x) ≡ labels_octets b.labels ++ (end_octets b.pointer ++ y) =
     sym (append_assoc (labels_octets a.labels) (end_octets a.pointer) x) ∙ whole ∙ append_assoc (labels_octets b.labels) (end_octets b.pointer) y in
-    let on = goes_on a.labels b.labels (end_octets a.pointer ++ x) (end_octets b.pointer ++ y) is_a.each is_b.each (NoLabel-end b.pointer y) grouped in
+    let on = go a.labels b.labels (end_octets a.pointer ++ x) (end_octets b.pointer ++ y) is_a.each is_b.each (NoLabel-end b.pointer y) grouped in
     let none : on.others ≡ [] = no_more a.pointer x (end_octets b.pointer ++ y) on.others on.each on.rest in
     let labels : a.labels ≡ b.labels = sym (append-nil a.labels) ∙ sym (ap (λ (ls : List (List ℕ)). a.labels ++ ls) none) ∙ sym on.whole in
     let ends : end_octets a.pointer ++ x ≡ end_octets b.pointer ++ y = on.rest ∙ ap (λ (ls : List (List ℕ)). labels_octets ls ++ (end_octets b.pointer ++ y)) none in
@@ -97,9 +98,9 @@ pub nested : (r : Record) (x : List ℕ) → record_octets r ++ x ≡ owner_octe
 nested r x = append_assoc (owner_octets r.owner) (fixed_octets r ++ r.rdata) x
 
 -- octets are one record
-pub one_record : (a b : Record) (x y : List ℕ) → IsRecord a → IsRecord b → record_octets a ++ x ≡ record_octets b ++ y → (a ≡ b) × (x ≡ y)
-one_record a b x y is_a is_b whole =
-    let owner = one_owner a.owner b.owner (two_octets a.rtype ++ (two_octets a.class ++ (four_octets a.ttl ++ (two_octets (length a.rdata) ++ (a.rdata ++ x))))) (two_octets b.rtype ++ (two_octets b.class ++ (four_octets b.ttl ++ (two_octets (length b.rdata) ++ (b.rdata ++ y))))) is_a.owner is_b.owner (sym (nested a x) ∙ whole ∙ nested b y) in
+pub one_record : (go : LabelsGoOn) (a b : Record) (x y : List ℕ) → IsRecord a → IsRecord b → record_octets a ++ x ≡ record_octets b ++ y → (a ≡ b) × (x ≡ y)
+one_record go a b x y is_a is_b whole =
+    let owner = one_owner go a.owner b.owner (two_octets a.rtype ++ (two_octets a.class ++ (four_octets a.ttl ++ (two_octets (length a.rdata) ++ (a.rdata ++ x))))) (two_octets b.rtype ++ (two_octets b.class ++ (four_octets b.ttl ++ (two_octets (length b.rdata) ++ (b.rdata ++ y))))) is_a.owner is_b.owner (sym (nested a x) ∙ whole ∙ nested b y) in
     let rtype = one_u16 a.rtype b.rtype (two_octets a.class ++ (four_octets a.ttl ++ (two_octets (length a.rdata) ++ (a.rdata ++ x)))) (two_octets b.class ++ (four_octets b.ttl ++ (two_octets (length b.rdata) ++ (b.rdata ++ y)))) is_a.rtype is_b.rtype owner.1 in
     let class = one_u16 a.class b.class (four_octets a.ttl ++ (two_octets (length a.rdata) ++ (a.rdata ++ x))) (four_octets b.ttl ++ (two_octets (length b.rdata) ++ (b.rdata ++ y))) is_a.class is_b.class rtype.1 in
     let ttl = one_u32 a.ttl b.ttl (two_octets (length a.rdata) ++ (a.rdata ++ x)) (two_octets (length b.rdata) ++ (b.rdata ++ y)) is_a.ttl is_b.ttl class.1 in
@@ -108,24 +109,30 @@ one_record a b x y is_a is_b whole =
     (same_record a b owner.0 rtype.0 class.0 ttl.0 rdata.0, rdata.1)
 
 -- octets are one list of so many records
-pub one_list : (a b : List Record) (x y : List ℕ) → AllByRecursion IsRecord a → AllByRecursion IsRecord b → length a ≡ length b → flat_map record_octets a ++ x ≡ flat_map record_octets b ++ y → (a ≡ b) × (x ≡ y)
-one_list [] [] x y each_a each_b many whole = (refl, whole)
-one_list [] (s ∷ b) x y each_a each_b many whole = absurd (omega arith)
-one_list (r ∷ a) [] x y each_a each_b many whole = absurd (omega arith)
-one_list (r ∷ a) (s ∷ b) x y each_a each_b many whole =
+pub one_list : (go : LabelsGoOn) (a b : List Record) (x y : List ℕ) → AllByRecursion IsRecord a → AllByRecursion IsRecord b → length a ≡ length b → flat_map record_octets a ++ x ≡ flat_map record_octets b ++ y → (a ≡ b) × (x ≡ y)
+one_list go [] [] x y each_a each_b many whole = (refl, whole)
+one_list go [] (s ∷ b) x y each_a each_b many whole = absurd (omega arith)
+one_list go (r ∷ a) [] x y each_a each_b many whole = absurd (omega arith)
+one_list go (r ∷ a) (s ∷ b) x y each_a each_b many whole =
     let grouped : record_octets r ++ (flat_map record_octets a ++ x) ≡ record_octets s ++ (flat_map record_octets b ++ y) =
     sym (append_assoc (record_octets r) (flat_map record_octets a) x) ∙ whole ∙ append_assoc (record_octets s) (flat_map record_octets b) y in
-    let first = one_record r s (flat_map record_octets a ++ x) (flat_map record_octets b ++ y) each_a.0 each_b.0 grouped in
-    let others = one_list a b x y each_a.1 each_b.1 (omega arith) first.1 in
+    let first = one_record go r s (flat_map record_octets a ++ x) (flat_map record_octets b ++ y) each_a.0 each_b.0 grouped in
+    let others = one_list go a b x y each_a.1 each_b.1 (omega arith) first.1 in
     (ap (λ (t : Record). t ∷ a) first.0 ∙ ap (λ (ts : List Record). s ∷ ts) others.0, others.1)
 
+-- octets are one name
+one_name : (go : LabelsGoOn) (a b : List (List ℕ)) (x y : List ℕ) → IsName a → IsName b → wire_of a ++ x ≡ wire_of b ++ y → (a ≡ b) × (x ≡ y)
+one_name go a b x y is_a is_b whole =
+    let owner = one_owner go (record { labels = a; pointer = None }) (record { labels = b; pointer = None }) x y (record { each = is_a.each; pointer = tt; fits = is_a.fits }) (record { each = is_b.each; pointer = tt; fits = is_b.fits }) whole in
+    (ap (λ (o : Owner). o.labels) owner.0, owner.1)
+
 -- octets are one question
-pub one_question : (a b : List (List ℕ)) (at bt : RecordType) (ac bc : Class) (x y : List ℕ) → IsName a → IsName b → at.0 < 2 ^ 16 → bt.0 < 2 ^ 16 → ac.0 < 2 ^ 16 → bc.0 < 2 ^ 16 → question_octets a at ac ++ x ≡ question_octets b bt bc ++ y → (a ≡ b) × (at ≡ bt) × (ac ≡ bc) × (x ≡ y)
-one_question a b at bt ac bc x y is_a is_b fit_at fit_bt fit_ac fit_bc whole =
+pub one_question : (go : LabelsGoOn) (a b : List (List ℕ)) (at bt : RecordType) (ac bc : Class) (x y : List ℕ) → IsName a → IsName b → at.0 < 2 ^ 16 → bt.0 < 2 ^ 16 → ac.0 < 2 ^ 16 → bc.0 < 2 ^ 16 → question_octets a at ac ++ x ≡ question_octets b bt bc ++ y → (a ≡ b) × (at ≡ bt) × (ac ≡ bc) × (x ≡ y)
+one_question go a b at bt ac bc x y is_a is_b fit_at fit_bt fit_ac fit_bc whole =
     let regroup_a : question_octets a at ac ++ x ≡ wire_of a ++ (two_octets at.0 ++ (two_octets ac.0 ++ x)) = append_assoc (wire_of a) (two_octets at.0 ++ two_octets ac.0) x in
     let regroup_b : question_octets b bt bc ++ y ≡ wire_of b ++ (two_octets bt.0 ++ (two_octets bc.0 ++ y)) = append_assoc (wire_of b) (two_octets bt.0 ++ two_octets bc.0) y in
     let grouped : wire_of a ++ (two_octets at.0 ++ (two_octets ac.0 ++ x)) ≡ wire_of b ++ (two_octets bt.0 ++ (two_octets bc.0 ++ y)) = sym regroup_a ∙ whole ∙ regroup_b in
-    let name = one_name (wire_of a ++ (two_octets at.0 ++ (two_octets ac.0 ++ x))) a b (two_octets at.0 ++ (two_octets ac.0 ++ x)) (two_octets bt.0 ++ (two_octets bc.0 ++ y)) (record { is_name = is_a; parts = refl }) (record { is_name = is_b; parts = grouped }) in
+    let name = one_name go a b (two_octets at.0 ++ (two_octets ac.0 ++ x)) (two_octets bt.0 ++ (two_octets bc.0 ++ y)) is_a is_b grouped in
     let qtype = one_u16 at.0 bt.0 (two_octets ac.0 ++ x) (two_octets bc.0 ++ y) fit_at fit_bt name.1 in
     let qclass = one_u16 ac.0 bc.0 x y fit_ac fit_bc qtype.1 in
     (name.0, ap (λ (n : ℕ). record { 0 = n }) qtype.0, ap (λ (n : ℕ). record { 0 = n }) qclass.0, qclass.1)
@@ -141,12 +148,12 @@ same_message a b h n t k r e =
     ∙ ap (λ (x : List ℕ). record b { rest = x }) e
 
 -- bytes are the parts of one message
-pub one_layout : (bytes : List ℕ) (a b : Message) → Lays bytes a → Lays bytes b → a ≡ b
-one_layout bytes a b lays_a lays_b =
+pub one_layout : (go : LabelsGoOn) (bytes : List ℕ) (a b : Message) → Lays bytes a → Lays bytes b → a ≡ b
+one_layout go bytes a b lays_a lays_b =
     let header = one_header a.header b.header (question_octets a.name a.qtype a.qclass ++ (flat_map record_octets a.records ++ a.rest)) (question_octets b.name b.qtype b.qclass ++ (flat_map record_octets b.records ++ b.rest)) lays_a.header lays_b.header (sym lays_a.parts ∙ lays_b.parts) in
-    let question = one_question a.name b.name a.qtype b.qtype a.qclass b.qclass (flat_map record_octets a.records ++ a.rest) (flat_map record_octets b.records ++ b.rest) lays_a.name lays_b.name lays_a.qtype lays_b.qtype lays_a.qclass lays_b.qclass header.1 in
+    let question = one_question go a.name b.name a.qtype b.qtype a.qclass b.qclass (flat_map record_octets a.records ++ a.rest) (flat_map record_octets b.records ++ b.rest) lays_a.name lays_b.name lays_a.qtype lays_b.qtype lays_a.qclass lays_b.qclass header.1 in
     let many : length a.records ≡ length b.records = lays_a.number ∙ ap (λ (h : Header). count_of h) header.0 ∙ sym lays_b.number in
-    let records = one_list a.records b.records a.rest b.rest lays_a.each lays_b.each many question.3 in
+    let records = one_list go a.records b.records a.rest b.rest lays_a.each lays_b.each many question.3 in
     same_message a b header.0 question.0 question.1 question.2 records.0 records.1
 
 -- a message has a header
@@ -158,22 +165,22 @@ pub flags_there : (bytes : List ℕ) (m : Message) → Lays bytes m → number_a
 flags_there bytes m lays = ap (λ (xs : List ℕ). number_at xs 2) lays.parts ∙ from_be_bytes-to_be_bytes_2 m.header.flags.0 lays.header.flags
 
 -- bytes are the parts of a query in one way, and then they have no fault
-pub one_reading_of : (bytes : List ℕ) (a b : Result QueryView QueryFault) → Reads bytes a → Reads bytes b → a ≡ b
-one_reading_of bytes (Ok v) (Ok w) a b =
-    let same : a.0 ≡ b.0 = one_layout bytes a.0 b.0 a.1 b.1 in
+pub one_reading_of : (go : LabelsGoOn) (bytes : List ℕ) (a b : Result QueryView QueryFault) → Reads bytes a → Reads bytes b → a ≡ b
+one_reading_of go bytes (Ok v) (Ok w) a b =
+    let same : a.0 ≡ b.0 = one_layout go bytes a.0 b.0 a.1 b.1 in
     ap (λ (v : QueryView). Ok v) (a.3 ∙ ap (λ (m : Message). view_of m) same ∙ sym b.3)
-one_reading_of bytes (Ok v) (Err faults.Short) a b = absurd (omega (arith, lays_long bytes a.0 a.1))
-one_reading_of bytes (Ok v) (Err faults.NotQuery) a b = absurd (omega (arith, flags_there bytes a.0 a.1, a.2.flags))
-one_reading_of bytes (Ok v) (Err faults.Malformed) a b = absurd (b.2 a.0 a.1 a.2)
-one_reading_of bytes (Err faults.Short) (Ok w) a b = absurd (omega (arith, lays_long bytes b.0 b.1))
-one_reading_of bytes (Err faults.Short) (Err faults.Short) a b = refl
-one_reading_of bytes (Err faults.Short) (Err faults.NotQuery) a b = absurd (omega arith)
-one_reading_of bytes (Err faults.Short) (Err faults.Malformed) a b = absurd (omega arith)
-one_reading_of bytes (Err faults.NotQuery) (Ok w) a b = absurd (omega (arith, flags_there bytes b.0 b.1, b.2.flags))
-one_reading_of bytes (Err faults.NotQuery) (Err faults.Short) a b = absurd (omega arith)
-one_reading_of bytes (Err faults.NotQuery) (Err faults.NotQuery) a b = refl
-one_reading_of bytes (Err faults.NotQuery) (Err faults.Malformed) a b = absurd (omega arith)
-one_reading_of bytes (Err faults.Malformed) (Ok w) a b = absurd (a.2 b.0 b.1 b.2)
-one_reading_of bytes (Err faults.Malformed) (Err faults.Short) a b = absurd (omega arith)
-one_reading_of bytes (Err faults.Malformed) (Err faults.NotQuery) a b = absurd (omega arith)
-one_reading_of bytes (Err faults.Malformed) (Err faults.Malformed) a b = refl
+one_reading_of go bytes (Ok v) (Err faults.Short) a b = absurd (omega (arith, lays_long bytes a.0 a.1))
+one_reading_of go bytes (Ok v) (Err faults.NotQuery) a b = absurd (omega (arith, flags_there bytes a.0 a.1, a.2.flags))
+one_reading_of go bytes (Ok v) (Err faults.Malformed) a b = absurd (b.2 a.0 a.1 a.2)
+one_reading_of go bytes (Err faults.Short) (Ok w) a b = absurd (omega (arith, lays_long bytes b.0 b.1))
+one_reading_of go bytes (Err faults.Short) (Err faults.Short) a b = refl
+one_reading_of go bytes (Err faults.Short) (Err faults.NotQuery) a b = absurd (omega arith)
+one_reading_of go bytes (Err faults.Short) (Err faults.Malformed) a b = absurd (omega arith)
+one_reading_of go bytes (Err faults.NotQuery) (Ok w) a b = absurd (omega (arith, flags_there bytes b.0 b.1, b.2.flags))
+one_reading_of go bytes (Err faults.NotQuery) (Err faults.Short) a b = absurd (omega arith)
+one_reading_of go bytes (Err faults.NotQuery) (Err faults.NotQuery) a b = refl
+one_reading_of go bytes (Err faults.NotQuery) (Err faults.Malformed) a b = absurd (omega arith)
+one_reading_of go bytes (Err faults.Malformed) (Ok w) a b = absurd (a.2 b.0 b.1 b.2)
+one_reading_of go bytes (Err faults.Malformed) (Err faults.Short) a b = absurd (omega arith)
+one_reading_of go bytes (Err faults.Malformed) (Err faults.NotQuery) a b = absurd (omega arith)
+one_reading_of go bytes (Err faults.Malformed) (Err faults.Malformed) a b = refl
