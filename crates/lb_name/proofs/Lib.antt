@@ -1,6 +1,6 @@
-pub mod Names
-pub mod Passing
-pub mod Walking
-pub mod Lowering
-pub mod Pieces
-pub mod RoundTrip
+mod Names
+mod Passed
+mod FirstLabel
+mod LowerName
+mod CutAtDots
+mod TextReadsBack

@@ -7,6 +7,7 @@ use Rattle.std.specs.List.{AllByRecursion}
 use Rattle.std.specs.Char.{to_ascii_lowercase}
 use Rattle.lb_name.specs.Name.{IsLabel, label_octets, labels_octets, lower_name, wire_of, IsName, split_labels, labels_of, IsWire}
 use Rattle.lb_name.specs.Reading.{Begins, Stops, Faults}
+use Rattle.lb_name.specs.Laws.{NoLabel, GoesOn}
 use Rattle.lb_name.specs.declared.fault.NameFault.{NameFault}
 use Rattle.lb_name.specs.declared.fault.NameFault.TheVariants.{EmptyLabel, LongLabel, LongName, BadByte, Pointer, Cut}
 
@@ -106,17 +107,6 @@ IsName-lower labels name =
       each = each_lower labels name.each;
       fits = omega arith;
     }
-
--- the octets are no further label
-abbrev pub NoLabel : List ℕ → Type 0
-NoLabel tail = (n : ℕ) (more : List ℕ) → tail ≡ n ∷ more → 0 < n → n < 64 → ⊥
-
--- the labels are the front and others, and the others stand where the front ended
-pub record GoesOn (front labels : List (List ℕ)) (more tail : List ℕ) : Type 0 where
-  pub others : List (List ℕ)
-  pub each : AllByRecursion IsLabel others
-  pub whole : labels ≡ front ++ others
-  pub rest : more ≡ labels_octets others ++ tail
 
 -- octets that begin with labels, and are labels up to where no label stands, go on with labels
 pub goes_on : (front labels : List (List ℕ)) (more tail : List ℕ) → AllByRecursion IsLabel front → AllByRecursion IsLabel labels → NoLabel tail → labels_octets front ++ more ≡ labels_octets labels ++ tail → GoesOn front labels more tail

@@ -2,4 +2,4 @@ pub mod Name
 pub mod Fault
 pub mod Reading
 pub mod Text
-pub mod Pieces
+pub mod Laws

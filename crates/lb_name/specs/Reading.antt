@@ -1,5 +1,5 @@
 -- Reading a name from octets (RFC 1035 section 3.1), and what stops it.
-use Rattle.std.specs.Prelude.{◌≡◌, ℕ, ◌+◌, ◌<◌, ◌≤◌, List, [], ◌∷◌, ◌++◌, length}
+use Rattle.std.specs.Prelude.{◌≡◌, ℕ, ◌+◌, ◌<◌, ◌≤◌, List, [], ◌∷◌, ◌++◌, length, take}
 use Rattle.std.specs.List.{AllByRecursion}
 use Rattle.lb_name.specs.Name.{IsLabel, labels_octets, wire_of, IsName}
 use Rattle.lb_name.specs.declared.fault.NameFault.{NameFault}
@@ -30,6 +30,11 @@ pub record Faults (octets : List ℕ) (fault : NameFault) : Type 0 where
   pub parts : octets ≡ labels_octets labels ++ more
   pub stops : Stops labels more fault
 
--- the octets begin with one name at most, and one rest follows it
-abbrev pub BeginsOnce : List ℕ → Type 0
-BeginsOnce octets = (a b : List (List ℕ)) (x y : List ℕ) → Begins octets a x → Begins octets b y → (a ≡ b) × (x ≡ y)
+-- the octets up to a place are labels that could begin a name
+pub record Passed (octets : List ℕ) (place : ℕ) : Type 0 where
+  pub labels : List (List ℕ)
+  pub each : AllByRecursion IsLabel labels
+  pub fits : length (wire_of labels) ≤ 255
+  pub within : place ≤ length octets
+  pub long : place ≡ length (labels_octets labels)
+  pub front : take place octets ≡ labels_octets labels

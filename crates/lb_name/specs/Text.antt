@@ -1,9 +1,10 @@
 -- Names as text: labels joined by dots (RFC 1035 sections 2.3.1 and 5.1).
-use Rattle.std.specs.Prelude.{◌≡◌, ℕ, ◌-◌, ◌==◌, nat_lt, Bool, IsTrue, ◌&&◌, ◌||◌, if◌then◌else◌, Option, Some, None, Result, Ok, Err, List, [], ◌∷◌, ◌++◌, length, take, slice_index, codes}
+use Rattle.std.specs.Prelude.{ℕ, ◌-◌, ◌==◌, nat_lt, Bool, ◌&&◌, ◌||◌, if◌then◌else◌, Option, Some, None, Result, Ok, Err, List, [], ◌∷◌, ◌++◌, length, take, slice_index, codes}
 use Rattle.std.specs.Option.{option_or}
+use Rattle.std.specs.Borrow.{Bor}
 use Rattle.std.specs.List.{flat_map, list_all, slice_split}
 use Rattle.std.specs.Char.{is_ascii_alphanumeric}
-use Rattle.lb_name.specs.Name.{wire_of, IsName}
+use Rattle.lb_name.specs.Name.{wire_of}
 use Rattle.lb_name.specs.declared.fault.NameFault.{NameFault}
 use Rattle.lb_name.specs.declared.fault.NameFault.TheVariants.{EmptyLabel, LongLabel, LongName, BadByte}
 
@@ -23,6 +24,11 @@ is_dot b = b == 46
 -- what stands between the dots of a text: n dots give n + 1 pieces
 abbrev pub cut_at_dots : List ℕ → List (List ℕ)
 cut_at_dots text = slice_split is_dot text
+
+-- the pieces of what is left of a text, and none where nothing is left
+abbrev pub pieces_left : Option (Bor (List ℕ)) → List (List ℕ)
+pieces_left None = []
+pieces_left (Some text) = cut_at_dots text.now
 
 -- the text is a dot and nothing else
 abbrev pub is_dot_alone : List ℕ → Bool
@@ -65,7 +71,3 @@ label_text label = label ++ 46 ∷ []
 abbrev pub text_of : List (List ℕ) → List ℕ
 text_of [] = codes "."
 text_of (label ∷ labels) = flat_map label_text (label ∷ labels)
-
--- the text of a name of such bytes reads as that name
-abbrev pub ReadsBack : List (List ℕ) → Type 0
-ReadsBack labels = IsName labels → IsTrue (has_name_bytes labels) → name_of_text (text_of labels) ≡ Ok labels

@@ -9,5 +9,7 @@ mod name;
 mod text;
 
 pub use fault::NameFault;
-pub use laws::{one_name, text_round_trip};
-pub use name::Name;
+pub use laws::{
+    label_is_passed, labels_go_on, lowers_on_wire, one_name, splits_back, text_reads_back,
+};
+pub use name::{LABEL_END, MAX_NAME, Name, POINTER};

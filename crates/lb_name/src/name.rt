@@ -22,10 +22,10 @@ pub const MAX_NAME: usize = 255;
 const MAX_TEXT: usize = MAX_NAME - 2;
 
 /// The first length octet that is none: a label has at most 63 octets (RFC 1035 section 2.3.4).
-const LABEL_END: u8 = 64;
+pub const LABEL_END: u8 = 64;
 
 /// The first octet of a compression pointer: its top two bits are set (RFC 1035 section 4.1.4).
-const POINTER: u8 = 192;
+pub const POINTER: u8 = 192;
 
 /// A domain name: its labels as they were spelled, at most 255 octets on the wire. A contract sees it as the list of
 /// its labels.
@@ -111,6 +111,25 @@ impl Name {
             },
             at + len,
         ))
+    }
+
+    /// The place after the name that stands at a place of a message: what `read` gives, where the name itself is not
+    /// wanted.
+    pub fn skip(octets: &[u8], at: usize) -> Result<usize, NameFault>
+        // what is passed stands there
+        ensures found { IfOk result (λ end. (labels : List (List ℕ)) × (rest : List ℕ) × Begins (drop at octets.now) labels rest × (end ≡ at + length (wire_of labels))) }
+        ensures within { IfOk result (λ end. end ≤ length octets.now) }
+        // what stands there is passed
+        ensures only { (labels : List (List ℕ)) (rest : List ℕ) → Begins (drop at octets.now) labels rest → IfOk result (λ end. end ≡ at + length (wire_of labels)) × IfErr result (λ _. ⊥) }
+        // the fault is the first that applies
+        ensures fault { IfErr result (Faults (drop at octets.now)) }
+    {
+        if octets.len() < at {
+            return Err(NameFault::Cut);
+        }
+        let (_, there) = octets.split_at(at);
+        let len = name_len(there)?;
+        Ok(at + len)
     }
 
     /// Reads a text: labels of letters, digits, `-`, `_` and `*`, joined by dots (RFC 1035 section 2.3.1). One dot may

@@ -5,8 +5,7 @@ ghost use Rattle.std.specs.List.{list_all};
 ghost use Rattle.arrayvec.specs.ArrayVec.{array_vec_len};
 ghost use Rattle.arrayvec.specs.ArrayString.{array_string_len};
 ghost use Rattle.lb_name.specs.Name.{wire_of, label_octets};
-ghost use Rattle.lb_name.specs.Text.{is_name_byte, is_dot, cut_at_dots, is_dot_alone, without_end_dot, label_fault, first_fault, label_text};
-ghost use Rattle.lb_name.specs.Pieces.{pieces_left};
+ghost use Rattle.lb_name.specs.Text.{is_name_byte, is_dot, cut_at_dots, pieces_left, is_dot_alone, without_end_dot, label_fault, first_fault, label_text};
 
 use crate::fault::NameFault;
 use crate::name::MAX_NAME;

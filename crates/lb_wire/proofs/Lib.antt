@@ -1,12 +1,13 @@
-pub mod Parts
-pub mod Once
-pub mod Owners
-pub mod Walks
-pub mod Tallies
-pub mod Layouts
-pub mod Made
-pub mod Edits
-pub mod Ages
-pub mod Lives
-pub mod Spoofs
-pub mod Keys
+mod Lists
+mod Questions
+mod OneMessage
+mod Owners
+mod Holds
+mod Tallies
+mod Lays
+mod Made
+mod Respelled
+mod Aged
+mod Outlives
+mod Spoofs
+mod Keys

@@ -2,6 +2,7 @@
 use Rattle.std.proofs.Common.{◌≡◌, ℕ, ◌+◌, ◌≤◌, true, List, [], ◌∷◌, ◌++◌, length, take, drop, Option, None, Some, sym, ◌∙◌, ap, arith}
 use Rattle.std.proofs.lemmas.List.{append_assoc, length-append, take_at}
 use Rattle.std.specs.List.{flat_map}
+use Rattle.lb_name.specs.Laws.{LabelsGoOn}
 use Rattle.lb_wire.specs.Record.{end_octets, Record, record_octets}
 use Rattle.lb_wire.specs.Opt.{opts, first_opt, opt_record, opt_octets, opt_number}
 use Rattle.lb_wire.specs.Message.{Message, Lays, header_octets, question_octets}
@@ -12,7 +13,7 @@ use Rattle.lb_wire.specs.declared.header.Header.{Header}
 use Rattle.lb_wire.specs.declared.flags.Flags.{Flags}
 use Rattle.lb_wire.specs.declared.query.QueryView.{QueryView}
 use Rattle.lb_wire.specs.declared.opt.Opt.{Opt}
-use Rattle.lb_wire.proofs.Once.{one_layout}
+use Rattle.lb_wire.proofs.OneMessage.{one_layout}
 use Rattle.lb_wire.proofs.Owners.{end_long}
 use Rattle.lb_wire.proofs.Tallies.{two_many}
 
@@ -50,9 +51,9 @@ pub made_there : (bytes piece : List ℕ) (m : Message) (end : ℕ) → Lays byt
 made_there bytes piece m end lays ends = ap (λ (xs : List ℕ). drop 12 (xs ++ piece)) (cut_there bytes m end lays ends)
 
 -- a message with two OPT records is no query
-pub not_twice : (bytes : List ℕ) (m other : Message) → Lays bytes m → is_two (opts m.records) ≡ true → Lays bytes other → length (opts other.records) ≤ 1 → ⊥
-not_twice bytes m other lays two lays_other few =
-    let same = one_layout bytes m other lays lays_other in
+pub not_twice : (go : LabelsGoOn) (bytes : List ℕ) (m other : Message) → Lays bytes m → is_two (opts m.records) ≡ true → Lays bytes other → length (opts other.records) ≤ 1 → ⊥
+not_twice go bytes m other lays two lays_other few =
+    let same = one_layout go bytes m other lays lays_other in
     two_many (opts other.records) (ap (λ (m : Message). is_two (opts m.records)) (sym same) ∙ two) few
 
 -- there is room for the OPT of the answer

@@ -1,13 +1,17 @@
 -- The owner of a record, where labels of it have been passed.
-use Rattle.std.proofs.Common.{◌≡◌, ℕ, ◌+◌, ◌-◌, ◌*◌, ◌/◌, ◌%◌, ◌<◌, ◌≤◌, ◌^◌, ◌⊎◌, inl, inr, List, [], ◌∷◌, ◌++◌, length, drop, Option, None, Some, refl, sym, ◌∙◌, ap, arith}
-use Rattle.std.proofs.lemmas.List.{append_assoc, length-append, length-drop}
+use Rattle.std.proofs.Common.{◌≡◌, ℕ, ◌+◌, ◌-◌, ◌*◌, ◌/◌, ◌%◌, ◌<◌, ◌≤◌, ◌^◌, ◌⊎◌, inl, inr, List, [], ◌∷◌, ◌++◌, length, take, drop, Option, None, Some, refl, sym, ◌∙◌, ap, arith}
+use Rattle.std.proofs.lemmas.List.{append_assoc, length-append, length-drop, take-append-drop}
 use Rattle.std.proofs.lemmas.Grind.{flat_map-append}
 use Rattle.std.specs.List.{AllByRecursion}
 use Rattle.lb_name.specs.Name.{IsLabel, labels_octets}
-use Rattle.lb_name.proofs.Names.{goes_on}
-use Rattle.lb_name.proofs.Passing.{Passed, Passed-whole}
+use Rattle.lb_name.specs.Reading.{Passed}
+use Rattle.lb_name.specs.Laws.{LabelsGoOn}
 use Rattle.lb_wire.specs.Record.{Owner, end_octets, owner_octets, IsPointer, IsOwner}
-use Rattle.lb_wire.proofs.Once.{NoLabel-end}
+use Rattle.lb_wire.proofs.OneMessage.{NoLabel-end}
+
+-- what is passed, and the octets from there on, are the whole
+Passed-whole : (octets : List ℕ) (place : ℕ) (passed : Passed octets place) → octets ≡ labels_octets passed.labels ++ drop place octets
+Passed-whole octets place passed = sym (take-append-drop place octets) ∙ ap (λ (xs : List ℕ). xs ++ drop place octets) passed.front
 
 -- how an owner goes on at an octet and what follows it: it ends with the root, or with a pointer, or a label stands there
 abbrev pub GoesOnAt : ℕ → ℕ → List ℕ → Type 0
@@ -42,24 +46,24 @@ owner_rest place front (label ∷ others) pointer rest there long each fits is =
     }
 
 -- where labels of an owner have been passed, the owner goes on
-owner_next : (octets : List ℕ) (place : ℕ) → Passed octets place → (owner : Owner) (rest : List ℕ) → IsOwner owner → octets ≡ owner_octets owner ++ rest → OwnerAt (drop place octets) place
-owner_next octets place passed owner rest is whole =
+owner_next : (go : LabelsGoOn) (octets : List ℕ) (place : ℕ) → Passed octets place → (owner : Owner) (rest : List ℕ) → IsOwner owner → octets ≡ owner_octets owner ++ rest → OwnerAt (drop place octets) place
+owner_next go octets place passed owner rest is whole =
     let grouped : labels_octets passed.labels ++ drop place octets ≡ labels_octets owner.labels ++ (end_octets owner.pointer ++ rest) =
     sym (Passed-whole octets place passed) ∙ whole ∙ append_assoc (labels_octets owner.labels) (end_octets owner.pointer) rest in
-    let on = goes_on passed.labels owner.labels (drop place octets) (end_octets owner.pointer ++ rest) passed.each is.each (NoLabel-end owner.pointer rest) grouped in
+    let on = go passed.labels owner.labels (drop place octets) (end_octets owner.pointer ++ rest) passed.each is.each (NoLabel-end owner.pointer rest) grouped in
     owner_rest place passed.labels on.others owner.pointer rest (drop place octets) passed.long on.each (rw on.whole at is.fits) on.rest
 
 -- where the octets end, no owner stands
-pub no_owner_cut : (octets : List ℕ) (place : ℕ) → Passed octets place → length octets ≤ place → (owner : Owner) (rest : List ℕ) → IsOwner owner → octets ≡ owner_octets owner ++ rest → ⊥
-no_owner_cut octets place passed short owner rest is whole =
-    let at = owner_next octets place passed owner rest is whole in
+pub no_owner_cut : (go : LabelsGoOn) (octets : List ℕ) (place : ℕ) → Passed octets place → length octets ≤ place → (owner : Owner) (rest : List ℕ) → IsOwner owner → octets ≡ owner_octets owner ++ rest → ⊥
+no_owner_cut go octets place passed short owner rest is whole =
+    let at = owner_next go octets place passed owner rest is whole in
     let long : length (drop place octets) ≡ 1 + length at.more = ap (λ (xs : List ℕ). length xs) at.here ∙ omega arith in
     omega (arith, long, length-drop place octets)
 
 -- where an owner cannot go on, none stands
-pub no_owner : (octets : List ℕ) (place n : ℕ) (more : List ℕ) → Passed octets place → drop place octets ≡ n ∷ more → (GoesOnAt place n more → ⊥) → (owner : Owner) (rest : List ℕ) → IsOwner owner → octets ≡ owner_octets owner ++ rest → ⊥
-no_owner octets place n more passed here none owner rest is whole =
-    let at = owner_next octets place passed owner rest is whole in
+pub no_owner : (go : LabelsGoOn) (octets : List ℕ) (place n : ℕ) (more : List ℕ) → Passed octets place → drop place octets ≡ n ∷ more → (GoesOnAt place n more → ⊥) → (owner : Owner) (rest : List ℕ) → IsOwner owner → octets ≡ owner_octets owner ++ rest → ⊥
+no_owner go octets place n more passed here none owner rest is whole =
+    let at = owner_next go octets place passed owner rest is whole in
     let same : at.n ≡ n = cc (at.here, here) in
     let tails : at.more ≡ more = cc (at.here, here) in
     none (rw (same, tails) at at.way)

@@ -1,8 +1,21 @@
--- Records of a message, some seconds later.
-use Rattle.std.specs.Prelude.{◌≡◌, ℕ, List, ◌++◌, take, map}
+-- Messages some seconds later.
+use Rattle.std.specs.Prelude.{◌≡◌, ℕ, ◌-◌, ◌≤◌, false, List, ◌++◌, take, map, if◌then◌else◌}
 use Rattle.std.specs.List.{flat_map}
 use Rattle.lb_wire.specs.Record.{Record, record_octets}
-use Rattle.lb_wire.specs.Reply.{aged_record}
+use Rattle.lb_wire.specs.Opt.{is_opt, ttl_value}
+use Rattle.lb_wire.specs.Message.{Message}
+
+-- the record lives so many seconds at least, or is an OPT
+abbrev pub Outlives : ℕ → Record → Type 0
+Outlives secs r = is_opt r ≡ false → secs ≤ ttl_value r.ttl
+
+-- the record so many seconds later: its TTL is lowered, unless it is an OPT
+abbrev pub aged_record : ℕ → Record → Record
+aged_record secs r = record r { ttl = if is_opt r then r.ttl else r.ttl - secs }
+
+-- the message so many seconds later
+abbrev pub aged : ℕ → Message → Message
+aged secs m = record m { records = map (aged_record secs) m.records }
 
 -- the records that stood at a place are so many seconds older; all before and behind them is as it was
 abbrev pub Aged : List ℕ → ℕ → ℕ → List Record → List ℕ → List ℕ → Type 0

@@ -1,7 +1,7 @@
 -- Answers that the balancer makes by itself (RFC 1035 section 4.1, RFC 6891 section 6.1.1).
 use Rattle.std.specs.Prelude.{ℕ, List, [], ◌++◌, length, Bool, Some, ◌==◌, ◌||◌, map, filter}
 use Rattle.std.specs.List.{flat_map}
-use Rattle.lb_wire.specs.Words.{word_at}
+use Rattle.lb_wire.specs.BigEndian.{number_at}
 use Rattle.lb_wire.specs.Flags.{answer_flags}
 use Rattle.lb_wire.specs.Record.{Owner, Record, record_octets}
 use Rattle.lb_wire.specs.Opt.{opt_octets, opt_number}
@@ -30,7 +30,7 @@ truncated_of view = made_of view (answer_flags view.flags.0 1 0)
 
 -- the answer to a malformed query: a bare header with RCODE 1
 abbrev pub formerr_of : List ℕ → List ℕ
-formerr_of bytes = header_octets (made_header (word_at bytes 0) (record { 0 = answer_flags (word_at bytes 2) 0 1 }) 0 0 0)
+formerr_of bytes = header_octets (made_header (number_at bytes 0) (record { 0 = answer_flags (number_at bytes 2) 0 1 }) 0 0 0)
 
 -- an owner that points to the question name, which stands at octet 12 (RFC 1035 section 4.1.4)
 abbrev pub asked_owner : Owner

@@ -2,7 +2,10 @@
 use Rattle.std.specs.Prelude.{ℕ, List, drop}
 use Rattle.lb_name.specs.Name.{lower_name}
 use Rattle.lb_wire.specs.Message.{Message, message_octets}
-use Rattle.lb_wire.specs.Reply.{with_name}
+
+-- the message with another spelling of its question name
+abbrev pub with_name : List (List ℕ) → Message → Message
+with_name name m = record m { name = name }
 
 -- the message without its ID, with its question name in lower case
 abbrev pub key_octets : Message → List ℕ

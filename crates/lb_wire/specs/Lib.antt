@@ -1,11 +1,12 @@
 pub use Rattle.lb_name.specs.Name
 pub use Rattle.lb_name.specs.Reading
-pub mod Words
+pub mod BigEndian
 pub mod Numbers
 pub mod Flags
 pub mod Record
 pub mod Opt
 pub mod Message
+pub mod Question
 pub mod Tally
 pub mod Query
 pub mod Answer

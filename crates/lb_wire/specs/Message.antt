@@ -2,7 +2,7 @@
 use Rattle.std.specs.Prelude.{◌≡◌, ℕ, ◌+◌, ◌<◌, ◌^◌, List, ◌++◌, length}
 use Rattle.std.specs.List.{flat_map, AllByRecursion}
 use Rattle.lb_name.specs.Name.{wire_of, IsName}
-use Rattle.lb_wire.specs.Words.{word}
+use Rattle.lb_wire.specs.BigEndian.{two_octets}
 use Rattle.lb_wire.specs.Record.{Record, record_octets, IsRecord}
 use Rattle.lb_wire.specs.declared.header.Header.{Header}
 use Rattle.lb_wire.specs.declared.record_type.RecordType.{RecordType}
@@ -10,7 +10,7 @@ use Rattle.lb_wire.specs.declared.record_type.Class.{Class}
 
 -- the header on the wire: six numbers (section 4.1.1)
 abbrev pub header_octets : Header → List ℕ
-header_octets h = word h.id ++ (word h.flags.0 ++ (word h.questions ++ (word h.answers ++ (word h.authorities ++ word h.additionals))))
+header_octets h = two_octets h.id ++ (two_octets h.flags.0 ++ (two_octets h.questions ++ (two_octets h.answers ++ (two_octets h.authorities ++ two_octets h.additionals))))
 
 -- the numbers of a header fit their octets
 pub record IsHeader (h : Header) : Type 0 where
@@ -27,7 +27,7 @@ count_of h = h.answers + h.authorities + h.additionals
 
 -- a question on the wire: a name without a pointer, a type and a class (section 4.1.2)
 abbrev pub question_octets : List (List ℕ) → RecordType → Class → List ℕ
-question_octets name qtype qclass = wire_of name ++ (word qtype.0 ++ word qclass.0)
+question_octets name qtype qclass = wire_of name ++ (two_octets qtype.0 ++ two_octets qclass.0)
 
 -- the parts of a message
 pub record Message : Type 0 where

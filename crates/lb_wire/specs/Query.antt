@@ -1,6 +1,6 @@
 -- The layout of a query (RFC 1035 section 4.1, RFC 6891 section 6.1.1), and what bytes read as.
 use Rattle.std.specs.Prelude.{◌≡◌, ℕ, ◌+◌, ◌<◌, ◌≤◌, ◌^◌, List, length, Result, Ok, Err}
-use Rattle.lb_wire.specs.Words.{word_at}
+use Rattle.lb_wire.specs.BigEndian.{number_at}
 use Rattle.lb_wire.specs.Message.{Message, Lays, question_octets}
 use Rattle.lb_wire.specs.Opt.{opts, first_opt}
 use Rattle.lb_wire.specs.declared.query.QueryView.{QueryView}
@@ -29,8 +29,8 @@ view_of m = record {
 abbrev pub Reads : List ℕ → Result QueryView QueryFault → Type 0
 Reads bytes (Ok view) = (m : Message) × Lays bytes m × IsQuery m × (view ≡ view_of m)
 Reads bytes (Err faults.Short) = length bytes < 12
-Reads bytes (Err faults.NotQuery) = (12 ≤ length bytes) × (2 ^ 15 ≤ word_at bytes 2)
-Reads bytes (Err faults.Malformed) = (12 ≤ length bytes) × (word_at bytes 2 < 2 ^ 15) × ((m : Message) → Lays bytes m → IsQuery m → ⊥)
+Reads bytes (Err faults.NotQuery) = (12 ≤ length bytes) × (2 ^ 15 ≤ number_at bytes 2)
+Reads bytes (Err faults.Malformed) = (12 ≤ length bytes) × (number_at bytes 2 < 2 ^ 15) × ((m : Message) → Lays bytes m → IsQuery m → ⊥)
 
 -- bytes read in at most one way
 abbrev pub OneReading : Type 0

@@ -1,8 +1,8 @@
 -- Resource records (RFC 1035 sections 4.1.3 and 4.1.4).
-use Rattle.std.specs.Prelude.{ℕ, ◌+◌, ◌/◌, ◌%◌, ◌^◌, ◌<◌, ◌≤◌, List, [], ◌∷◌, ◌++◌, length, Option, None, Some}
-use Rattle.std.specs.List.{AllByRecursion}
+use Rattle.std.specs.Prelude.{◌≡◌, ℕ, ◌+◌, ◌/◌, ◌%◌, ◌^◌, ◌<◌, ◌≤◌, List, [], ◌∷◌, ◌++◌, length, Option, None, Some}
+use Rattle.std.specs.List.{flat_map, AllByRecursion}
 use Rattle.lb_name.specs.Name.{IsLabel, labels_octets}
-use Rattle.lb_wire.specs.Words.{word, long}
+use Rattle.lb_wire.specs.BigEndian.{two_octets, four_octets}
 
 -- the owner of a record: labels, then the root or a pointer, which is never followed (section 4.1.4)
 pub record Owner : Type 0 where
@@ -39,7 +39,7 @@ pub record Record : Type 0 where
 
 -- TYPE, CLASS, TTL and RDLENGTH on the wire
 abbrev pub fixed_octets : Record → List ℕ
-fixed_octets r = word r.rtype ++ (word r.class ++ (long r.ttl ++ word (length r.rdata)))
+fixed_octets r = two_octets r.rtype ++ (two_octets r.class ++ (four_octets r.ttl ++ two_octets (length r.rdata)))
 
 -- a record on the wire
 abbrev pub record_octets : Record → List ℕ
@@ -52,3 +52,9 @@ pub record IsRecord (r : Record) : Type 0 where
   pub class : r.class < 2 ^ 16
   pub ttl : r.ttl < 2 ^ 32
   pub rdata : length r.rdata < 2 ^ 16
+
+-- so many records stand at the front of the octets, and the rest behind them
+pub record Holds (count : ℕ) (octets : List ℕ) (records : List Record) (rest : List ℕ) : Type 0 where
+  pub each : AllByRecursion IsRecord records
+  pub number : length records ≡ count
+  pub parts : octets ≡ flat_map record_octets records ++ rest

@@ -1,24 +1,16 @@
--- Replies (RFC 1035 section 4.1): their header and question, what their records live, and what is changed in them.
-use Rattle.std.specs.Prelude.{◌≡◌, ℕ, ◌-◌, ◌<◌, ◌≤◌, ◌^◌, false, List, ◌++◌, length, take, drop, map, Option, None, Some, Result, Ok, Err, ◌==◌, if◌then◌else◌}
-use Rattle.lb_name.specs.Name.{IsName}
-use Rattle.lb_wire.specs.Words.{word_at}
+-- Replies (RFC 1035 section 4.1): their header and question, and how long their records live.
+use Rattle.std.specs.Prelude.{◌≡◌, ℕ, ◌<◌, ◌≤◌, ◌^◌, List, length, take, drop, Option, None, Some, Result, Ok, Err, ◌==◌}
+use Rattle.lb_wire.specs.BigEndian.{number_at}
 use Rattle.lb_wire.specs.Flags.{opcode_of, tc_of, rcode_of}
 use Rattle.lb_wire.specs.Numbers.{opcode_number, rcode_number}
-use Rattle.lb_wire.specs.Record.{Record}
-use Rattle.lb_wire.specs.Opt.{is_opt, ttl_value, least_ttl}
-use Rattle.lb_wire.specs.Message.{Message, Lays, question_octets}
+use Rattle.lb_wire.specs.Opt.{least_ttl}
+use Rattle.lb_wire.specs.Message.{Message, Lays}
+use Rattle.lb_wire.specs.Question.{Asks}
 use Rattle.lb_wire.specs.declared.question.Question.{Question}
 use Rattle.lb_wire.specs.declared.reply.ReplyView.{ReplyView}
 use Rattle.lb_wire.specs.declared.reply.ReplyFault.{ReplyFault}
 use Rattle.lb_wire.specs.declared.reply.ReplyFault.TheVariants as faults
 use Rattle.lb_wire.specs.declared.tally.Survey.{Survey}
-
--- the octets begin with this question
-pub record Asks (octets : List ℕ) (q : Question) (rest : List ℕ) : Type 0 where
-  pub name : IsName q.name
-  pub qtype : q.qtype.0 < 2 ^ 16
-  pub qclass : q.qclass.0 < 2 ^ 16
-  pub parts : octets ≡ question_octets q.name q.qtype q.qclass ++ rest
 
 -- the question that a reply with this QDCOUNT repeats: there exactly where QDCOUNT is not 0 and one stands there
 abbrev pub Repeats : List ℕ → ℕ → Option Question → Type 0
@@ -28,19 +20,19 @@ Repeats octets questions None = 0 < questions → (q : Question) (rest : List �
 -- the header and the question of a reply
 pub record Replies (bytes : List ℕ) (view : ReplyView) : Type 0 where
   pub long : 12 ≤ length bytes
-  pub response : 2 ^ 15 ≤ word_at bytes 2
-  pub id : view.id ≡ word_at bytes 0
-  pub opcode : opcode_number view.opcode ≡ opcode_of (word_at bytes 2)
-  pub truncated : view.truncated ≡ (tc_of (word_at bytes 2) == 1)
-  pub rcode : rcode_number view.rcode ≡ rcode_of (word_at bytes 2)
-  pub questions : view.questions ≡ word_at bytes 4
+  pub response : 2 ^ 15 ≤ number_at bytes 2
+  pub id : view.id ≡ number_at bytes 0
+  pub opcode : opcode_number view.opcode ≡ opcode_of (number_at bytes 2)
+  pub truncated : view.truncated ≡ (tc_of (number_at bytes 2) == 1)
+  pub rcode : rcode_number view.rcode ≡ rcode_of (number_at bytes 2)
+  pub questions : view.questions ≡ number_at bytes 4
   pub question : Repeats (drop 12 bytes) view.questions view.question
 
 -- what the bytes read as: a reply; or Short, with fewer than 12 octets; or NotReply, where QR is 0
 abbrev pub ReadsReply : List ℕ → Result ReplyView ReplyFault → Type 0
 ReadsReply bytes (Ok view) = Replies bytes view
 ReadsReply bytes (Err faults.Short) = length bytes < 12
-ReadsReply bytes (Err faults.NotReply) = (12 ≤ length bytes) × (word_at bytes 2 < 2 ^ 15)
+ReadsReply bytes (Err faults.NotReply) = (12 ≤ length bytes) × (number_at bytes 2 < 2 ^ 15)
 
 -- the least TTLs of a message: of all its records, and of its answer section; OPT is left aside
 abbrev pub survey_of : Message → Survey
@@ -50,19 +42,3 @@ survey_of m = record { least_all = least_ttl m.records; least_answer = least_ttl
 abbrev pub Surveys : List ℕ → Option Survey → Type 0
 Surveys bytes (Some survey) = (m : Message) × Lays bytes m × (survey ≡ survey_of m)
 Surveys bytes None = (m : Message) → Lays bytes m → ⊥
-
--- the record lives so many seconds at least, or is an OPT
-abbrev pub Outlives : ℕ → Record → Type 0
-Outlives secs r = is_opt r ≡ false → secs ≤ ttl_value r.ttl
-
--- the record so many seconds later: its TTL is lowered, unless it is an OPT
-abbrev pub aged_record : ℕ → Record → Record
-aged_record secs r = record r { ttl = if is_opt r then r.ttl else r.ttl - secs }
-
--- the message so many seconds later
-abbrev pub aged : ℕ → Message → Message
-aged secs m = record m { records = map (aged_record secs) m.records }
-
--- the message with another spelling of its question name
-abbrev pub with_name : List (List ℕ) → Message → Message
-with_name name m = record m { name = name }

@@ -1,7 +1,6 @@
 -- What a walk over records gathers.
-use Rattle.std.specs.Prelude.{◌≡◌, ℕ, ◌/◌, ◌%◌, ◌^◌, Bool, true, false, List, [], ◌∷◌, ◌++◌, length, None, Some, is_some, ◌==◌, ◌&&◌, ◌||◌, if◌then◌else◌}
-use Rattle.std.specs.List.{flat_map, AllByRecursion}
-use Rattle.lb_wire.specs.Record.{Record, record_octets, IsRecord}
+use Rattle.std.specs.Prelude.{ℕ, ◌/◌, ◌%◌, ◌^◌, Bool, true, false, List, [], ◌∷◌, None, Some, is_some, ◌==◌, ◌&&◌, ◌||◌, if◌then◌else◌}
+use Rattle.lb_wire.specs.Record.{Record}
 use Rattle.lb_wire.specs.Opt.{opts, first_opt, least_ttl, ttl_value, lesser}
 use Rattle.lb_wire.specs.declared.tally.Tally.{Tally}
 
@@ -26,9 +25,3 @@ both_of a b = record {
   twice = a.twice || b.twice || (is_some a.opt && is_some b.opt);
   least = lesser a.least b.least;
 }
-
--- so many records stand at the front of the octets, and the rest behind them
-pub record Holds (count : ℕ) (octets : List ℕ) (records : List Record) (rest : List ℕ) : Type 0 where
-  pub each : AllByRecursion IsRecord records
-  pub number : length records ≡ count
-  pub parts : octets ≡ flat_map record_octets records ++ rest

@@ -2,17 +2,16 @@
 
 ghost use Rattle.std.specs.Prelude.{◌≡◌, ℕ, ◌+◌, ◌≤◌, List, ◌++◌, take, drop, length};
 ghost use Rattle.std.specs.List.{AllByRecursion};
-ghost use Rattle.lb_wire.specs.Record.{Record, IsRecord, record_octets};
+ghost use Rattle.lb_wire.specs.Record.{Record, IsRecord, record_octets, Holds};
 ghost use Rattle.lb_wire.specs.Message.{Message, Lays, message_octets};
-ghost use Rattle.lb_wire.specs.Reply.{Outlives, aged_record, aged};
-ghost use Rattle.lb_wire.specs.Tally.{Holds};
-ghost use Rattle.lb_wire.specs.Aging.{Aged};
+ghost use Rattle.lb_wire.specs.Aging.{Outlives, aged_record, aged, Aged};
 
 use crate::header::{HEADER_LEN, read_header};
-use crate::question::read_question;
+use crate::octets::overwrite;
+use crate::question::skip_question;
 use crate::record::read_record;
 use crate::record_type::RecordType;
-use crate::reply::put;
+use lb_name::labels_go_on;
 
 /// Lowers each TTL by so many seconds, which every record outlives; the TTL field of an OPT is no time and stays
 /// (RFC 6891 section 6.1.3). By 0 seconds no octet changes.
@@ -20,8 +19,10 @@ pub fn age(bytes: &mut [u8], secs: u32)
     requires { (m : Message) × Lays bytes.old m × AllByRecursion (Outlives secs) m.records }
     ensures { (m : Message) → Lays bytes.old m → bytes.new ≡ message_octets (aged secs m) }
 {
+    // a law: the call does nothing
+    labels_go_on();
     let header = read_header(bytes);
-    let Some((_, question_end)) = read_question(bytes, HEADER_LEN) else {
+    let Some(question_end) = skip_question(bytes, HEADER_LEN) else {
         unreachable!();
     };
     let count = u32::from(header.answers)
@@ -49,11 +50,13 @@ fn age_record(bytes: &mut [u8], at: usize, secs: u32) -> usize
     ensures aged { (r : Record) (rest : List ℕ) → IsRecord r → drop at bytes.old ≡ record_octets r ++ rest → (bytes.new ≡ take at bytes.old ++ (record_octets (aged_record secs r) ++ rest)) × (result ≡ at + length (record_octets r)) }
     ensures within { (result ≤ length bytes.old) × (length bytes.new ≡ length bytes.old) }
 {
+    // a law: the call does nothing
+    labels_go_on();
     let Some(spot) = read_record(bytes, at) else {
         unreachable!();
     };
     if spot.rtype.0 != RecordType::OPT.0 {
-        put(bytes, spot.ttl_at, &(spot.ttl - secs).to_be_bytes());
+        overwrite(bytes, spot.ttl_at, &(spot.ttl - secs).to_be_bytes());
     }
     spot.end
 }

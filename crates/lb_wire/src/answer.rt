@@ -1,6 +1,6 @@
 //! Answers that are made in a query's own bytes.
 
-ghost use Rattle.std.specs.Prelude.{◌≡◌, ◌+◌, ◌≤◌, ◌++◌, take, drop, vec_len, length};
+ghost use Rattle.std.specs.Prelude.{◌≡◌, ◌+◌, ◌≤◌, ◌++◌, take, vec_len, vec_capacity, length};
 ghost use Rattle.lb_wire.specs.Numbers.{rcode_number};
 ghost use Rattle.lb_wire.specs.Record.{record_octets};
 ghost use Rattle.lb_wire.specs.Opt.{opt_record, opt_number};
@@ -8,12 +8,13 @@ ghost use Rattle.lb_wire.specs.Message.{Message, Lays};
 ghost use Rattle.lb_wire.specs.Query.{IsQuery, view_of};
 ghost use Rattle.lb_wire.specs.Answer.{made_of, refusal_of, truncated_of, formerr_of, made_header as made_header_of};
 
+use crate::big_endian::read_u16;
 use crate::flags::Flags;
 use crate::header::{HEADER_LEN, Header, put_header};
+use crate::octets::overwrite;
 use crate::opt::Opt;
 use crate::query::QueryView;
 use crate::rcode::Rcode;
-use crate::words::read_word;
 
 /// How many octets the OPT of a made answer has.
 pub(crate) const OPT_LEN: usize = 11;
@@ -22,7 +23,8 @@ pub(crate) const OPT_LEN: usize = 11;
 /// of made answers, the question octet for octet, and an OPT if the query had one. It takes no memory.
 pub fn answer_in_place(bytes: &mut Vec<u8>, view: &QueryView, rcode: Rcode)
     requires { (m : Message) × Lays bytes.old.items m × IsQuery m × (view.now ≡ view_of m) }
-    ensures { bytes.new.items ≡ refusal_of view.now (rcode_number rcode) }
+    ensures octets { bytes.new.items ≡ refusal_of view.now (rcode_number rcode) }
+    ensures room { vec_capacity bytes.new ≡ vec_capacity bytes.old }
 {
     make_in_place(bytes, view, view.flags.answer(false, rcode));
 }
@@ -31,7 +33,8 @@ pub fn answer_in_place(bytes: &mut Vec<u8>, view: &QueryView, rcode: Rcode)
 /// no memory.
 pub fn truncated_in_place(bytes: &mut Vec<u8>, view: &QueryView)
     requires { (m : Message) × Lays bytes.old.items m × IsQuery m × (view.now ≡ view_of m) }
-    ensures { bytes.new.items ≡ truncated_of view.now }
+    ensures octets { bytes.new.items ≡ truncated_of view.now }
+    ensures room { vec_capacity bytes.new ≡ vec_capacity bytes.old }
 {
     make_in_place(bytes, view, view.flags.answer(true, Rcode::NoError));
 }
@@ -40,10 +43,11 @@ pub fn truncated_in_place(bytes: &mut Vec<u8>, view: &QueryView)
 /// takes no memory.
 pub fn formerr_in_place(bytes: &mut Vec<u8>)
     requires { 12 ≤ vec_len bytes.old }
-    ensures { bytes.new.items ≡ formerr_of bytes.old.items }
+    ensures octets { bytes.new.items ≡ formerr_of bytes.old.items }
+    ensures room { vec_capacity bytes.new ≡ vec_capacity bytes.old }
 {
-    let id = read_word(bytes.as_slice(), 0);
-    let flags = Flags(read_word(bytes.as_slice(), 2));
+    let id = read_u16(bytes.as_slice(), 0);
+    let flags = Flags(read_u16(bytes.as_slice(), 2));
     bytes.truncate(HEADER_LEN);
     put_header(
         bytes,
@@ -51,15 +55,16 @@ pub fn formerr_in_place(bytes: &mut Vec<u8>)
     );
 }
 
-/// Makes the answer with these flags. The OPT goes behind the question first, since a query that had one is long
-/// enough for it.
+/// Makes the answer with these flags. The OPT is written behind the question, over octets that are there: a query that
+/// had one is long enough for it.
 fn make_in_place(bytes: &mut Vec<u8>, view: &QueryView, flags: Flags)
     requires { (m : Message) × Lays bytes.old.items m × IsQuery m × (view.now ≡ view_of m) }
-    ensures { bytes.new.items ≡ made_of view.now flags.0 }
+    ensures octets { bytes.new.items ≡ made_of view.now flags.0 }
+    ensures room { vec_capacity bytes.new ≡ vec_capacity bytes.old }
 {
     match view.opt {
         Some(opt) => {
-            cut_and_put(bytes, view.question_end, &opt_piece(opt));
+            put_and_cut(bytes, view.question_end, &opt_piece(opt));
             put_header(bytes, made_header(view.id, flags, 1, 0, 1));
         }
         None => {
@@ -69,13 +74,14 @@ fn make_in_place(bytes: &mut Vec<u8>, view: &QueryView, flags: Flags)
     }
 }
 
-/// Cuts the bytes at a place and puts a piece there, for which they were long enough.
-fn cut_and_put(bytes: &mut Vec<u8>, end: usize, piece: &[u8])
-    requires { end + length piece.now ≤ vec_len bytes.old }
-    ensures { bytes.new.items ≡ take end bytes.old.items ++ piece.now }
+/// Puts a piece in place of as many octets at a place, and cuts the bytes behind it.
+fn put_and_cut(bytes: &mut Vec<u8>, at: usize, piece: &[u8])
+    requires { at + length piece.now ≤ vec_len bytes.old }
+    ensures octets { bytes.new.items ≡ take at bytes.old.items ++ piece.now }
+    ensures room { vec_capacity bytes.new ≡ vec_capacity bytes.old }
 {
-    bytes.truncate(end);
-    bytes.extend_from_slice(piece).unwrap();
+    overwrite(bytes.as_mut_slice(), at, piece);
+    bytes.truncate(at + piece.len());
 }
 
 /// The OPT of a made answer on the wire: the root, type 41, payload size 1232, DO copied.

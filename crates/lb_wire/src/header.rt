@@ -1,9 +1,10 @@
 //! The header of a message.
 
-ghost use Rattle.std.specs.Prelude.{◌≡◌, ◌+◌, ◌<◌, ◌≤◌, ◌^◌, ◌++◌, length, take, drop, vec_len};
+ghost use Rattle.std.specs.Prelude.{◌≡◌, ◌+◌, ◌<◌, ◌≤◌, ◌^◌, ◌++◌, length, drop, vec_len, vec_capacity};
 
+use crate::big_endian::read_u16;
 use crate::flags::Flags;
-use crate::words::read_word;
+use crate::octets::overwrite;
 
 /// How many octets a header has (RFC 1035 section 4.1.1).
 pub const HEADER_LEN: usize = 12;
@@ -24,37 +25,30 @@ pub struct Header {
 }
 
 ghost use Rattle.lb_wire.specs.Message.{IsHeader, header_octets};
-ghost use Rattle.lb_wire.specs.Words.{word_at};
+ghost use Rattle.lb_wire.specs.BigEndian.{number_at};
 
 /// Reads the header.
 pub(crate) fn read_header(bytes: &[u8]) -> Header
     requires { 12 ≤ length bytes.now }
     ensures fits { IsHeader result }
     ensures parts { bytes.now ≡ header_octets result ++ drop 12 bytes.now }
-    ensures flags { word_at bytes.now 2 ≡ result.flags.0 }
+    ensures flags { number_at bytes.now 2 ≡ result.flags.0 }
 {
     Header {
-        id: read_word(bytes, 0),
-        flags: Flags(read_word(bytes, 2)),
-        questions: read_word(bytes, 4),
-        answers: read_word(bytes, 6),
-        authorities: read_word(bytes, 8),
-        additionals: read_word(bytes, 10),
+        id: read_u16(bytes, 0),
+        flags: Flags(read_u16(bytes, 2)),
+        questions: read_u16(bytes, 4),
+        answers: read_u16(bytes, 6),
+        authorities: read_u16(bytes, 8),
+        additionals: read_u16(bytes, 10),
     }
-}
-
-/// Puts these octets in place of as many at a place.
-pub(crate) fn overwrite(bytes: &mut Vec<u8>, at: usize, piece: &[u8])
-    requires { at + length piece.now ≤ vec_len bytes.old }
-    ensures { bytes.new.items ≡ take at bytes.old.items ++ piece.now ++ drop (at + length piece.now) bytes.old.items }
-{
-    bytes[at..at + piece.len()].copy_from_slice(piece);
 }
 
 /// Puts this header in place of the first twelve octets.
 pub(crate) fn put_header(bytes: &mut Vec<u8>, header: Header)
     requires { 12 ≤ vec_len bytes.old }
-    ensures { bytes.new.items ≡ header_octets header ++ drop 12 bytes.old.items }
+    ensures octets { bytes.new.items ≡ header_octets header ++ drop 12 bytes.old.items }
+    ensures room { vec_capacity bytes.new ≡ vec_capacity bytes.old }
 {
     let id = header.id.to_be_bytes();
     let flags = header.flags.0.to_be_bytes();
@@ -76,5 +70,5 @@ pub(crate) fn put_header(bytes: &mut Vec<u8>, header: Header)
         additionals[0],
         additionals[1],
     ];
-    overwrite(bytes, 0, &front);
+    overwrite(bytes.as_mut_slice(), 0, &front);
 }

@@ -4,9 +4,11 @@ ghost use Rattle.std.specs.Prelude.{◌≡◌, IfOk};
 ghost use Rattle.lb_wire.specs.Message.{Message, Lays};
 ghost use Rattle.lb_wire.specs.Key.{key_octets};
 
+use crate::laws::one_message;
 use crate::octets::Octets;
 use crate::query::QueryView;
 use crate::transport::Kind;
+use lb_name::lowers_on_wire;
 use std::alloc::{AllocError, Global};
 
 /// What queries must share to share a cached reply: the transport, and the message without its ID, with its question
@@ -27,6 +29,9 @@ pub fn key_of(alloc: Global, bytes: &[u8], view: &QueryView, kind: Kind) -> Resu
     ensures kind { IfOk result (λ key. key.kind ≡ kind) }
     ensures octets { IfOk result (λ key. (m : Message) → Lays bytes.now m → key.octets ≡ key_octets m) }
 {
+    // laws: the calls do nothing
+    one_message();
+    lowers_on_wire();
     let (_, kept) = bytes.split_at(2);
     let mut octets = Vec::from_slice(alloc, kept)?;
     lower_in_place(&mut octets, NAME_AT, view.name.as_wire().len());

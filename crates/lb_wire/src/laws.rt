@@ -1,14 +1,21 @@
-//! What holds of messages, whatever reads them.
+//! What holds of messages, whatever reads them. Each function is a law: its contract is the statement, and a call does
+//! nothing but bring it to the caller's proof.
 
 ghost use Rattle.lb_wire.specs.Message.{OneMessage};
 ghost use Rattle.lb_wire.specs.Query.{OneReading};
 
+use lb_name::labels_go_on;
+
 /// Bytes have at most one division into the parts of a message.
 pub fn one_message()
     ensures { OneMessage }
-{}
+{
+    labels_go_on();
+}
 
 /// Bytes read as a query in exactly one way: one view, or one fault.
 pub fn one_reading()
     ensures { OneReading }
-{}
+{
+    labels_go_on();
+}

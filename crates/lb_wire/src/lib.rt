@@ -5,6 +5,7 @@
 mod addr;
 mod aging;
 mod answer;
+mod big_endian;
 #[cfg(test)]
 mod captured;
 mod flags;
@@ -29,7 +30,6 @@ mod tally;
 #[cfg(test)]
 mod tests;
 mod transport;
-mod words;
 
 pub use addr::{Addr, Origin};
 pub use aging::age;

@@ -1,6 +1,6 @@
 //! Octets, seen by contracts as a list.
 
-ghost use Rattle.std.specs.Prelude.{◌≡◌, IfOk};
+ghost use Rattle.std.specs.Prelude.{◌≡◌, ◌+◌, ◌≤◌, ◌++◌, length, take, drop, IfOk};
 
 use std::alloc::{AllocError, Global};
 use std::marker::Model;
@@ -50,4 +50,12 @@ impl Octets {
             items: Vec::from_slice(alloc, self.items.as_slice())?,
         })
     }
+}
+
+/// Puts these octets in place of as many at a place.
+pub(crate) fn overwrite(bytes: &mut [u8], at: usize, piece: &[u8])
+    requires { at + length piece.now ≤ length bytes.old }
+    ensures { bytes.new ≡ take at bytes.old ++ piece.now ++ drop (at + length piece.now) bytes.old }
+{
+    bytes[at..at + piece.len()].copy_from_slice(piece);
 }

@@ -3,14 +3,7 @@
 ghost use Rattle.std.specs.Prelude.{◌≡◌, ℕ, ◌≤◌, List, ◌++◌, length, drop, IfSome, IfNone};
 ghost use Rattle.lb_wire.specs.Record.{Owner, IsOwner, owner_octets};
 
-/// The most octets of an owner, its pointer counted (RFC 1035 section 2.3.4).
-const MAX_OWNER: usize = 255;
-
-/// The first length octet that is none (RFC 1035 section 2.3.4).
-const LABEL_END: u8 = 64;
-
-/// The first octet of a compression pointer: its top two bits are set (RFC 1035 section 4.1.4).
-const POINTER: u8 = 192;
+use lb_name::{LABEL_END, MAX_NAME, POINTER, label_is_passed, labels_go_on};
 
 /// How many octets a compression pointer has.
 const POINTER_LEN: usize = 2;
@@ -21,6 +14,9 @@ pub(crate) fn owner_len(octets: &[u8]) -> Option<usize>
     ensures found { IfSome result (λ len. (owner : Owner) × IsOwner owner × (len ≤ length octets.now) × (octets.now ≡ owner_octets owner ++ drop len octets.now) × (len ≡ length (owner_octets owner))) }
     ensures none { IfNone result ((owner : Owner) (rest : List ℕ) → IsOwner owner → octets.now ≡ owner_octets owner ++ rest → ⊥) }
 {
+    // laws: the calls do nothing
+    labels_go_on();
+    label_is_passed();
     let mut len = 0usize;
     loop {
         let Some(&octet) = octets.get(len) else {
@@ -31,7 +27,7 @@ pub(crate) fn owner_len(octets: &[u8]) -> Option<usize>
         }
         if octet >= POINTER {
             let end = len + POINTER_LEN;
-            if octets.len() < end || end > MAX_OWNER {
+            if octets.len() < end || end > MAX_NAME {
                 return None;
             }
             return Some(end);
@@ -40,7 +36,7 @@ pub(crate) fn owner_len(octets: &[u8]) -> Option<usize>
             return None;
         }
         let next = len + 1 + usize::from(octet);
-        if octets.len() < next || next + 1 > MAX_OWNER {
+        if octets.len() < next || next + 1 > MAX_NAME {
             return None;
         }
         len = next;

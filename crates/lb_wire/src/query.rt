@@ -1,14 +1,15 @@
 //! Reading a query.
 
-ghost use Rattle.std.specs.Prelude.{◌≡◌};
+ghost use Rattle.std.specs.Prelude.{◌≡◌, ◌≤◌, ◌++◌, length, drop, IfSome, IfNone};
 ghost use Rattle.lb_wire.specs.Numbers.{query_fault_number};
 
 use crate::flags::Flags;
-use crate::header::{HEADER_LEN, read_header};
+use crate::header::{HEADER_LEN, Header, read_header};
 use crate::layout::lay;
 use crate::opt::Opt;
+use crate::question::read_question;
 use crate::record_type::{Class, RecordType};
-use lb_name::Name;
+use lb_name::{Name, labels_go_on};
 use thiserror::Error;
 
 /// Why bytes are no query. `number` is the number that texts give it.
@@ -53,7 +54,9 @@ pub struct QueryView {
     pub opt: Option<Opt>,
 }
 
-ghost use Rattle.lb_wire.specs.Query.{Reads};
+ghost use Rattle.lb_wire.specs.Message.{Message, Lays, IsHeader, header_octets};
+ghost use Rattle.lb_wire.specs.Opt.{opts};
+ghost use Rattle.lb_wire.specs.Query.{Reads, view_of};
 
 /// Reads a query. The faults are tested in their order: fewer than 12 octets are `Short`, QR 1 is `NotQuery`, and
 /// bytes without the layout of a query are `Malformed`: QDCOUNT 1, one question whose name has no pointer, as many
@@ -65,22 +68,41 @@ pub fn read_query(bytes: &[u8]) -> Result<QueryView, QueryFault>
     if bytes.len() < HEADER_LEN {
         return Err(QueryFault::Short);
     }
-    if read_header(bytes).flags.is_response() {
+    let header = read_header(bytes);
+    if header.flags.is_response() {
         return Err(QueryFault::NotQuery);
     }
-    let Some(laid) = lay(bytes) else {
-        return Err(QueryFault::Malformed);
-    };
-    if laid.all.twice {
-        return Err(QueryFault::Malformed);
+    match read_parts(bytes, header) {
+        Some(view) => Ok(view),
+        None => Err(QueryFault::Malformed),
     }
-    Ok(QueryView {
-        id: laid.header.id,
-        flags: laid.header.flags,
-        name: laid.question.name,
-        qtype: laid.question.qtype,
-        qclass: laid.question.qclass,
-        question_end: laid.question_end,
+}
+
+/// Reads what stands behind the header of a query.
+fn read_parts(bytes: &[u8], header: Header) -> Option<QueryView>
+    requires fits { IsHeader header }
+    requires parts { bytes.now ≡ header_octets header ++ drop 12 bytes.now }
+    requires within { 12 ≤ length bytes.now }
+    ensures found { IfSome result (λ view. (m : Message) × Lays bytes.now m × (length (opts m.records) ≤ 1) × (m.header ≡ header) × (view ≡ view_of m)) }
+    ensures none { IfNone result ((m : Message) → Lays bytes.now m → length (opts m.records) ≤ 1 → ⊥) }
+{
+    // a law: the call does nothing
+    labels_go_on();
+    if header.questions != 1 {
+        return None;
+    }
+    let (question, question_end) = read_question(bytes, HEADER_LEN)?;
+    let laid = lay(bytes, question_end, header)?;
+    if laid.all.twice {
+        return None;
+    }
+    Some(QueryView {
+        id: header.id,
+        flags: header.flags,
+        name: question.name,
+        qtype: question.qtype,
+        qclass: question.qclass,
+        question_end,
         opt: laid.all.opt,
     })
 }

@@ -1,13 +1,12 @@
 //! The question of a message.
 
-ghost use Rattle.std.specs.Prelude.{◌≡◌, ℕ, ◌+◌, ◌<◌, ◌≤◌, ◌^◌, List, ◌++◌, length, drop, IfSome, IfNone};
-ghost use Rattle.lb_name.specs.Name.{IsName};
+ghost use Rattle.std.specs.Prelude.{◌≡◌, ℕ, ◌+◌, ◌≤◌, List, length, drop, IfSome, IfNone};
 ghost use Rattle.lb_wire.specs.Message.{question_octets};
-ghost use Rattle.lb_wire.specs.declared.record_type.RecordType.{RecordType};
-ghost use Rattle.lb_wire.specs.declared.record_type.Class.{Class};
+ghost use Rattle.lb_wire.specs.Question.{Asks};
+ghost use Rattle.lb_wire.specs.declared.question.Question.{Question};
 
+use crate::big_endian::read_u16;
 use crate::record_type::{Class, RecordType};
-use crate::words::read_word;
 use lb_name::Name;
 
 /// A question (RFC 1035 section 4.1.2), its name as it was spelled.
@@ -23,8 +22,9 @@ const AFTER_NAME: usize = 4;
 
 /// Reads the question at a place: a name without a pointer, a type and a class; and the place after it.
 pub(crate) fn read_question(bytes: &[u8], at: usize) -> Option<(Question, usize)>
-    ensures found { IfSome result (λ q. IsName q.0.name × (q.0.qtype.0 < 2 ^ 16) × (q.0.qclass.0 < 2 ^ 16) × (q.1 ≤ length bytes.now) × (q.1 ≡ at + length (question_octets q.0.name q.0.qtype q.0.qclass)) × (drop at bytes.now ≡ question_octets q.0.name q.0.qtype q.0.qclass ++ drop q.1 bytes.now)) }
-    ensures none { IfNone result ((name : List (List ℕ)) (qtype : RecordType) (qclass : Class) (rest : List ℕ) → IsName name → drop at bytes.now ≡ question_octets name qtype qclass ++ rest → ⊥) }
+    ensures found { IfSome result (λ q. Asks (drop at bytes.now) q.0 (drop q.1 bytes.now) × (q.1 ≡ at + length (question_octets q.0.name q.0.qtype q.0.qclass))) }
+    ensures within { IfSome result (λ q. q.1 ≤ length bytes.now) }
+    ensures none { IfNone result ((q : Question) (rest : List ℕ) → Asks (drop at bytes.now) q rest → ⊥) }
 {
     let Ok((name, place)) = Name::read(bytes, at) else {
         return None;
@@ -32,12 +32,27 @@ pub(crate) fn read_question(bytes: &[u8], at: usize) -> Option<(Question, usize)
     if bytes.len() - place < AFTER_NAME {
         return None;
     }
-    let qtype = RecordType(read_word(bytes, place));
-    let qclass = Class(read_word(bytes, place + 2));
+    let qtype = RecordType(read_u16(bytes, place));
+    let qclass = Class(read_u16(bytes, place + 2));
     let question = Question {
         name,
         qtype,
         qclass,
     };
     Some((question, place + AFTER_NAME))
+}
+
+/// The place after the question at a place: what `read_question` gives, where the question itself is not wanted.
+pub(crate) fn skip_question(bytes: &[u8], at: usize) -> Option<usize>
+    ensures found { IfSome result (λ end. (q : Question) × Asks (drop at bytes.now) q (drop end bytes.now) × (end ≡ at + length (question_octets q.name q.qtype q.qclass))) }
+    ensures within { IfSome result (λ end. end ≤ length bytes.now) }
+    ensures none { IfNone result ((q : Question) (rest : List ℕ) → Asks (drop at bytes.now) q rest → ⊥) }
+{
+    let Ok(place) = Name::skip(bytes, at) else {
+        return None;
+    };
+    if bytes.len() - place < AFTER_NAME {
+        return None;
+    }
+    Some(place + AFTER_NAME)
 }

@@ -1,13 +1,14 @@
 //! Walking records.
 
 ghost use Rattle.std.specs.Prelude.{◌≡◌, ℕ, ◌+◌, ◌<◌, ◌≤◌, ◌^◌, List, ◌++◌, length, drop, IfSome, IfNone};
-ghost use Rattle.lb_wire.specs.Record.{Record, IsRecord, record_octets, owner_octets};
-ghost use Rattle.lb_wire.specs.Tally.{Holds, tally_of};
+ghost use Rattle.lb_wire.specs.Record.{Record, IsRecord, record_octets, owner_octets, Holds};
+ghost use Rattle.lb_wire.specs.Tally.{tally_of};
 
+use crate::big_endian::{read_u16, read_u32};
 use crate::owner::owner_len;
 use crate::record_type::RecordType;
 use crate::tally::Tally;
-use crate::words::{read_long, read_word};
+use lb_name::labels_go_on;
 
 /// How many octets stand between a record's owner and its data: TYPE, CLASS, TTL and RDLENGTH (RFC 1035 section
 /// 4.1.3).
@@ -35,15 +36,17 @@ pub(crate) fn read_record(bytes: &[u8], at: usize) -> Option<Spot>
     ensures found { IfSome result (λ spot. (r : Record) × IsRecord r × (drop at bytes.now ≡ record_octets r ++ drop spot.end bytes.now) × (spot.rtype.0 ≡ r.rtype) × (spot.ttl ≡ r.ttl) × (spot.ttl_at ≡ at + length (owner_octets r.owner) + 4)) }
     ensures none { IfNone result ((r : Record) (rest : List ℕ) → IsRecord r → drop at bytes.now ≡ record_octets r ++ rest → ⊥) }
 {
+    // a law: the call does nothing
+    labels_go_on();
     let (_, there) = bytes.split_at(at);
     let fixed = at + owner_len(there)?;
     if bytes.len() - fixed < FIXED_LEN {
         return None;
     }
-    let rtype = RecordType(read_word(bytes, fixed));
-    let ttl = read_long(bytes, fixed + TTL_AT);
+    let rtype = RecordType(read_u16(bytes, fixed));
+    let ttl = read_u32(bytes, fixed + TTL_AT);
     let rdata = fixed + FIXED_LEN;
-    let end = rdata + usize::from(read_word(bytes, fixed + RDLENGTH_AT));
+    let end = rdata + usize::from(read_u16(bytes, fixed + RDLENGTH_AT));
     if bytes.len() < end {
         return None;
     }
@@ -62,6 +65,8 @@ pub(crate) fn walk(bytes: &[u8], at: usize, count: u32) -> Option<(Tally, usize)
     ensures found { IfSome result (λ w. (records : List Record) × Holds count (drop at bytes.now) records (drop w.1 bytes.now) × (w.0 ≡ tally_of records)) }
     ensures none { IfNone result ((records : List Record) (rest : List ℕ) → Holds count (drop at bytes.now) records rest → ⊥) }
 {
+    // a law: the call does nothing
+    labels_go_on();
     let mut place = at;
     let mut tally = Tally::NONE;
     'records: for _ in 0..count {

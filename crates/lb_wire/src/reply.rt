@@ -1,18 +1,20 @@
 //! Replies: what is read of them, and what is written in them for the client that gets them.
 
-ghost use Rattle.std.specs.Prelude.{◌≡◌, ◌+◌, ◌≤◌, ◌++◌, take, drop, length};
+ghost use Rattle.std.specs.Prelude.{◌≡◌, ℕ, ◌≤◌, List, ◌++◌, take, drop, length};
 ghost use Rattle.lb_name.specs.Name.{IsSame};
-ghost use Rattle.lb_wire.specs.Words.{word};
+ghost use Rattle.lb_wire.specs.BigEndian.{two_octets};
 ghost use Rattle.lb_wire.specs.Numbers.{reply_fault_number};
-ghost use Rattle.lb_wire.specs.Message.{Message, Lays, message_octets};
+ghost use Rattle.lb_wire.specs.declared.question.Question.{Question};
+ghost use Rattle.lb_wire.specs.Message.{question_octets};
 
 use crate::header::{HEADER_LEN, read_header};
 use crate::layout::lay;
+use crate::octets::overwrite;
 use crate::opcode::Opcode;
-use crate::question::{Question, read_question};
+use crate::question::{Question, read_question, skip_question};
 use crate::rcode::Rcode;
 use crate::tally::Survey;
-use lb_name::Name;
+use lb_name::{Name, labels_go_on};
 use thiserror::Error;
 
 /// Why bytes are no reply. `number` is the number that texts give it.
@@ -52,7 +54,8 @@ pub struct ReplyView {
     pub question: Option<Question>,
 }
 
-ghost use Rattle.lb_wire.specs.Reply.{ReadsReply, Surveys, with_name};
+ghost use Rattle.lb_wire.specs.Reply.{ReadsReply, Surveys};
+ghost use Rattle.lb_wire.specs.Question.{Asks};
 
 /// Reads the header and the question of a reply. The faults are tested in their order: fewer than 12 octets are
 /// `Short`, QR 0 is `NotReply`.
@@ -86,10 +89,17 @@ pub fn read_reply(bytes: &[u8]) -> Result<ReplyView, ReplyFault>
 pub fn survey(bytes: &[u8]) -> Option<Survey>
     ensures { Surveys bytes.now result }
 {
+    // a law: the call does nothing
+    labels_go_on();
     if bytes.len() < HEADER_LEN {
         return None;
     }
-    let laid = lay(bytes)?;
+    let header = read_header(bytes);
+    if header.questions != 1 {
+        return None;
+    }
+    let question_end = skip_question(bytes, HEADER_LEN)?;
+    let laid = lay(bytes, question_end, header)?;
     Some(Survey {
         least_all: laid.all.least,
         least_answer: laid.answers.least,
@@ -99,25 +109,18 @@ pub fn survey(bytes: &[u8]) -> Option<Survey>
 /// Puts an ID in place of the first two octets (RFC 1035 section 4.1.1).
 pub fn restore_id(bytes: &mut [u8], id: u16)
     requires { 2 ≤ length bytes.old }
-    ensures { bytes.new ≡ word id ++ drop 2 bytes.old }
+    ensures { bytes.new ≡ two_octets id ++ drop 2 bytes.old }
 {
     let [high, low] = id.to_be_bytes();
     bytes[0] = high;
     bytes[1] = low;
 }
 
-/// Puts another spelling of the question name in place of the one that stands there.
+/// Puts another spelling of the question name in place of the one behind the header. That is all it asks for: what
+/// stands behind the question may be cut off or miscounted, and stays as it is.
 pub fn respell(bytes: &mut [u8], name: &Name)
-    requires { (m : Message) × Lays bytes.old m × IsSame m.name name.now }
-    ensures { (m : Message) → Lays bytes.old m → bytes.new ≡ message_octets (with_name name.now m) }
+    requires { (q : Question) × (rest : List ℕ) × Asks (drop 12 bytes.old) q rest × IsSame q.name name.now }
+    ensures { (q : Question) (rest : List ℕ) → Asks (drop 12 bytes.old) q rest → IsSame q.name name.now → bytes.new ≡ take 12 bytes.old ++ (question_octets name.now q.qtype q.qclass ++ rest) }
 {
-    put(bytes, HEADER_LEN, name.as_wire());
-}
-
-/// Puts these octets in place of as many at a place.
-pub(crate) fn put(bytes: &mut [u8], at: usize, piece: &[u8])
-    requires { at + length piece.now ≤ length bytes.old }
-    ensures { bytes.new ≡ take at bytes.old ++ piece.now ++ drop (at + length piece.now) bytes.old }
-{
-    bytes[at..at + piece.len()].copy_from_slice(piece);
+    overwrite(bytes, HEADER_LEN, name.as_wire());
 }

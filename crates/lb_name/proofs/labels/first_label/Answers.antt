@@ -1,5 +1,5 @@
 use Rattle.std.proofs.Common.{arith, rules}
-use Rattle.lb_name.proofs.Walking.{labels_of-root, FirstLabel-wire}
+use Rattle.lb_name.proofs.FirstLabel.{labels_of-root, FirstLabel-wire}
 use Rattle.lb_name.proofs.labels.first_label.Goals as goal
 
 pub returns-then-len-eq0-clause-none : goal.returns-then-len-eq0-clause-none

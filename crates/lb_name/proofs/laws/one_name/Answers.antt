@@ -2,4 +2,4 @@ use Rattle.lb_name.proofs.Names.{one_name}
 use Rattle.lb_name.proofs.laws.one_name.Goals as goal
 
 pub returns : goal.returns
-returns c = λ octets a b x y at_a at_b. one_name octets a b x y at_a at_b
+returns c = one_name

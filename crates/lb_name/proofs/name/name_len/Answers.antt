@@ -1,6 +1,6 @@
 use Rattle.std.proofs.Common.{arith, rules}
 use Rattle.std.proofs.lemmas.List.{length-drop}
-use Rattle.lb_name.proofs.Passing.{fault_at, Passed-more, octet_at}
+use Rattle.lb_name.proofs.Passed.{fault_at, Passed-more, octet_at}
 use Rattle.lb_name.proofs.name.name_len.Goals as goal
 
 pub returns-then-octet-ge-POINTER-clause-fault : goal.returns-then-octet-ge-POINTER-clause-fault

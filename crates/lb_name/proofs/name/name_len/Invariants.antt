@@ -1,5 +1,5 @@
 use Rattle.std.proofs.Common.{◌-◌, length}
-use Rattle.lb_name.proofs.Passing.{Passed}
+use Rattle.lb_name.specs.Reading.{Passed}
 use Rattle.lb_name.proofs.name.name_len.Given as goal
 
 abbrev pub invariant-loop-octet : goal.invariant-loop-octet

@@ -1,5 +1,5 @@
 use Rattle.std.proofs.Common.{sym}
-use Rattle.lb_name.proofs.Pieces.{cut_none, cut_first, dot_there}
+use Rattle.lb_name.proofs.CutAtDots.{cut_none, cut_first, dot_there}
 use Rattle.lb_name.proofs.text.first_piece.Goals as goal
 
 pub returns-in-None-clause-pieces : goal.returns-in-None-clause-pieces

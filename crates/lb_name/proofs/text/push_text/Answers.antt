@@ -1,4 +1,4 @@
-use Rattle.lb_name.proofs.Pieces.{IsUtf8-name}
+use Rattle.lb_name.proofs.CutAtDots.{IsUtf8-name}
 use Rattle.lb_name.proofs.text.push_text.Goals as goal
 
 pub unreachable-requires : goal.unreachable-requires

@@ -1,7 +1,6 @@
 use Rattle.std.proofs.Common.{◌≡◌}
-use Rattle.lb_name.specs.Text.{cut_at_dots, first_fault}
-use Rattle.lb_name.specs.Pieces.{pieces_left}
-use Rattle.lb_name.proofs.Pieces.{text_left}
+use Rattle.lb_name.specs.Text.{cut_at_dots, pieces_left, first_fault}
+use Rattle.lb_name.proofs.CutAtDots.{text_left}
 use Rattle.lb_name.proofs.text.text_fault.Given as goal
 
 abbrev pub invariant-labels : goal.invariant-labels

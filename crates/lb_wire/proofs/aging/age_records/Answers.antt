@@ -1,5 +1,5 @@
 use Rattle.std.proofs.Common.{arith}
-use Rattle.lb_wire.proofs.Ages.{SoFar-none, SoFar-more, SoFar-all, next_of}
+use Rattle.lb_wire.proofs.Aged.{SoFar-none, SoFar-more, SoFar-all, next_of}
 use Rattle.lb_wire.proofs.aging.age_records.Goals as goal
 
 pub records-init : goal.records-init

@@ -1,9 +1,8 @@
 use Rattle.std.proofs.Common.{ℕ, ◌≤◌, List, length, drop}
 use Rattle.std.specs.List.{AllByRecursion}
-use Rattle.lb_wire.specs.Record.{Record}
-use Rattle.lb_wire.specs.Reply.{Outlives}
-use Rattle.lb_wire.specs.Tally.{Holds}
-use Rattle.lb_wire.proofs.Ages.{SoFar}
+use Rattle.lb_wire.specs.Record.{Record, Holds}
+use Rattle.lb_wire.specs.Aging.{Outlives}
+use Rattle.lb_wire.proofs.Aged.{SoFar}
 use Rattle.lb_wire.proofs.aging.age_records.Given as goal
 
 -- whatever so many records stood there, so many of them are older

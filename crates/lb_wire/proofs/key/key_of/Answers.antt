@@ -2,11 +2,10 @@ use Rattle.std.proofs.Common.{◌≡◌, ℕ, List, length, ◌∙◌, ap}
 use Rattle.lb_name.specs.Name.{wire_of}
 use Rattle.lb_wire.specs.Message.{Message}
 use Rattle.lb_wire.proofs.Keys.{keyed}
-use Rattle.lb_wire.proofs.Once.{one_layout}
 use Rattle.lb_wire.proofs.key.key_of.Goals as goal
 
 pub returns-clause-octets : goal.returns-clause-octets
 returns-clause-octets c = λ m lays.
-    let name : c.args.view.now.name ≡ m.name = c.requires.2 ∙ ap (λ (x : Message). x.name) (one_layout _ c.requires.0 m c.requires.1 lays) in
+    let name : c.args.view.now.name ≡ m.name = c.requires.2 ∙ ap (λ (x : Message). x.name) (c.one_message.ensures _ c.requires.0 m c.requires.1 lays) in
     let size : length c.as_wire.result.now ≡ length (wire_of m.name) = ap (λ (xs : List ℕ). length xs) c.as_wire.ensures ∙ ap (λ (n : List (List ℕ)). length (wire_of n)) name in
-    c.from_vec.ensures ∙ keyed _ _ _ m _ lays size (c.in_ok-octets.ensures.items ∙ c.split_at.ensures.back) c.lower_in_place.ensures
+    c.from_vec.ensures ∙ keyed c.lowers_on_wire.ensures _ _ _ m _ lays size (c.in_ok-octets.ensures.items ∙ c.split_at.ensures.back) c.lower_in_place.ensures

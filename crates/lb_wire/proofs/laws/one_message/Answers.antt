@@ -1,5 +1,5 @@
-use Rattle.lb_wire.proofs.Once.{one_layout}
+use Rattle.lb_wire.proofs.OneMessage.{one_layout}
 use Rattle.lb_wire.proofs.laws.one_message.Goals as goal
 
 pub returns : goal.returns
-returns c = one_layout
+returns c = one_layout c.labels_go_on.ensures

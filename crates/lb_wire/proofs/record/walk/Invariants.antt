@@ -1,7 +1,7 @@
 use Rattle.std.proofs.Common.{◌≡◌, ◌≤◌, ◌-◌, List, length, drop}
-use Rattle.lb_wire.specs.Record.{Record}
-use Rattle.lb_wire.specs.Tally.{Holds, tally_of}
-use Rattle.lb_wire.proofs.Walks.{LeavesOf}
+use Rattle.lb_wire.specs.Record.{Record, Holds}
+use Rattle.lb_wire.specs.Tally.{tally_of}
+use Rattle.lb_wire.proofs.Holds.{LeavesOf}
 use Rattle.lb_wire.proofs.record.walk.Given as goal
 
 -- so many records stand there and come to the tally, and what is left are the others of any such division

@@ -2,7 +2,7 @@ use Rattle.std.proofs.Common.{◌≡◌, ℕ, List, Some, sym, subst, ap, ◌∙
 use Rattle.lb_wire.specs.Opt.{least_ttl}
 use Rattle.lb_wire.specs.Message.{Message, Lays}
 use Rattle.lb_wire.specs.declared.tally.Survey.{Survey}
-use Rattle.lb_wire.proofs.Lives.{all_outlive}
+use Rattle.lb_wire.proofs.Outlives.{all_outlive}
 use Rattle.lb_wire.proofs.tests.age_a_second.Goals as goal
 
 pub age-requires : goal.age-requires

@@ -1,4 +1,4 @@
-use Rattle.lb_name.proofs.Lowering.{Walks-more, longer, under_test}
+use Rattle.lb_name.proofs.LowerName.{Walks-more, longer, under_test}
 use Rattle.lb_name.proofs.name.Name.is_under.Goals as goal
 
 pub labels-preserved : goal.labels-preserved

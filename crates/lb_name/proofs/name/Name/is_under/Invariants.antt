@@ -1,6 +1,6 @@
 use Rattle.std.proofs.Common.{length}
 use Rattle.lb_name.specs.Name.{labels_of, IsWire}
-use Rattle.lb_name.proofs.Lowering.{Walks}
+use Rattle.lb_name.proofs.LowerName.{Walks}
 use Rattle.lb_name.proofs.name.Name.is_under.Given as goal
 
 abbrev pub invariant-labels : goal.invariant-labels

@@ -1,7 +1,7 @@
 use Rattle.std.proofs.Common.{◌∙◌, List, ℕ, ap}
 use Rattle.lb_name.specs.Name.{lower_name}
 use Rattle.lb_name.proofs.Names.{IsName-lower, IsWire-read, labels_of-read}
-use Rattle.lb_name.proofs.Lowering.{lowered}
+use Rattle.lb_name.proofs.LowerName.{lowered}
 use Rattle.lb_name.proofs.name.Name.lower.Goals as goal
 
 pub invariant_of-result : goal.invariant_of-result

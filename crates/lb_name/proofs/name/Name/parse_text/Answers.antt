@@ -1,6 +1,6 @@
 use Rattle.std.proofs.Common.{◌∙◌, ℕ, List, [], Ok, ap, sym, arith}
 use Rattle.lb_name.proofs.Names.{IsWire-read, labels_of-read, IsName-root}
-use Rattle.lb_name.proofs.Pieces.{length-cut, IsName-text, root_text, other_text, long_text, short_text}
+use Rattle.lb_name.proofs.CutAtDots.{length-cut, IsName-text, root_text, other_text, long_text, short_text}
 use Rattle.lb_name.proofs.name.Name.parse_text.Goals as goal
 
 pub invariant_of-result : goal.invariant_of-result

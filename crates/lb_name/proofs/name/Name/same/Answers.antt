@@ -1,4 +1,4 @@
-use Rattle.lb_name.proofs.Lowering.{same_from_wires, wires_from_same}
+use Rattle.lb_name.proofs.LowerName.{same_from_wires, wires_from_same}
 use Rattle.lb_name.proofs.name.Name.same.Goals as goal
 
 pub returns : goal.returns

@@ -6,17 +6,8 @@ use Rattle.std.proofs.lemmas.Grind.{flat_map-append}
 use Rattle.std.proofs.lemmas.List.{append-nil}
 use Rattle.std.specs.List.{AllByRecursion}
 use Rattle.lb_name.specs.Name.{IsLabel, label_octets, labels_octets, wire_of}
-use Rattle.lb_name.specs.Reading.{Stops, Faults}
+use Rattle.lb_name.specs.Reading.{Passed, Stops, Faults}
 use Rattle.lb_name.specs.declared.fault.NameFault.{NameFault}
-
--- the octets up to a place are labels that could begin a name
-pub record Passed (octets : List ℕ) (place : ℕ) : Type 0 where
-  pub labels : List (List ℕ)
-  pub each : AllByRecursion IsLabel labels
-  pub fits : length (wire_of labels) ≤ 255
-  pub within : place ≤ length octets
-  pub long : place ≡ length (labels_octets labels)
-  pub front : take place octets ≡ labels_octets labels
 
 -- what is passed, and the octets from there on, are the whole
 pub Passed-whole : (octets : List ℕ) (place : ℕ) (passed : Passed octets place) → octets ≡ labels_octets passed.labels ++ drop place octets

@@ -4,19 +4,17 @@ use Rattle.std.proofs.lemmas.List.{append_assoc, append-nil, map-append, length-
 use Rattle.std.proofs.lemmas.Bool.{ne_eqb}
 use Rattle.std.proofs.lemmas.Grind.{flat_map-append}
 use Rattle.std.specs.List.{flat_map, AllByRecursion}
-use Rattle.lb_wire.specs.Words.{word, long}
-use Rattle.lb_wire.specs.Record.{owner_octets, Record, record_octets, IsRecord}
+use Rattle.lb_name.specs.Laws.{LabelsGoOn}
+use Rattle.lb_wire.specs.BigEndian.{two_octets, four_octets}
+use Rattle.lb_wire.specs.Record.{owner_octets, Record, record_octets, IsRecord, Holds}
 use Rattle.lb_wire.specs.Opt.{is_opt, ttl_value}
 use Rattle.lb_wire.specs.Message.{Message, Lays, header_octets, question_octets, message_octets, count_of}
-use Rattle.lb_wire.specs.Reply.{Outlives, aged_record, aged}
-use Rattle.lb_wire.specs.Tally.{Holds}
-use Rattle.lb_wire.specs.Aging.{Aged}
-use Rattle.lb_wire.proofs.Once.{one_record, nested}
+use Rattle.lb_wire.specs.Aging.{Outlives, aged_record, aged, Aged}
+use Rattle.lb_wire.proofs.OneMessage.{one_record, nested}
 use Rattle.lb_wire.specs.declared.header.Header.{Header}
-use Rattle.lb_wire.specs.declared.record_type.RecordType.{RecordType}
-use Rattle.lb_wire.specs.declared.record_type.Class.{Class}
-use Rattle.lb_wire.proofs.Edits.{put_at}
-use Rattle.lb_wire.proofs.Layouts.{Opens, opened, lays_question}
+use Rattle.lb_wire.specs.declared.question.Question.{Question}
+use Rattle.lb_wire.proofs.Lists.{put_at}
+use Rattle.lb_wire.proofs.Lays.{Opens, opened, lays_question}
 use Rattle.lb_wire.proofs.Made.{cut_there}
 
 -- a TTL counts for no more than its number
@@ -49,23 +47,23 @@ record_end bytes at end r here within ends =
     omega (arith, size, length-drop at bytes, length-drop end bytes)
 
 -- a record whose TTL was lowered in its place
-pub record_ages : (bytes piece new : List ℕ) (at ttl_at secs : ℕ) (r : Record) (rest : List ℕ) → at ≤ length bytes → drop at bytes ≡ record_octets r ++ rest → is_opt r ≡ false → ttl_at ≡ at + length (owner_octets r.owner) + 4 → piece ≡ long (r.ttl - secs) → new ≡ (take ttl_at bytes ++ piece) ++ drop (ttl_at + length piece) bytes → new ≡ take at bytes ++ (record_octets (aged_record secs r) ++ rest)
+pub record_ages : (bytes piece new : List ℕ) (at ttl_at secs : ℕ) (r : Record) (rest : List ℕ) → at ≤ length bytes → drop at bytes ≡ record_octets r ++ rest → is_opt r ≡ false → ttl_at ≡ at + length (owner_octets r.owner) + 4 → piece ≡ four_octets (r.ttl - secs) → new ≡ (take ttl_at bytes ++ piece) ++ drop (ttl_at + length piece) bytes → new ≡ take at bytes ++ (record_octets (aged_record secs r) ++ rest)
 record_ages bytes piece new at ttl_at secs r rest within here other place is new_is =
-    let fixed = word r.rtype ++ word r.class in
-    let d = word (length r.rdata) ++ (r.rdata ++ rest) in
+    let fixed = two_octets r.rtype ++ two_octets r.class in
+    let d = two_octets (length r.rdata) ++ (r.rdata ++ rest) in
     let a = take at bytes ++ (owner_octets r.owner ++ fixed) in
     let older = record r { ttl = r.ttl - secs } in
     let regroup : (ttl : List ℕ) → take at bytes ++ (owner_octets r.owner ++ (fixed ++ (ttl ++ d))) ≡ a ++ (ttl ++ d) =
     λ ttl. ap (λ (xs : List ℕ). take at bytes ++ xs) (sym (append_assoc (owner_octets r.owner) fixed (ttl ++ d))) ∙ sym (append_assoc (take at bytes) (owner_octets r.owner ++ fixed) (ttl ++ d)) in
-    let whole : bytes ≡ a ++ (long r.ttl ++ d) =
-    sym (take-append-drop at bytes) ∙ ap (λ (xs : List ℕ). take at bytes ++ xs) (here ∙ nested r rest) ∙ regroup (long r.ttl) in
+    let whole : bytes ≡ a ++ (four_octets r.ttl ++ d) =
+    sym (take-append-drop at bytes) ∙ ap (λ (xs : List ℕ). take at bytes ++ xs) (here ∙ nested r rest) ∙ regroup (four_octets r.ttl) in
     let front : length (take at bytes) ≡ at = length-take-le at bytes within in
     let size : ttl_at ≡ length a = omega (arith, place, front, length-append (take at bytes) (owner_octets r.owner ++ fixed), length-append (owner_octets r.owner) fixed) in
-    let four : length (long r.ttl) ≡ length piece = ap (λ (xs : List ℕ). length xs) (sym is) in
+    let four : length (four_octets r.ttl) ≡ length piece = ap (λ (xs : List ℕ). length xs) (sym is) in
     new_is
-    ∙ put_at a (long r.ttl) piece d bytes ttl_at four whole size
+    ∙ put_at a (four_octets r.ttl) piece d bytes ttl_at four whole size
     ∙ ap (λ (xs : List ℕ). a ++ (xs ++ d)) is
-    ∙ sym (regroup (long (r.ttl - secs)))
+    ∙ sym (regroup (four_octets (r.ttl - secs)))
     ∙ ap (λ (xs : List ℕ). take at bytes ++ xs) (sym (nested older rest))
     ∙ ap (λ (s : Record). take at bytes ++ (record_octets s ++ rest)) (sym (other_ages r secs other))
 
@@ -75,14 +73,14 @@ record_stays bytes at secs r rest here opt =
     sym (take-append-drop at bytes) ∙ ap (λ (xs : List ℕ). take at bytes ++ xs) here ∙ ap (λ (s : Record). take at bytes ++ (record_octets s ++ rest)) (sym (opt_stays r secs opt))
 
 -- the record that is read there is the one that stands there
-pub read_there : (bytes : List ℕ) (at end : ℕ) (read r : Record) (rest : List ℕ) → IsRecord read → IsRecord r → drop at bytes ≡ record_octets read ++ drop end bytes → drop at bytes ≡ record_octets r ++ rest → read ≡ r
-read_there bytes at end read r rest is_read is here there = (one_record read r (drop end bytes) rest is_read is (sym here ∙ there)).0
+pub read_there : (go : LabelsGoOn) (bytes : List ℕ) (at end : ℕ) (read r : Record) (rest : List ℕ) → IsRecord read → IsRecord r → drop at bytes ≡ record_octets read ++ drop end bytes → drop at bytes ≡ record_octets r ++ rest → read ≡ r
+read_there go bytes at end read r rest is_read is here there = (one_record go read r (drop end bytes) rest is_read is (sym here ∙ there)).0
 
 -- older records take as many octets
 older_long : (r : Record) (secs : ℕ) → length (record_octets (aged_record secs r)) ≡ length (record_octets r)
 older_long r secs =
-    let left = length-append (owner_octets r.owner) (word r.rtype ++ (word r.class ++ (long (aged_record secs r).ttl ++ (word (length r.rdata) ++ r.rdata)))) in
-    let right = length-append (owner_octets r.owner) (word r.rtype ++ (word r.class ++ (long r.ttl ++ (word (length r.rdata) ++ r.rdata)))) in
+    let left = length-append (owner_octets r.owner) (two_octets r.rtype ++ (two_octets r.class ++ (four_octets (aged_record secs r).ttl ++ (two_octets (length r.rdata) ++ r.rdata)))) in
+    let right = length-append (owner_octets r.owner) (two_octets r.rtype ++ (two_octets r.class ++ (four_octets r.ttl ++ (two_octets (length r.rdata) ++ r.rdata)))) in
     omega (arith, left, right)
 
 -- the octets of records, so many seconds later
@@ -205,21 +203,21 @@ ttl_room read r secs n ttl same type_is other ttl_is lives =
     let value : secs ≤ ttl_value r.ttl = lives (other_type r n type_there other) in
     omega (arith, value, ttl_low r.ttl, ttl_there)
 
--- the records that a message has behind its question, by the header and the question that were read
-pub age_held : (bytes : List ℕ) (h : Header) (name : List (List ℕ)) (qtype : RecordType) (qclass : Class) (place n : ℕ) (m : Message) → Opens bytes h name qtype qclass place → Lays bytes m → n ≡ count_of h → Holds n (drop place bytes) m.records m.rest
-age_held bytes h name qtype qclass place n m opens lays is =
-    let held = opened bytes h name qtype qclass place m opens lays in
+-- the records that a message has behind its question, by the header and the question that stand there
+pub age_held : (go : LabelsGoOn) (bytes : List ℕ) (h : Header) (q : Question) (place n : ℕ) (m : Message) → Opens bytes h q place → Lays bytes m → n ≡ count_of h → Holds n (drop place bytes) m.records m.rest
+age_held go bytes h q place n m opens lays is =
+    let held = opened go bytes h q place m opens lays in
     record { each = held.each; number = omega (arith, held.number, is); parts = held.parts }
 
 -- the message, its records older
-pub age_made : (bytes new : List ℕ) (h : Header) (name : List (List ℕ)) (qtype : RecordType) (qclass : Class) (place secs : ℕ) (m : Message) → Opens bytes h name qtype qclass place → place ≡ 12 + length (question_octets name qtype qclass) → Lays bytes m → Aged bytes place secs m.records m.rest new → new ≡ message_octets (aged secs m)
-age_made bytes new h name qtype qclass place secs m opens ends lays made =
-    let q = question_octets name qtype qclass in
+pub age_made : (go : LabelsGoOn) (bytes new : List ℕ) (h : Header) (q : Question) (place secs : ℕ) (m : Message) → Opens bytes h q place → place ≡ 12 + length (question_octets q.name q.qtype q.qclass) → Lays bytes m → Aged bytes place secs m.records m.rest new → new ≡ message_octets (aged secs m)
+age_made go bytes new h q place secs m opens ends lays made =
+    let asked = question_octets q.name q.qtype q.qclass in
     let p = question_octets m.name m.qtype m.qclass in
     let tail = flat_map record_octets m.records ++ m.rest in
-    let held = opened bytes h name qtype qclass place m opens lays in
-    let there : q ++ tail ≡ p ++ tail = ap (λ (xs : List ℕ). q ++ xs) (sym held.parts) ∙ sym opens.there ∙ lays_question bytes m lays in
-    let size : length q + length tail ≡ length p + length tail = sym (length-append q tail) ∙ ap (λ (xs : List ℕ). length xs) there ∙ length-append p tail in
+    let held = opened go bytes h q place m opens lays in
+    let there : asked ++ tail ≡ p ++ tail = ap (λ (xs : List ℕ). asked ++ xs) (sym held.parts) ∙ sym opens.asks.parts ∙ lays_question bytes m lays in
+    let size : length asked + length tail ≡ length p + length tail = sym (length-append asked tail) ∙ ap (λ (xs : List ℕ). length xs) there ∙ length-append p tail in
     let place_is : place ≡ 12 + length p = omega (arith, ends, size) in
     let older = older_octets secs m.records ++ m.rest in
     made ∙ ap (λ (xs : List ℕ). xs ++ older) (cut_there bytes m place lays place_is) ∙ append_assoc (header_octets m.header) p older

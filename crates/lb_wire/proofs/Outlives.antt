@@ -3,7 +3,7 @@ use Rattle.std.proofs.Common.{◌≡◌, ℕ, ◌≤◌, Bool, true, false, List
 use Rattle.std.specs.List.{AllByRecursion}
 use Rattle.lb_wire.specs.Record.{Record}
 use Rattle.lb_wire.specs.Opt.{is_opt, is_other, ttl_value, lesser, least, least_ttl}
-use Rattle.lb_wire.specs.Reply.{Outlives}
+use Rattle.lb_wire.specs.Aging.{Outlives}
 
 -- a number that may be missing is no less
 abbrev pub AtLeast : ℕ → Option ℕ → Type 0
