@@ -12,7 +12,7 @@ use Rattle.lb_chain.specs.declared.walked.Walked.{Walked}
 use Rattle.lb_chain.specs.declared.numbered.Numbered.{Numbered}
 use Rattle.lb_chain.specs.Edits.{limiters_in}
 use Rattle.lb_chain.specs.Walk.{ended_by, ending_of, is_no_recurse, is_skip_cache, passes_of, tested_by, truth_of, walk_of, with_before}
-use Rattle.lb_chain.proofs.Terms.{few_passes}
+use Rattle.lb_chain.proofs.Passes.{few_passes}
 
 or_assoc : (a b c : Bool) → (a || (b || c)) ≡ ((a || b) || c)
 or_assoc true b c = refl

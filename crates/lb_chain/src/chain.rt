@@ -5,17 +5,18 @@ ghost use Rattle.lb_wire.specs.declared.query.QueryView.{QueryView};
 ghost use Rattle.lb_wire.specs.declared.transport.Kind.{Kind as KindValue};
 ghost use Rattle.lb_chain.specs.Walk.{walk_of};
 ghost use Rattle.lb_chain.specs.Edits.{no_rules, added, removed, moved, lacks, listed_of};
-ghost use Rattle.lb_chain.specs.Rooms.{reserved_rules, passed_rules, counted, Ready, PartlyReserved};
+ghost use Rattle.lb_chain.specs.Counting.{reserved_rules, passed_rules, counted, RulesReady, PartlyReserved};
 ghost use Rattle.lb_chain.specs.Seen.{seen_rules};
 
+use crate::counting::{pass_rules, reserve_rules};
 use crate::edits::{insert_rule, move_rule, place_of};
 use crate::fault::ChainFault;
 use crate::listed::{Listed, list_rules};
 use crate::numbered::Numbered;
-use crate::rooms::{pass_rules, reserve_rules};
 use crate::rule::Rule;
 use crate::walk::walk_rules;
 use crate::walked::{MAX_LIMITERS, Walked};
+use lb_limits::{put_is_there, recent_twice, reserving_keeps_matches};
 use lb_terms::limiter_count;
 use lb_wire::{Addr, Kind, QueryView, RuleId};
 use std::alloc::{AllocError, Global};
@@ -39,7 +40,7 @@ pub struct Chain {
 impl Model for Chain {
     ghost use Rattle.std.specs.Prelude.{◌+◌};
     ghost use Rattle.lb_chain.specs.Edits.{Rules};
-    ghost use Rattle.lb_chain.specs.Kept.{IsChain};
+    ghost use Rattle.lb_chain.specs.Chain.{IsChain};
 
     ghost Value = { Rules };
 
@@ -153,7 +154,7 @@ impl Chain {
         requires moment { self.old.moment ≤ now }
         requires walked { (view : QueryView) × (kind : KindValue) × (walked.now ≡ walk_of self.old.rules view addr.now kind now) }
         ensures ok { OnOk result (self.new ≡ reserved_rules walked.now.passes addr.now now self.old) }
-        ensures ready { OnOk result (Ready walked.now.passes addr.now now self.new.rules) }
+        ensures ready { OnOk result (RulesReady walked.now.passes addr.now now self.new.rules) }
         ensures err { OnErr result (PartlyReserved walked.now.passes addr.now now self.old.rules self.new.rules) }
         // it refuses only where there is something to count
         ensures takes { OnErr result (0 < length walked.now.passes) }
@@ -162,6 +163,10 @@ impl Chain {
         // no walk and no count sees it
         ensures seen { seen_rules now self.new.rules ≡ seen_rules now self.old.rules }
     {
+        // Laws, which do nothing.
+        recent_twice();
+        put_is_there();
+        reserving_keeps_matches();
         self.moment = now;
         let passes = walked.passes.as_slice();
         if passes.is_empty() {
@@ -173,11 +178,13 @@ impl Chain {
     /// Counts the passes of a walk for which the memory was taken. It takes none.
     pub fn pass(&mut self, walked: &Walked, addr: &Addr, now: u64)
         requires moment { self.old.moment ≤ now }
-        requires ready { Ready walked.now.passes addr.now now self.old.rules }
+        requires ready { RulesReady walked.now.passes addr.now now self.old.rules }
         ensures passes { self.new ≡ passed_rules walked.now.passes addr.now now self.old }
         // what is seen is what is counted
         ensures seen { seen_rules now self.new.rules ≡ counted walked.now.passes addr.now now (seen_rules now self.old.rules) }
     {
+        // A law, which does nothing.
+        recent_twice();
         self.moment = now;
         let passes = walked.passes.as_slice();
         if !passes.is_empty() {

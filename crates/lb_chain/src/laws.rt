@@ -2,12 +2,20 @@
 
 ghost use Rattle.lb_chain.specs.Seen.{SeenWalks, SeenTwice};
 
+use lb_limits::recent_twice;
+
 /// Passes that no longer count at a moment have no part in a walk then or later; nor has what is reserved.
 pub fn seen_walks()
     ensures { SeenWalks }
-{}
+{
+    // A law, which does nothing.
+    recent_twice();
+}
 
 /// What is seen later does not depend on what was seen before.
 pub fn seen_twice()
     ensures { SeenTwice }
-{}
+{
+    // A law, which does nothing.
+    recent_twice();
+}

@@ -5,13 +5,13 @@
 mod action;
 mod addrs;
 mod chain;
+mod counting;
 mod edits;
 mod fault;
 mod laws;
 mod limiters;
 mod listed;
 mod numbered;
-mod rooms;
 mod rule;
 #[cfg(test)]
 mod tests;

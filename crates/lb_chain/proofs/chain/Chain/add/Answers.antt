@@ -1,5 +1,5 @@
 use Rattle.std.proofs.Common.{arith}
-use Rattle.lb_chain.proofs.Kept.{kept_inserted}
+use Rattle.lb_chain.proofs.Chains.{kept_inserted}
 use Rattle.lb_chain.proofs.chain.Chain.add.Goals as goal
 
 pub invariant_of-self : goal.invariant_of-self

@@ -1,7 +1,7 @@
 use Rattle.std.specs.List.{All}
 use Rattle.std.proofs.Common.{subst, sym, ◌≤◌, length, List}
 use Rattle.lb_chain.specs.declared.numbered.Numbered.{Numbered}
-use Rattle.lb_chain.proofs.Kept.{few_each}
+use Rattle.lb_chain.proofs.Chains.{few_each}
 use Rattle.lb_chain.proofs.chain.Chain.list.Goals as goal
 
 pub list_rules-requires : goal.list_rules-requires

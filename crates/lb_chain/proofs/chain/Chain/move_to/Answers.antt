@@ -1,5 +1,5 @@
 use Rattle.std.proofs.Common.{◌<◌, length, slice_get, refl, arith}
-use Rattle.lb_chain.proofs.Kept.{kept_put_again}
+use Rattle.lb_chain.proofs.Chains.{kept_put_again}
 use Rattle.lb_chain.proofs.chain.Chain.move_to.Goals as goal
 
 pub invariant_of-self : goal.invariant_of-self

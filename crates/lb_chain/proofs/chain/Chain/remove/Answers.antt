@@ -1,5 +1,5 @@
 use Rattle.std.proofs.Common.{◌<◌, length, arith}
-use Rattle.lb_chain.proofs.Kept.{limiters_within, kept_removed}
+use Rattle.lb_chain.proofs.Chains.{limiters_within, kept_removed}
 use Rattle.lb_chain.proofs.chain.Chain.remove.Goals as goal
 
 pub overflow_sub-self : goal.overflow_sub-self

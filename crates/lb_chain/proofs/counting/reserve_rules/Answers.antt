@@ -1,7 +1,7 @@
 use Rattle.std.proofs.Common.{◌<◌, length, refl, arith}
-use Rattle.lb_chain.proofs.Changed.{rules_next}
-use Rattle.lb_chain.proofs.Partly.{partly_none, partly_next}
-use Rattle.lb_chain.proofs.rooms.reserve_rules.Goals as goal
+use Rattle.lb_chain.proofs.ChangedRules.{rules_next}
+use Rattle.lb_chain.proofs.PartlyReserved.{partly_none, partly_next}
+use Rattle.lb_chain.proofs.counting.reserve_rules.Goals as goal
 
 pub loop-at-init : goal.loop-at-init
 loop-at-init c = (refl, partly_none c.args.passes.now c.args.addr.now c.args.now c.args.rules.now.items)

@@ -8,8 +8,8 @@ use Rattle.lb_wire.specs.declared.ids.RuleId.{RuleId}
 use Rattle.lb_limits.specs.Window.{Limits}
 use Rattle.lb_chain.specs.declared.walked.Passed.{Passed}
 use Rattle.lb_chain.specs.declared.numbered.Numbered.{Numbered}
-use Rattle.lb_chain.proofs.Kept.{IsLike, ArePast}
-use Rattle.lb_chain.specs.Rooms.{has_pass, changed_limits, changed_rule, changed_rules}
+use Rattle.lb_chain.proofs.Chains.{IsLike, ArePast}
+use Rattle.lb_chain.specs.Counting.{has_pass, changed_limits, changed_rule, changed_rules}
 
 -- a limiter with its number, changed where it has a pass
 abbrev pub changed_at : (Limits → Limits) → List Passed → RuleId → ℕ → Limits → Limits

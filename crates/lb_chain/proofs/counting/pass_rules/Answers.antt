@@ -1,7 +1,7 @@
 use Rattle.std.proofs.Common.{arith}
-use Rattle.lb_chain.proofs.Changed.{rules_next}
-use Rattle.lb_chain.proofs.Ready.{rule_there}
-use Rattle.lb_chain.proofs.rooms.pass_rules.Goals as goal
+use Rattle.lb_chain.proofs.ChangedRules.{rules_next}
+use Rattle.lb_chain.proofs.RulesReady.{rule_there}
+use Rattle.lb_chain.proofs.counting.pass_rules.Goals as goal
 
 pub pass_rule-requires-clause-ready : goal.pass_rule-requires-clause-ready
 pass_rule-requires-clause-ready c =
