@@ -13,7 +13,7 @@ use Rattle.lb_terms.specs.Truth.{limiters_of}
 use Rattle.lb_terms.specs.Limiters.{new_limiters}
 use Rattle.lb_chain.specs.declared.rule.Rule.{Rule}
 use Rattle.lb_chain.specs.declared.numbered.Numbered.{Numbered}
-use Rattle.lb_chain.specs.Edits.{numbered_of, put_again}
+use Rattle.lb_chain.specs.Edits.{limiters_in, numbered_of, put_again}
 use Rattle.lb_chain.specs.Chain.{IsKept, IsChain, with_id}
 use Rattle.lb_chain.proofs.Sums.{all_insert, all_remove, sum_moved, limiters_at, limiters_sum}
 
@@ -52,6 +52,10 @@ pub limiters_within : (last moment limiters : ℕ) (rules : List Numbered) (at :
 limiters_within last moment limiters rules at n chain lt is =
     let own : length n.limits ≡ limiters_at (get_or rules at n) = ap limiters_at is in
     omega (arith, get_or-le-sum_by limiters_at rules at n lt, limiters_sum rules, chain.count)
+
+-- nor have all rules, however they are told
+pub limiters_few : (last moment limiters : ℕ) (rules told : List Numbered) → told ≡ rules → IsChain last moment limiters rules → limiters_in told ≤ 16
+limiters_few last moment limiters rules told is chain = omega (arith, ap limiters_in is, chain.count, chain.few)
 
 -- a rule is taken out
 pub kept_removed : (last moment limiters : ℕ) (rules : List Numbered) (at : ℕ) (n : Numbered) → IsChain last moment limiters rules → at < length rules → n ≡ get_or rules at n → IsChain last moment (limiters - length n.limits) (remove rules at)

@@ -59,7 +59,7 @@ limits_more change passes rule xs ys i x d lt is new =
 abbrev pub rules_so_far : (Limits → Limits) → List Passed → ℕ → List Numbered → List Numbered
 rules_so_far change passes i xs = changed_rules change passes (take i xs) ++ drop i xs
 
-rules_long : (change : Limits → Limits) (passes : List Passed) (i : ℕ) (xs : List Numbered) → i ≤ length xs → length (changed_rules change passes (take i xs)) ≡ i
+pub rules_long : (change : Limits → Limits) (passes : List Passed) (i : ℕ) (xs : List Numbered) → i ≤ length xs → length (changed_rules change passes (take i xs)) ≡ i
 rules_long change passes i xs le = length-map (take i xs) (changed_rule change passes) ∙ length-take-le i xs le
 
 pub rules_there : (change : Limits → Limits) (passes : List Passed) (xs ys : List Numbered) (i : ℕ) (d : Numbered) → i < length xs → ys ≡ rules_so_far change passes i xs → get_or ys i d ≡ get_or xs i d

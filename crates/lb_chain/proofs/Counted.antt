@@ -11,12 +11,14 @@ use Rattle.lb_chain.specs.declared.walked.Passed.{Passed}
 use Rattle.lb_chain.specs.declared.numbered.Numbered.{Numbered}
 use Rattle.lb_chain.specs.Edits.{Rules}
 use Rattle.lb_chain.specs.Chain.{IsChain}
+use Rattle.lb_chain.specs.Places.{places_of}
 use Rattle.lb_chain.specs.Counting.{changed_rules, counted, passed_rules, reserved_rules, PartlyReserved, RulesReady}
 use Rattle.lb_chain.specs.Seen.{seen_rules}
 use Rattle.lb_chain.specs.Walk.{walk_of}
 use Rattle.lb_chain.proofs.ChangedRules.{changed_like, nothing_changed}
 use Rattle.lb_chain.proofs.Chains.{kept_like, past_of}
 use Rattle.lb_chain.proofs.PartlyReserved.{partly_like}
+use Rattle.lb_chain.proofs.PlacesFrom.{places_like}
 use Rattle.lb_chain.proofs.RulesReady.{ready_walk}
 use Rattle.lb_chain.proofs.Seen.{seen_counted}
 
@@ -25,15 +27,17 @@ pub found_empty : (passes own : List Passed) → passes ≡ own → true ≡ (le
 found_empty passes own same is = sym same ∙ nil_from_length passes (eqb-true (length passes) 0 (sym is))
 
 -- reserved, in part or whole, a chain keeps what it keeps
-pub kept_reserved : (last moment now limiters : ℕ) (passes : List Passed) (addr : Addr) (rules new : List Numbered) → moment ≤ now → IsChain last moment limiters rules → PartlyReserved passes addr now rules new → IsChain last now limiters new
-kept_reserved last moment now limiters passes addr rules new le chain partly =
-    kept_like last moment now limiters rules new chain (partly_like passes addr now rules new (past_of last moment now limiters rules le chain) partly)
+pub kept_reserved : (last moment now limiters : ℕ) (places : List ℕ) (passes : List Passed) (addr : Addr) (rules new : List Numbered) → moment ≤ now → IsChain last moment limiters rules × (places ≡ places_of rules) → PartlyReserved passes addr now rules new → IsChain last now limiters new × (places ≡ places_of new)
+kept_reserved last moment now limiters places passes addr rules new le chain partly =
+    let like = partly_like passes addr now rules new (past_of last moment now limiters rules le chain.0) partly in
+    (kept_like last moment now limiters rules new chain.0 like, chain.1 ∙ sym (places_like now 0 rules new like))
 
 -- so it does once the passes are counted
-pub kept_counted : (last moment now limiters : ℕ) (passes : List Passed) (addr : Addr) (rules new : List Numbered) → moment ≤ now → IsChain last moment limiters rules → new ≡ counted passes addr now rules → IsChain last now limiters new
-kept_counted last moment now limiters passes addr rules new le chain is =
-    let like = changed_like (λ l. passed_at l addr now) passes now rules (λ l. omega arith) (past_of last moment now limiters rules le chain) in
-    subst (IsChain last now limiters) (sym is) (kept_like last moment now limiters rules (counted passes addr now rules) chain like)
+pub kept_counted : (last moment now limiters : ℕ) (places : List ℕ) (passes : List Passed) (addr : Addr) (rules new : List Numbered) → moment ≤ now → IsChain last moment limiters rules × (places ≡ places_of rules) → new ≡ counted passes addr now rules → IsChain last now limiters new × (places ≡ places_of new)
+kept_counted last moment now limiters places passes addr rules new le chain is =
+    let like = changed_like (λ l. passed_at l addr now) passes now rules (λ l. omega arith) (past_of last moment now limiters rules le chain.0) in
+    subst (λ (ns : List Numbered). IsChain last now limiters ns × (places ≡ places_of ns)) (sym is)
+    (kept_like last moment now limiters rules (counted passes addr now rules) chain.0 like, chain.1 ∙ sym (places_like now 0 rules (counted passes addr now rules) like))
 
 -- what is seen of the chain once the passes are counted
 pub seen_passed : RecentTwice → (passes : List Passed) (addr : Addr) (now : ℕ) (rules new : List Numbered) → new ≡ counted passes addr now rules → seen_rules now new ≡ counted passes addr now (seen_rules now rules)

@@ -1,6 +1,7 @@
 pub mod Sums
 pub mod Chains
 pub mod ChangedRules
+pub mod PlacesFrom
 pub mod PartlyReserved
 pub mod Passes
 pub mod RulesReady

@@ -8,4 +8,5 @@ pub mod Edits
 pub mod Counting
 pub mod Seen
 pub mod Chain
+pub mod Places
 pub mod Addrs

@@ -13,6 +13,7 @@ use crate::edits::{insert_rule, move_rule, place_of};
 use crate::fault::ChainFault;
 use crate::listed::{Listed, list_rules};
 use crate::numbered::Numbered;
+use crate::places::Places;
 use crate::rule::Rule;
 use crate::walk::walk_rules;
 use crate::walked::{MAX_LIMITERS, Walked};
@@ -35,12 +36,16 @@ pub struct Chain {
     /// How many limiters the rules have.
     limiters: usize,
     rules: Vec<Numbered>,
+    /// Where the rules stand that have limiters; found anew after each edit.
+    places: Places,
 }
 
 impl Model for Chain {
     ghost use Rattle.std.specs.Prelude.{◌+◌};
     ghost use Rattle.lb_chain.specs.Edits.{Rules};
     ghost use Rattle.lb_chain.specs.Chain.{IsChain};
+    ghost use Rattle.lb_chain.specs.Places.{places_of};
+    ghost use Rattle.std.specs.Prelude.{◌≡◌};
 
     ghost Value = { Rules };
 
@@ -51,7 +56,7 @@ impl Model for Chain {
 
     ghost view = { λ c. record { next = c.last_rule + 1; moment = c.moment; rules = c.rules.items } };
 
-    ghost invariant = { λ c. IsChain c.last_rule c.moment c.limiters c.rules.items };
+    ghost invariant = { λ c. IsChain c.last_rule c.moment c.limiters c.rules.items × (c.places ≡ places_of c.rules.items) };
 }
 
 impl Chain {
@@ -64,6 +69,7 @@ impl Chain {
             moment: 0,
             limiters: 0,
             rules: Vec::new(alloc),
+            places: Places::new(),
         }
     }
 
@@ -105,6 +111,7 @@ impl Chain {
             Ok(()) => {
                 self.limiters += count;
                 self.last_rule = id;
+                self.places = Places::of(self.rules.as_slice());
                 Ok(RuleId(id))
             }
             Err(_) => Err(ChainFault::NoMemory),
@@ -120,6 +127,7 @@ impl Chain {
         };
         let gone = self.rules.remove(at);
         self.limiters -= gone.limits.len();
+        self.places = Places::of(self.rules.as_slice());
         Ok(())
     }
 
@@ -136,6 +144,7 @@ impl Chain {
             return Err(ChainFault::BadPlace);
         }
         move_rule(&mut self.rules, at, place);
+        self.places = Places::of(self.rules.as_slice());
         Ok(())
     }
 
@@ -172,7 +181,7 @@ impl Chain {
         if passes.is_empty() {
             return Ok(());
         }
-        reserve_rules(&mut self.rules, passes, addr, now)
+        reserve_rules(&mut self.rules, self.places.as_slice(), passes, addr, now)
     }
 
     /// Counts the passes of a walk for which the memory was taken. It takes none.
@@ -188,7 +197,7 @@ impl Chain {
         self.moment = now;
         let passes = walked.passes.as_slice();
         if !passes.is_empty() {
-            pass_rules(&mut self.rules, passes, addr, now);
+            pass_rules(&mut self.rules, self.places.as_slice(), passes, addr, now);
         }
     }
 }

@@ -12,6 +12,7 @@ mod laws;
 mod limiters;
 mod listed;
 mod numbered;
+mod places;
 mod rule;
 #[cfg(test)]
 mod tests;

@@ -10,7 +10,7 @@ pub invariant_of-self : goal.invariant_of-self
 invariant_of-self c =
     let same = ap (λ (chain : Rules). chain.moment) c.self.view_is in
     let le : c.self.inside.moment ≤ c.args.now = omega (arith, same, c.requires.moment) in
-    kept_counted c.self.inside.last_rule c.self.inside.moment c.args.now c.self.inside.limiters c.as_slice-passes.result.now c.args.addr.now c.self.inside.rules.items c.pass_rules.new.rules.items le c.self.invariant c.pass_rules.ensures
+    kept_counted c.self.inside.last_rule c.self.inside.moment c.args.now c.self.inside.limiters c.self.inside.places c.as_slice-passes.result.now c.args.addr.now c.self.inside.rules.items c.pass_rules.new.rules.items le c.self.invariant c.pass_rules.ensures
 
 pub returns-then-not-is_empty-clause-seen : goal.returns-then-not-is_empty-clause-seen
 returns-then-not-is_empty-clause-seen c =

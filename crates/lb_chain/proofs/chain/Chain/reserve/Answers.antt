@@ -26,7 +26,7 @@ pub invariant_of-self-2 : goal.invariant_of-self-2
 invariant_of-self-2 c =
     let same = ap (λ (chain : Rules). chain.moment) c.self.view_is in
     let le : c.self.inside.moment ≤ c.args.now = omega (arith, same, c.requires.moment) in
-    kept_reserved c.self.inside.last_rule c.self.inside.moment c.args.now c.self.inside.limiters c.as_slice-passes.result.now c.args.addr.now c.self.inside.rules.items c.reserve_rules.new.rules.items le c.self.invariant c.reserve_rules.ensures.partly
+    kept_reserved c.self.inside.last_rule c.self.inside.moment c.args.now c.self.inside.limiters c.self.inside.places c.as_slice-passes.result.now c.args.addr.now c.self.inside.rules.items c.reserve_rules.new.rules.items le c.self.invariant c.reserve_rules.ensures.partly
 
 pub returns-clause-ready : goal.returns-clause-ready
 returns-clause-ready c =
@@ -36,7 +36,7 @@ returns-clause-ready c =
     c.as_slice-passes.ensures ∙ ap (λ (w : Walked). w.passes) c.requires.walked.2 ∙ ap (λ (chain : Rules). (walk_of chain.rules view c.args.addr.now kind c.args.now).passes) (sym c.self.view_is) in
     on_ok_weaker c.reserve_rules.result
     (λ is. subst (λ (passes : List Passed). RulesReady passes c.args.addr.now c.args.now c.reserve_rules.new.rules.items) c.as_slice-passes.ensures
-    (ready_reserved c.put_is_there.ensures c.reserving_keeps_matches.ensures c.self.inside.last_rule c.self.inside.moment c.args.now c.self.inside.limiters c.as_slice-passes.result.now c.args.addr.now c.self.inside.rules.items c.reserve_rules.new.rules.items view kind c.self.invariant walked is))
+    (ready_reserved c.put_is_there.ensures c.reserving_keeps_matches.ensures c.self.inside.last_rule c.self.inside.moment c.args.now c.self.inside.limiters c.as_slice-passes.result.now c.args.addr.now c.self.inside.rules.items c.reserve_rules.new.rules.items view kind c.self.invariant.0 walked is))
     c.reserve_rules.ensures.ok
 
 pub returns-clause-seen : goal.returns-clause-seen
