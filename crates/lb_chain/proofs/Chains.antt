@@ -1,21 +1,41 @@
 -- A chain keeps what it keeps true, through each edit.
-use Rattle.std.proofs.Common.{◌≡◌, ℕ, ◌+◌, ◌-◌, ◌<◌, ◌≤◌, cond, ◌==◌, List, [], ◌∷◌, length, get_or, Option, None, Some, slice_get, inl, inr, refl, sym, ap, subst, ◌∙◌, arith}
+use Rattle.std.proofs.Common.{◌≡◌, ℕ, ◌+◌, ◌-◌, ◌<◌, ◌≤◌, cond, ◌==◌, List, [], ◌∷◌, ◌++◌, length, map, get_or, Option, None, Some, slice_get, inl, inr, refl, sym, ap, subst, ◌∙◌, arith}
 use Rattle.std.specs.List.{All, AllZip, insert, remove, sum_by}
 use Rattle.std.proofs.lemmas.Bool.{cases_Bool}
 use Rattle.std.proofs.lemmas.Bool.Decides.{nat_tests}
 use Rattle.std.proofs.lemmas.Option.{get_or_from_slice_get}
+use Rattle.std.proofs.lemmas.List.{map-append}
 use Rattle.std.proofs.lemmas.List.Edits.{length-insert, length-remove}
 use Rattle.std.proofs.lemmas.List.Elements.{All-nil, All-cons, All-head, All-tail, All-get_or, All-weaker, length_all_zip}
 use Rattle.std.proofs.lemmas.List.Sums.{sum_by-cons, sum_by-insert, sum_by-remove, get_or-le-sum_by}
 use Rattle.lb_wire.specs.declared.ids.RuleId.{RuleId}
 use Rattle.lb_limits.specs.Window.{Limits}
 use Rattle.lb_terms.specs.Truth.{limiters_of}
-use Rattle.lb_terms.specs.Limiters.{new_limiters}
+use Rattle.lb_terms.specs.Limiters.{new_limiters, limiters_each}
+use Rattle.lb_terms.specs.Selector.{Selector, All as Every, Suffix, Masks, Qtype, And, Or, Not, MaxQps, Selectors, end, more}
+use Rattle.lb_chain.specs.Listed.{as_new}
 use Rattle.lb_chain.specs.declared.rule.Rule.{Rule}
 use Rattle.lb_chain.specs.declared.numbered.Numbered.{Numbered}
 use Rattle.lb_chain.specs.Edits.{limiters_in, numbered_of, put_again}
 use Rattle.lb_chain.specs.Chain.{IsKept, IsChain, with_id}
 use Rattle.lb_chain.proofs.Sums.{all_insert, all_remove, sum_moved, limiters_at, limiters_sum}
+
+-- the limiters that are made for a term have its rates
+mutual
+  pub own_new : (term : Selector) → map as_new (new_limiters term) ≡ new_limiters term
+  own_new Every = refl
+  own_new (Suffix names) = refl
+  own_new (Masks group) = refl
+  own_new (Qtype qtype) = refl
+  own_new (And members) = own_each members
+  own_new (Or members) = own_each members
+  own_new (Not member) = own_new member
+  own_new (MaxQps qps v4 v6) = refl
+
+  pub own_each : (members : Selectors) → map as_new (limiters_each members) ≡ limiters_each members
+  own_each end = refl
+  own_each (more member members) =
+      map-append as_new (new_limiters member) (limiters_each members) ∙ ap (λ (ls : List Limits). ls ++ map as_new (limiters_each members)) (own_new member) ∙ ap (λ (ls : List Limits). new_limiters member ++ ls) (own_each members)
 
 -- one where the rule has the number
 abbrev pub has_id : ℕ → Numbered → ℕ
@@ -88,6 +108,8 @@ kept_moved last moment limiters rules at place d chain lt to =
 
 later : (moment now : ℕ) → moment ≤ now → (n : Numbered) → IsKept moment n → IsKept now n
 later moment now le n kept = record {
+  number = kept.number;
+  own = kept.own;
   limiters = kept.limiters;
   moments = All-weaker (λ (l : Limits). l.moment ≤ moment) (λ (l : Limits). l.moment ≤ now) (λ l h. omega arith) n.limits kept.moments;
 }
@@ -108,6 +130,7 @@ pub record IsLike (now : ℕ) (a b : Numbered) : Type 0 where
   pub id : b.id ≡ a.id
   pub rule : b.rule ≡ a.rule
   pub limiters : length b.limits ≡ length a.limits
+  pub rates : map as_new b.limits ≡ map as_new a.limits
   pub moments : All (λ l. l.moment ≤ now) b.limits
 
 like_each : (moment now : ℕ) (old new : List Numbered) → All (IsKept moment) old → AllZip (IsLike now) old new → All (IsKept now) new
@@ -115,6 +138,8 @@ like_each moment now [] [] each zip = All-nil (IsKept now)
 like_each moment now (a ∷ old) (b ∷ new) each zip =
     let kept : IsKept moment a = All-head (IsKept moment) a old each in
     let here : IsKept now b = record {
+      number = omega (arith, kept.number, ap (λ (id : RuleId). id.0) zip.0.id);
+      own = zip.0.rates ∙ kept.own ∙ ap (λ (rule : Rule). new_limiters rule.term) (sym zip.0.rule);
       limiters = zip.0.limiters ∙ kept.limiters ∙ ap (λ (rule : Rule). limiters_of rule.term) (sym zip.0.rule);
       moments = zip.0.moments;
     } in
@@ -168,6 +193,6 @@ kept_inserted last moment limiters count place rules new rule chain at short few
     let sum : limiters + length n.limits ≡ limiters + count = omega arith in
     let past : All (λ l. l.moment ≤ moment) (new_limiters rule.term) =
     All-weaker (λ (l : Limits). l.moment ≡ 0) (λ (l : Limits). l.moment ≤ moment) (λ l zero. omega arith) (new_limiters rule.term) fresh in
-    let kept : IsKept moment n = record { limiters = made; moments = past } in
+    let kept : IsKept moment n = record { number = omega arith; own = own_new rule.term; limiters = made; moments = past } in
     let whole : IsChain (last + 1) moment (limiters + length n.limits) (insert rules place n) = kept_added last moment limiters rules place n chain at short (omega arith) refl kept in
     subst (IsChain (last + 1) moment (limiters + count)) (sym is) (subst (λ (k : ℕ). IsChain (last + 1) moment k (insert rules place n)) sum whole)

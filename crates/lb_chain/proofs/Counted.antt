@@ -1,5 +1,5 @@
 -- A chain after the passes of a walk were reserved or counted.
-use Rattle.std.proofs.Common.{◌≡◌, ℕ, ◌≤◌, ◌==◌, true, List, [], length, sym, ap, subst, ◌∙◌, arith}
+use Rattle.std.proofs.Common.{refl, ◌≡◌, ℕ, ◌≤◌, ◌==◌, true, List, [], length, sym, ap, subst, ◌∙◌, arith}
 use Rattle.std.proofs.lemmas.Bool.{eqb-true}
 use Rattle.std.proofs.lemmas.List.{nil_from_length}
 use Rattle.lb_wire.specs.declared.addr.Addr.{Addr}
@@ -35,7 +35,7 @@ kept_reserved last moment now limiters places passes addr rules new le chain par
 -- so it does once the passes are counted
 pub kept_counted : (last moment now limiters : ℕ) (places : List ℕ) (passes : List Passed) (addr : Addr) (rules new : List Numbered) → moment ≤ now → IsChain last moment limiters rules × (places ≡ places_of rules) → new ≡ counted passes addr now rules → IsChain last now limiters new × (places ≡ places_of new)
 kept_counted last moment now limiters places passes addr rules new le chain is =
-    let like = changed_like (λ l. passed_at l addr now) passes now rules (λ l. omega arith) (past_of last moment now limiters rules le chain.0) in
+    let like = changed_like (λ l. passed_at l addr now) passes now rules (λ l. omega arith) (λ l. refl) (past_of last moment now limiters rules le chain.0) in
     subst (λ (ns : List Numbered). IsChain last now limiters ns × (places ≡ places_of ns)) (sym is)
     (kept_like last moment now limiters rules (counted passes addr now rules) chain.0 like, chain.1 ∙ sym (places_like now 0 rules (counted passes addr now rules) like))
 

@@ -10,3 +10,4 @@ pub mod Walks
 pub mod IsAddrs
 pub mod Counted
 pub mod CountedFrom
+pub mod Listings

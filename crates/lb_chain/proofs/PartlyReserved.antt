@@ -11,6 +11,7 @@ use Rattle.lb_chain.specs.declared.rule.Rule.{Rule}
 use Rattle.lb_chain.specs.declared.walked.Passed.{Passed}
 use Rattle.lb_chain.specs.declared.numbered.Numbered.{Numbered}
 use Rattle.lb_chain.specs.Counting.{has_pass, SomeReserved, PartlyReserved}
+use Rattle.lb_chain.specs.Listed.{as_new}
 use Rattle.lb_chain.specs.Seen.{seen_limits, seen_rule, seen_rules}
 use Rattle.lb_chain.proofs.ChangedRules.{changed_at, limits_so_far, limits_there, rules_so_far, rules_there}
 use Rattle.lb_chain.proofs.Chains.{IsLike, ArePast}
@@ -53,6 +54,17 @@ some_length passes addr now rule at [] (m ∷ new) some = absurd some
 some_length passes addr now rule at (l ∷ old) [] some = absurd some
 some_length passes addr now rule at (l ∷ old) (m ∷ new) some = omega (arith, some_length passes addr now rule (at + 1) old new some.3)
 
+taken_rate : (addr : Addr) (now : ℕ) (taken : Bool) (l m : Limits) → m ≡ (if taken then reserved_at l addr now else l) → as_new m ≡ as_new l
+taken_rate addr now true l m is = ap as_new is
+taken_rate addr now false l m is = ap as_new is
+
+some_rates : (passes : List Passed) (addr : Addr) (now : ℕ) (rule : RuleId) (at : ℕ) (old new : List Limits) → SomeReserved passes addr now rule at old new → map as_new new ≡ map as_new old
+some_rates passes addr now rule at [] [] some = refl
+some_rates passes addr now rule at [] (m ∷ new) some = absurd some
+some_rates passes addr now rule at (l ∷ old) [] some = absurd some
+some_rates passes addr now rule at (l ∷ old) (m ∷ new) some =
+    ap (λ (k : Limits). k ∷ map as_new new) (taken_rate addr now some.0 l m some.2) ∙ ap (λ (ks : List Limits). as_new l ∷ ks) (some_rates passes addr now rule (at + 1) old new some.3)
+
 abbrev IsPast : ℕ → Limits → Type 0
 IsPast now l = l.moment ≤ now
 
@@ -78,11 +90,12 @@ partly_like passes addr now (a ∷ old) (b ∷ new) past partly =
       id = partly.0;
       rule = partly.1;
       limiters = some_length passes addr now a.id 0 a.limits b.limits partly.2;
+      rates = some_rates passes addr now a.id 0 a.limits b.limits partly.2;
       moments = some_past passes addr now a.id 0 a.limits b.limits (All-head (ArePast now) a old past) partly.2;
     } in
     (here, partly_like passes addr now old new (All-tail (ArePast now) a old past) partly.3)
 
-same_seen : (now : ℕ) (a b : Numbered) → b.id ≡ a.id → b.rule ≡ a.rule → map (seen_limits now) b.limits ≡ map (seen_limits now) a.limits → seen_rule now b ≡ seen_rule now a
+pub same_seen : (now : ℕ) (a b : Numbered) → b.id ≡ a.id → b.rule ≡ a.rule → map (seen_limits now) b.limits ≡ map (seen_limits now) a.limits → seen_rule now b ≡ seen_rule now a
 same_seen now a b id rule limits =
     ap (λ (i : RuleId). record (seen_rule now b) { id = i }) id ∙ ap (λ (r : Rule). record (seen_rule now b) { id = a.id; rule = r }) rule ∙ ap (λ (ls : List Limits). record (seen_rule now a) { limits = ls }) limits
 

@@ -7,6 +7,7 @@ pub mod Walk
 pub mod Edits
 pub mod Counting
 pub mod Seen
+pub mod Listed
 pub mod Chain
 pub mod Places
 pub mod Addrs

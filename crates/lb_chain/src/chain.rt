@@ -1,10 +1,12 @@
 //! The chain.
 
 ghost use Rattle.std.specs.Prelude.{◌≡◌, ◌≤◌, ◌<◌, ℕ, IfOk, OnOk, OnErr, length, map};
+ghost use Rattle.std.specs.List.{All};
 ghost use Rattle.lb_wire.specs.declared.query.QueryView.{QueryView};
 ghost use Rattle.lb_wire.specs.declared.transport.Kind.{Kind as KindValue};
 ghost use Rattle.lb_chain.specs.Walk.{walk_of};
-ghost use Rattle.lb_chain.specs.Edits.{no_rules, added, removed, moved, lacks, listed_of};
+ghost use Rattle.lb_chain.specs.Edits.{no_rules, added, removed, moved, lacks};
+ghost use Rattle.lb_chain.specs.Listed.{listed_of, HasOwnLimiters};
 ghost use Rattle.lb_chain.specs.Counting.{reserved_rules, passed_rules, counted, RulesReady, PartlyReserved};
 ghost use Rattle.lb_chain.specs.Seen.{seen_rules};
 
@@ -82,16 +84,28 @@ impl Chain {
 
     /// The rules in their order, with the passes that their limiters hold. The one error is want of memory.
     pub fn list(&self, alloc: Global) -> Result<Vec<Listed>, AllocError>
-        ensures { IfOk result (λ list. list.items ≡ map listed_of self.now.rules) }
+        ensures list { IfOk result (λ list. list.items ≡ map listed_of self.now.rules) }
+        // so the list determines what is seen of the rules: a law says so
+        ensures own { All HasOwnLimiters self.now.rules }
     {
         list_rules(alloc, self.rules.as_slice())
+    }
+
+    /// Each rule of a chain has a number from 1 on and the limiters of its term. A law: the call does nothing.
+    pub fn law_of_rules(&self)
+        ensures numbers { All (λ n. 1 ≤ n.id.0) self.now.rules }
+        ensures own { All HasOwnLimiters self.now.rules }
+    {
+        // Read, so that what the chain keeps true is at hand.
+        let _ = self.rules.len();
     }
 
     /// Adds a rule at a place of the list, counted from 0, and gives its number. The refusals are tested in this order:
     /// `BadPlace`, `TooManyRules` (4,096), `TooManyLimiters` (16 in the whole chain), `NoMoreIds`, `NoMemory`; each drops
     /// the rule and leaves the chain as it was.
     pub fn add(&mut self, place: usize, rule: Rule) -> Result<RuleId, ChainFault>
-        ensures { (self.new, result) ≡ added (lacks result) self.old place rule }
+        ensures added { (self.new, result) ≡ added (lacks result) self.old place rule }
+        ensures number { IfOk result (λ id. 1 ≤ id.0) }
     {
         if place > self.rules.len() {
             return Err(ChainFault::BadPlace);

@@ -1,6 +1,7 @@
 //! What holds of chains as they are seen at a moment.
 
 ghost use Rattle.lb_chain.specs.Seen.{SeenWalks, SeenTwice};
+ghost use Rattle.lb_chain.specs.Listed.{ListedAlikeSeenAlike, SeenHaveOwnLimiters};
 
 use lb_limits::recent_twice;
 
@@ -19,3 +20,13 @@ pub fn seen_twice()
     // A law, which does nothing.
     recent_twice();
 }
+
+/// What is listed of rules determines what is seen of them at every moment, where each has the limiters of its term.
+pub fn listed_alike_seen_alike()
+    ensures { ListedAlikeSeenAlike }
+{}
+
+/// Rules that have the limiters of their terms have them as they are seen at a moment.
+pub fn seen_have_own_limiters()
+    ensures { SeenHaveOwnLimiters }
+{}
