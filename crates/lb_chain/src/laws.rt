@@ -2,6 +2,7 @@
 
 ghost use Rattle.lb_chain.specs.Seen.{SeenWalks, SeenTwice};
 ghost use Rattle.lb_chain.specs.Listed.{ListedAlikeSeenAlike, SeenHaveOwnLimiters};
+ghost use Rattle.lb_chain.specs.Walk.{AllowedWhereNoneEnds, FirstToEndDecides};
 
 use lb_limits::recent_twice;
 
@@ -29,4 +30,10 @@ pub fn listed_alike_seen_alike()
 /// Rules that have the limiters of their terms have them as they are seen at a moment.
 pub fn seen_have_own_limiters()
     ensures { SeenHaveOwnLimiters }
+{}
+
+/// The first rule of the list that holds and ends the walk decides; where there is none, the query is allowed.
+pub fn first_to_end_decides()
+    ensures decides { FirstToEndDecides }
+    ensures allows { AllowedWhereNoneEnds }
 {}
