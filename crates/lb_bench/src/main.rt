@@ -7,7 +7,7 @@ mod messages;
 mod rules;
 
 use messages::{time_answers, time_surveys};
-use rules::{time_limiter, time_walks};
+use rules::{time_counting, time_limiter, time_walks};
 use std::{env, io};
 
 fn main(rt: HostRuntime) -> io::Result<()> {
@@ -18,6 +18,7 @@ fn main(rt: HostRuntime) -> io::Result<()> {
         }
         if word.as_str() == "rules" {
             time_walks(&rt)?;
+            time_counting(&rt)?;
             time_limiter(&rt)?;
         }
     }

@@ -1,13 +1,16 @@
 //! How long a query takes that is walked through many rules, and one that is counted by a limiter.
 
-use lb_chain::{Action, Rule};
+ghost use Rattle.std.specs.Prelude.{◌≤◌};
+
+use lb_chain::{Action, Chain, Rule};
 use lb_core::{Answer, Balancer, Command, Event, LocalReason};
 use lb_masks::{Group, Mask};
 use lb_name::Name;
 use lb_terms::{Names, Term};
-use lb_wire::{Addr, Kind, Octets, Origin, Rcode, RecordType};
+use lb_wire::{Addr, Kind, Octets, Origin, QueryView, Rcode, RecordType, read_query};
 use std::alloc::{AllocError, Global};
 use std::io;
+use std::marker::Model;
 use std::time::Instant;
 
 /// The most rules of a list.
@@ -78,6 +81,97 @@ pub(crate) fn time_limiter(rt: &HostRuntime) -> io::Result<()> {
     let asked = ask(alloc, &mut balancer, QUERIES)?;
     let nanos = start.elapsed(rt)?.as_nanos() / u128::from(QUERIES);
     eprintln!(rt; "maxqps(1000), 4,096 addresses: {nanos} ns a query of one more ({asked} over)")
+}
+
+/// A chain, and the moment of its next query, in milliseconds.
+#[derive(Drop)]
+struct Counter {
+    chain: Chain,
+    now: u64,
+}
+
+impl Model for Counter {
+    ghost use Rattle.std.specs.Prelude.{ℕ};
+
+    ghost Value = { ℕ };
+
+    ghost view = { λ c. c.now };
+
+    ghost invariant = { λ c. c.chain.moment ≤ c.now };
+}
+
+impl Counter {
+    /// A chain whose first rule counts each query and ends its walk, with so many rules in all.
+    fn new(alloc: Global, rules: u32) -> Result<Counter, AllocError> {
+        let mut counter = Counter {
+            chain: Chain::new(alloc),
+            now: 0,
+        };
+        let within = Term::Not(Box::new(alloc, term_of(alloc, Asks::Rate)?)?);
+        counter.add(within)?;
+        for _ in 1..rules {
+            counter.add(Term::Qtype(RecordType::A))?;
+        }
+        Ok(counter)
+    }
+
+    /// Adds a rule behind the others.
+    fn add(&mut self, term: Term) -> Result<(), AllocError> {
+        let Ok(term) = term.checked() else {
+            return Err(AllocError);
+        };
+        let action = Action::Allow;
+        match self.chain.add(self.chain.len(), Rule { term, action }) {
+            Ok(_) => Ok(()),
+            Err(_) => Err(AllocError),
+        }
+    }
+
+    /// Walks the rules for one query, two milliseconds after the last.
+    fn walk(&mut self, view: &QueryView) -> bool {
+        self.now = self.now.saturating_add(2);
+        let walked = self.chain.walk(view, &SOURCE, Kind::Datagram, self.now);
+        walked.rule.is_some()
+    }
+
+    /// Walks the rules for one query and counts it, two milliseconds after the last.
+    fn count(&mut self, view: &QueryView) -> Result<bool, AllocError> {
+        self.now = self.now.saturating_add(2);
+        let walked = self.chain.walk(view, &SOURCE, Kind::Datagram, self.now);
+        self.chain.reserve(&walked, &SOURCE, self.now)?;
+        self.chain.pass(&walked, &SOURCE, self.now);
+        Ok(walked.rule.is_some())
+    }
+}
+
+/// Counts queries by the first rule of a list: what the walk of that rule alone takes is taken off.
+pub(crate) fn time_counting(rt: &HostRuntime) -> io::Result<()> {
+    let Ok(view) = read_query(QUERY.as_slice()) else {
+        return Ok(());
+    };
+    for rules in [1, RULES] {
+        let mut counter = Counter::new(rt.alloc(), rules)?;
+        let mut ended = 0u32;
+        let start = Instant::now(rt)?;
+        for _ in 0..QUERIES {
+            if counter.walk(&view) {
+                ended = ended.wrapping_add(1);
+            }
+        }
+        let walks = start.elapsed(rt)?.as_nanos();
+        let start = Instant::now(rt)?;
+        for _ in 0..QUERIES {
+            if counter.count(&view)? {
+                ended = ended.wrapping_add(1);
+            }
+        }
+        let counts = start.elapsed(rt)?.as_nanos();
+        let nanos = counts.saturating_sub(walks) / u128::from(QUERIES);
+        eprintln!(rt;
+            "counted by the first of {rules} rules: {nanos} ns to reserve and pass ({ended} ended the walk)"
+        )?;
+    }
+    Ok(())
 }
 
 /// Asks so often from one address, and tells how often a rule ended the walk.

@@ -1,7 +1,10 @@
 -- The walk, one rule after the other.
-use Rattle.std.proofs.Common.{◌≡◌, Bool, true, false, ℕ, ◌+◌, ◌<◌, ◌≤◌, ◌||◌, List, ◌∷◌, ◌++◌, length, get_or, drop, Option, None, refl, sym, ap, subst, ◌∙◌, arith, append_assoc, length-append}
+use Rattle.std.proofs.Common.{◌≡◌, Bool, true, false, ℕ, ◌+◌, ◌<◌, ◌≤◌, ◌&&◌, ◌||◌, if◌then◌else◌, List, [], ◌∷◌, ◌++◌, length, get_or, drop, Option, Some, None, refl, sym, ap, subst, ◌∙◌, arith, append_assoc, length-append}
 use Rattle.std.specs.List.{All}
-use Rattle.std.proofs.lemmas.List.{drop_more, length-map}
+use Rattle.std.proofs.lemmas.List.{append-nil, drop_more, length-map}
+use Rattle.std.proofs.lemmas.List.Concat.{flat_map-cons}
+use Rattle.std.proofs.lemmas.Grind.{flat_map-append}
+use Rattle.std.proofs.lemmas.List.Elements.{All-head, All-tail}
 use Rattle.lb_wire.specs.declared.addr.Addr.{Addr}
 use Rattle.lb_wire.specs.declared.transport.Kind.{Kind}
 use Rattle.lb_wire.specs.declared.query.QueryView.{QueryView}
@@ -11,8 +14,9 @@ use Rattle.lb_chain.specs.declared.walked.Verdict.{Verdict}
 use Rattle.lb_chain.specs.declared.walked.Walked.{Walked}
 use Rattle.lb_chain.specs.declared.numbered.Numbered.{Numbered}
 use Rattle.lb_chain.specs.Edits.{limiters_in}
-use Rattle.lb_chain.specs.Walk.{ended_by, ending_of, is_no_recurse, is_skip_cache, passes_of, tested_by, truth_of, walk_of, with_before}
-use Rattle.lb_chain.proofs.Terms.{few_passes}
+use Rattle.lb_chain.specs.declared.walked.Verdict.TheVariants as verdicts
+use Rattle.lb_chain.specs.Walk.{ending_by, no_rule, one_says, passes_in, ended_by, ending_of, is_no_recurse, is_skip_cache, passes_of, tested_by, truth_of, walk_of, with_before}
+use Rattle.lb_chain.proofs.Passes.{few_passes}
 
 or_assoc : (a b c : Bool) → (a || (b || c)) ≡ ((a || b) || c)
 or_assoc true b c = refl
@@ -89,3 +93,61 @@ next_goes_on rules i n view addr kind now a b c d ps qs whole lt is holds none n
     let f : Bool = b || is_skip_cache n.rule.action in
     ap (λ (x : Bool). with_before x d qs after) c_is ∙ ap (λ (x : Bool). with_before e x qs after) d_is ∙ ap (λ (x : List Passed). with_before e f x after) next
     ∙ sym (walk_goes_on rules i n view addr kind now a b ps lt is holds none) ∙ before
+
+-- a rule that does not end the walk leaves its flags, where it holds
+tested_none : (n : Numbered) (truth : Bool) (ending : Option Verdict) (passes : List Passed) (after : Walked) → (if truth then ending else None) ≡ None → tested_by n truth ending passes after ≡ with_before (truth && is_no_recurse n.rule.action) (truth && is_skip_cache n.rule.action) passes after
+tested_none n true None passes after is = refl
+tested_none n true (Some verdict) passes after is = absurd (cc)
+tested_none n false ending passes after is = refl
+
+-- one that ends it decides
+tested_some : (n : Numbered) (truth : Bool) (ending : Option Verdict) (passes : List Passed) (after : Walked) (verdict : Verdict) → (if truth then ending else None) ≡ Some verdict → tested_by n truth ending passes after ≡ ended_by n (Some verdict) passes after
+tested_some n true None passes after verdict is = absurd (cc)
+tested_some n true (Some own) passes after verdict is = ap (λ (ending : Option Verdict). ended_by n ending passes after) is
+tested_some n false ending passes after verdict is = absurd (cc)
+
+-- rules that do not end the walk, in front of others
+none_ends : (before rest : List Numbered) (view : QueryView) (addr : Addr) (kind : Kind) (now : ℕ) → All (λ m. ending_by m view addr kind now ≡ None) before → walk_of (before ++ rest) view addr kind now ≡ with_before (one_says is_no_recurse before view addr now) (one_says is_skip_cache before view addr now) (passes_in before view addr now) (walk_of rest view addr kind now)
+none_ends [] rest view addr kind now none = refl
+none_ends (m ∷ before) rest view addr kind now none =
+    let P : Numbered → Type 0 = λ m. ending_by m view addr kind now ≡ None in
+    let truth : Bool = truth_of m view addr now in
+    let own : List Passed = passes_of m view addr now in
+    let a : Bool = truth && is_no_recurse m.rule.action in
+    let b : Bool = truth && is_skip_cache m.rule.action in
+    tested_none m truth (ending_of m.rule.action view kind) own (walk_of (before ++ rest) view addr kind now) (All-head P m before none)
+    ∙ ap (with_before a b own) (none_ends before rest view addr kind now (All-tail P m before none))
+    ∙ before_both a b own (one_says is_no_recurse before view addr now) (one_says is_skip_cache before view addr now) (passes_in before view addr now) (walk_of rest view addr kind now)
+
+-- a rule, and what was before it
+with_flags : (a b : Bool) (ps : List Passed) (w : Walked) → w.no_recurse ≡ false → w.skip_cache ≡ false → with_before a b ps w ≡ record w { no_recurse = a; skip_cache = b; passes = ps ++ w.passes }
+with_flags a b ps w no_recurse skip_cache =
+    ap (λ (x : Bool). record w { no_recurse = a || x; skip_cache = b || w.skip_cache; passes = ps ++ w.passes }) no_recurse
+    ∙ ap (λ (x : Bool). record w { no_recurse = a || false; skip_cache = b || x; passes = ps ++ w.passes }) skip_cache
+    ∙ ap (λ (x : Bool). record w { no_recurse = x; skip_cache = b || false; passes = ps ++ w.passes }) (or_none a)
+    ∙ ap (λ (x : Bool). record w { no_recurse = a; skip_cache = x; passes = ps ++ w.passes }) (or_none b)
+
+pub first_to_end : (before after : List Numbered) (n : Numbered) (verdict : Verdict) (view : QueryView) (addr : Addr) (kind : Kind) (now : ℕ) → All (λ m. ending_by m view addr kind now ≡ None) before → ending_by n view addr kind now ≡ Some verdict → walk_of (before ++ n ∷ after) view addr kind now ≡ record { rule = Some n.id; verdict = verdict; no_recurse = one_says is_no_recurse before view addr now; skip_cache = one_says is_skip_cache before view addr now; passes = passes_in (before ++ n ∷ []) view addr now }
+first_to_end before after n verdict view addr kind now none ends =
+    let a : Bool = one_says is_no_recurse before view addr now in
+    let b : Bool = one_says is_skip_cache before view addr now in
+    let ps : List Passed = passes_in before view addr now in
+    let own : List Passed = passes_of n view addr now in
+    let end : Walked = record { rule = Some n.id; verdict = verdict; no_recurse = false; skip_cache = false; passes = own } in
+    let each : Numbered → List Passed = λ m. passes_of m view addr now in
+    let all : passes_in (before ++ n ∷ []) view addr now ≡ ps ++ own =
+    flat_map-append each before (n ∷ []) ∙ ap (λ (qs : List Passed). ps ++ qs) (flat_map-cons each n [] ∙ append-nil own) in
+    none_ends before (n ∷ after) view addr kind now none
+    ∙ ap (with_before a b ps) (tested_some n (truth_of n view addr now) (ending_of n.rule.action view kind) own (walk_of after view addr kind now) verdict ends)
+    ∙ with_flags a b ps end refl refl
+    ∙ ap (λ (qs : List Passed). record end { no_recurse = a; skip_cache = b; passes = qs }) (sym all)
+
+pub none_to_end : (rules : List Numbered) (view : QueryView) (addr : Addr) (kind : Kind) (now : ℕ) → All (λ m. ending_by m view addr kind now ≡ None) rules → walk_of rules view addr kind now ≡ record { rule = None; verdict = verdicts.Allow; no_recurse = one_says is_no_recurse rules view addr now; skip_cache = one_says is_skip_cache rules view addr now; passes = passes_in rules view addr now }
+none_to_end rules view addr kind now none =
+    let a : Bool = one_says is_no_recurse rules view addr now in
+    let b : Bool = one_says is_skip_cache rules view addr now in
+    let ps : List Passed = passes_in rules view addr now in
+    ap (λ (ns : List Numbered). walk_of ns view addr kind now) (sym (append-nil rules))
+    ∙ none_ends rules [] view addr kind now none
+    ∙ with_flags a b ps no_rule refl refl
+    ∙ ap (λ (qs : List Passed). record no_rule { no_recurse = a; skip_cache = b; passes = qs }) (append-nil ps)

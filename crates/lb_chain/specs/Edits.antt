@@ -1,16 +1,13 @@
 -- The list of rules, and the edits of it.
-use Rattle.std.specs.Prelude.{ℕ, ◌+◌, ◌^◌, Bool, true, false, ◌==◌, nat_le, nat_lt, List, [], ◌∷◌, ◌++◌, length, map, Option, None, Some, Result, Ok, Err, slice_get, if◌then◌else◌}
+use Rattle.std.specs.Prelude.{ℕ, ◌+◌, ◌^◌, Bool, true, false, ◌==◌, nat_le, nat_lt, List, [], ◌∷◌, length, Option, None, Some, Result, Ok, Err, slice_get, if◌then◌else◌}
 use Rattle.std.specs.List.{insert, remove, position}
 use Rattle.lb_wire.specs.declared.ids.RuleId.{RuleId}
-use Rattle.lb_limits.specs.Window.{Limits}
 use Rattle.lb_terms.specs.Truth.{limiters_of}
 use Rattle.lb_terms.specs.Limiters.{new_limiters}
 use Rattle.lb_chain.specs.declared.fault.ChainFault.{ChainFault}
 use Rattle.lb_chain.specs.declared.fault.ChainFault.TheVariants as faults
 use Rattle.lb_chain.specs.declared.rule.Rule.{Rule}
 use Rattle.lb_chain.specs.declared.numbered.Numbered.{Numbered}
-use Rattle.lb_chain.specs.declared.listed.Listed.{Listed}
-use Rattle.lb_chain.specs.declared.listed.RulePass.{RulePass}
 
 -- a chain: the next rule number (2^64 once all are given), the latest moment of a reservation or a pass, and the rules
 -- in their order, each with its limiters
@@ -83,12 +80,3 @@ moved lacking chain id place = moved_at lacking chain place (place_of id chain.r
 abbrev pub lacks : {A : Type 0} → Result A ChainFault → Bool
 lacks (Err faults.NoMemory) = true
 lacks _ = false
-
--- the passes of limiters, each with the number of its limiter
-abbrev pub counted_from : ℕ → List Limits → List RulePass
-counted_from at [] = []
-counted_from at (l ∷ limits) = map (λ pass. record { limiter = at; pass = pass }) l.passes ++ counted_from (at + 1) limits
-
--- a rule as it is listed
-abbrev pub listed_of : Numbered → Listed
-listed_of n = record { id = n.id; rule = n.rule; passes = counted_from 0 n.limits }

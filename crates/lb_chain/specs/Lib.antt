@@ -5,7 +5,9 @@ pub use Rattle.lb_wire.specs.Answer
 pub mod Fault
 pub mod Walk
 pub mod Edits
-pub mod Rooms
+pub mod Counting
 pub mod Seen
-pub mod Kept
+pub mod Listed
+pub mod Chain
+pub mod Places
 pub mod Addrs

@@ -1,6 +1,6 @@
 -- The walk: the rules of the list are tested in order, up to the first that holds and whose action ends the walk.
-use Rattle.std.specs.Prelude.{ℕ, Bool, true, false, ◌==◌, ◌&&◌, ◌||◌, List, [], ◌∷◌, ◌++◌, map, Option, None, Some, if◌then◌else◌}
-use Rattle.std.specs.List.{list_any}
+use Rattle.std.specs.Prelude.{◌≡◌, ℕ, Bool, true, false, ◌==◌, ◌&&◌, ◌||◌, List, [], ◌∷◌, ◌++◌, map, Option, None, Some, if◌then◌else◌}
+use Rattle.std.specs.List.{All, flat_map, list_any}
 use Rattle.lb_wire.specs.declared.addr.Addr.{Addr}
 use Rattle.lb_wire.specs.declared.transport.Kind.{Kind}
 use Rattle.lb_wire.specs.declared.transport.Kind.TheVariants as kinds
@@ -71,3 +71,40 @@ no_rule = record { rule = None; verdict = verdicts.Allow; no_recurse = false; sk
 abbrev pub walk_of : List Numbered → QueryView → Addr → Kind → ℕ → Walked
 walk_of [] view addr kind now = no_rule
 walk_of (n ∷ rules) view addr kind now = tested_by n (truth_of n view addr now) (ending_of n.rule.action view kind) (passes_of n view addr now) (walk_of rules view addr kind now)
+
+-- the verdict with which a rule ends the walk, where it holds and its action does
+abbrev pub ending_by : Numbered → QueryView → Addr → Kind → ℕ → Option Verdict
+ending_by n view addr kind now = if truth_of n view addr now then ending_of n.rule.action view kind else None
+
+-- whether one of the rules holds and has an action such as this
+abbrev pub one_says : (Action → Bool) → List Numbered → QueryView → Addr → ℕ → Bool
+one_says such rules view addr now = list_any (λ n. truth_of n view addr now && such n.rule.action) rules
+
+-- the passes of several rules, in order
+abbrev pub passes_in : List Numbered → QueryView → Addr → ℕ → List Passed
+passes_in rules view addr now = flat_map (λ n. passes_of n view addr now) rules
+
+-- the first rule of the list that holds and ends the walk decides: the verdict is its own, the flags are those of the
+-- rules before it that hold, and the passes are those of the rules up to it and with it, in order
+abbrev pub FirstToEndDecides : Type 0
+FirstToEndDecides = (before after : List Numbered) (n : Numbered) (verdict : Verdict) (view : QueryView) (addr : Addr) (kind : Kind) (now : ℕ) →
+    All (λ m. ending_by m view addr kind now ≡ None) before → ending_by n view addr kind now ≡ Some verdict →
+    walk_of (before ++ n ∷ after) view addr kind now ≡ record {
+      rule = Some n.id;
+      verdict = verdict;
+      no_recurse = one_says is_no_recurse before view addr now;
+      skip_cache = one_says is_skip_cache before view addr now;
+      passes = passes_in (before ++ n ∷ []) view addr now;
+    }
+
+-- where no rule holds and ends the walk, the query is allowed, with the flags of all rules that hold and the passes of all
+abbrev pub AllowedWhereNoneEnds : Type 0
+AllowedWhereNoneEnds = (rules : List Numbered) (view : QueryView) (addr : Addr) (kind : Kind) (now : ℕ) →
+    All (λ m. ending_by m view addr kind now ≡ None) rules →
+    walk_of rules view addr kind now ≡ record {
+      rule = None;
+      verdict = verdicts.Allow;
+      no_recurse = one_says is_no_recurse rules view addr now;
+      skip_cache = one_says is_skip_cache rules view addr now;
+      passes = passes_in rules view addr now;
+    }

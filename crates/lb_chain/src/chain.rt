@@ -1,21 +1,25 @@
 //! The chain.
 
 ghost use Rattle.std.specs.Prelude.{◌≡◌, ◌≤◌, ◌<◌, ℕ, IfOk, OnOk, OnErr, length, map};
+ghost use Rattle.std.specs.List.{All};
 ghost use Rattle.lb_wire.specs.declared.query.QueryView.{QueryView};
 ghost use Rattle.lb_wire.specs.declared.transport.Kind.{Kind as KindValue};
 ghost use Rattle.lb_chain.specs.Walk.{walk_of};
-ghost use Rattle.lb_chain.specs.Edits.{no_rules, added, removed, moved, lacks, listed_of};
-ghost use Rattle.lb_chain.specs.Rooms.{reserved_rules, passed_rules, counted, Ready, PartlyReserved};
+ghost use Rattle.lb_chain.specs.Edits.{no_rules, added, removed, moved, lacks};
+ghost use Rattle.lb_chain.specs.Listed.{listed_of, HasOwnLimiters};
+ghost use Rattle.lb_chain.specs.Counting.{reserved_rules, passed_rules, counted, RulesReady, PartlyReserved};
 ghost use Rattle.lb_chain.specs.Seen.{seen_rules};
 
+use crate::counting::{pass_rules, reserve_rules};
 use crate::edits::{insert_rule, move_rule, place_of};
 use crate::fault::ChainFault;
 use crate::listed::{Listed, list_rules};
 use crate::numbered::Numbered;
-use crate::rooms::{pass_rules, reserve_rules};
+use crate::places::Places;
 use crate::rule::Rule;
 use crate::walk::walk_rules;
 use crate::walked::{MAX_LIMITERS, Walked};
+use lb_limits::{put_is_there, recent_twice, reserving_keeps_matches};
 use lb_terms::limiter_count;
 use lb_wire::{Addr, Kind, QueryView, RuleId};
 use std::alloc::{AllocError, Global};
@@ -34,12 +38,16 @@ pub struct Chain {
     /// How many limiters the rules have.
     limiters: usize,
     rules: Vec<Numbered>,
+    /// Where the rules stand that have limiters; found anew after each edit.
+    places: Places,
 }
 
 impl Model for Chain {
     ghost use Rattle.std.specs.Prelude.{◌+◌};
     ghost use Rattle.lb_chain.specs.Edits.{Rules};
-    ghost use Rattle.lb_chain.specs.Kept.{IsChain};
+    ghost use Rattle.lb_chain.specs.Chain.{IsChain};
+    ghost use Rattle.lb_chain.specs.Places.{places_of};
+    ghost use Rattle.std.specs.Prelude.{◌≡◌};
 
     ghost Value = { Rules };
 
@@ -50,7 +58,7 @@ impl Model for Chain {
 
     ghost view = { λ c. record { next = c.last_rule + 1; moment = c.moment; rules = c.rules.items } };
 
-    ghost invariant = { λ c. IsChain c.last_rule c.moment c.limiters c.rules.items };
+    ghost invariant = { λ c. IsChain c.last_rule c.moment c.limiters c.rules.items × (c.places ≡ places_of c.rules.items) };
 }
 
 impl Chain {
@@ -63,6 +71,7 @@ impl Chain {
             moment: 0,
             limiters: 0,
             rules: Vec::new(alloc),
+            places: Places::new(),
         }
     }
 
@@ -75,16 +84,28 @@ impl Chain {
 
     /// The rules in their order, with the passes that their limiters hold. The one error is want of memory.
     pub fn list(&self, alloc: Global) -> Result<Vec<Listed>, AllocError>
-        ensures { IfOk result (λ list. list.items ≡ map listed_of self.now.rules) }
+        ensures list { IfOk result (λ list. list.items ≡ map listed_of self.now.rules) }
+        // so the list determines what is seen of the rules: a law says so
+        ensures own { All HasOwnLimiters self.now.rules }
     {
         list_rules(alloc, self.rules.as_slice())
+    }
+
+    /// Each rule of a chain has a number from 1 on and the limiters of its term. A law: the call does nothing.
+    pub fn law_of_rules(&self)
+        ensures numbers { All (λ n. 1 ≤ n.id.0) self.now.rules }
+        ensures own { All HasOwnLimiters self.now.rules }
+    {
+        // Read, so that what the chain keeps true is at hand.
+        let _ = self.rules.len();
     }
 
     /// Adds a rule at a place of the list, counted from 0, and gives its number. The refusals are tested in this order:
     /// `BadPlace`, `TooManyRules` (4,096), `TooManyLimiters` (16 in the whole chain), `NoMoreIds`, `NoMemory`; each drops
     /// the rule and leaves the chain as it was.
     pub fn add(&mut self, place: usize, rule: Rule) -> Result<RuleId, ChainFault>
-        ensures { (self.new, result) ≡ added (lacks result) self.old place rule }
+        ensures added { (self.new, result) ≡ added (lacks result) self.old place rule }
+        ensures number { IfOk result (λ id. 1 ≤ id.0) }
     {
         if place > self.rules.len() {
             return Err(ChainFault::BadPlace);
@@ -104,6 +125,7 @@ impl Chain {
             Ok(()) => {
                 self.limiters += count;
                 self.last_rule = id;
+                self.places = Places::of(self.rules.as_slice());
                 Ok(RuleId(id))
             }
             Err(_) => Err(ChainFault::NoMemory),
@@ -119,6 +141,7 @@ impl Chain {
         };
         let gone = self.rules.remove(at);
         self.limiters -= gone.limits.len();
+        self.places = Places::of(self.rules.as_slice());
         Ok(())
     }
 
@@ -135,6 +158,7 @@ impl Chain {
             return Err(ChainFault::BadPlace);
         }
         move_rule(&mut self.rules, at, place);
+        self.places = Places::of(self.rules.as_slice());
         Ok(())
     }
 
@@ -153,7 +177,7 @@ impl Chain {
         requires moment { self.old.moment ≤ now }
         requires walked { (view : QueryView) × (kind : KindValue) × (walked.now ≡ walk_of self.old.rules view addr.now kind now) }
         ensures ok { OnOk result (self.new ≡ reserved_rules walked.now.passes addr.now now self.old) }
-        ensures ready { OnOk result (Ready walked.now.passes addr.now now self.new.rules) }
+        ensures ready { OnOk result (RulesReady walked.now.passes addr.now now self.new.rules) }
         ensures err { OnErr result (PartlyReserved walked.now.passes addr.now now self.old.rules self.new.rules) }
         // it refuses only where there is something to count
         ensures takes { OnErr result (0 < length walked.now.passes) }
@@ -162,26 +186,32 @@ impl Chain {
         // no walk and no count sees it
         ensures seen { seen_rules now self.new.rules ≡ seen_rules now self.old.rules }
     {
+        // Laws, which do nothing.
+        recent_twice();
+        put_is_there();
+        reserving_keeps_matches();
         self.moment = now;
         let passes = walked.passes.as_slice();
         if passes.is_empty() {
             return Ok(());
         }
-        reserve_rules(&mut self.rules, passes, addr, now)
+        reserve_rules(&mut self.rules, self.places.as_slice(), passes, addr, now)
     }
 
     /// Counts the passes of a walk for which the memory was taken. It takes none.
     pub fn pass(&mut self, walked: &Walked, addr: &Addr, now: u64)
         requires moment { self.old.moment ≤ now }
-        requires ready { Ready walked.now.passes addr.now now self.old.rules }
+        requires ready { RulesReady walked.now.passes addr.now now self.old.rules }
         ensures passes { self.new ≡ passed_rules walked.now.passes addr.now now self.old }
         // what is seen is what is counted
         ensures seen { seen_rules now self.new.rules ≡ counted walked.now.passes addr.now now (seen_rules now self.old.rules) }
     {
+        // A law, which does nothing.
+        recent_twice();
         self.moment = now;
         let passes = walked.passes.as_slice();
         if !passes.is_empty() {
-            pass_rules(&mut self.rules, passes, addr, now);
+            pass_rules(&mut self.rules, self.places.as_slice(), passes, addr, now);
         }
     }
 }

@@ -5,13 +5,14 @@
 mod action;
 mod addrs;
 mod chain;
+mod counting;
 mod edits;
 mod fault;
 mod laws;
 mod limiters;
 mod listed;
 mod numbered;
-mod rooms;
+mod places;
 mod rule;
 #[cfg(test)]
 mod tests;
@@ -22,7 +23,9 @@ pub use action::Action;
 pub use addrs::Addrs;
 pub use chain::Chain;
 pub use fault::ChainFault;
-pub use laws::{seen_twice, seen_walks};
+pub use laws::{
+    first_to_end_decides, listed_alike_seen_alike, seen_have_own_limiters, seen_twice, seen_walks,
+};
 pub use limiters::Limiters;
 pub use listed::{Listed, RulePass, RulePasses};
 pub use numbered::Numbered;

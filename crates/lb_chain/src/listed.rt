@@ -2,7 +2,7 @@
 
 ghost use Rattle.std.specs.Prelude.{◌≡◌, ◌≤◌, ◌++◌, IfOk, OnOk, length, map};
 ghost use Rattle.std.specs.List.{All};
-ghost use Rattle.lb_chain.specs.Edits.{counted_from, listed_of};
+ghost use Rattle.lb_chain.specs.Listed.{counted_from, listed_of};
 
 use crate::numbered::Numbered;
 use crate::rule::Rule;

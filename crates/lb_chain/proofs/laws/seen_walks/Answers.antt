@@ -2,4 +2,4 @@ use Rattle.lb_chain.proofs.Seen.{walks}
 use Rattle.lb_chain.proofs.laws.seen_walks.Goals as goal
 
 pub returns : goal.returns
-returns c = walks
+returns c = walks c.recent_twice.ensures

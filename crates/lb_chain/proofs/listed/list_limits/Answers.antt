@@ -1,7 +1,7 @@
 use Rattle.std.proofs.Common.{List, ◌++◌, map, ap, ◌∙◌, arith}
 use Rattle.lb_limits.specs.declared.pass.Pass.{Pass}
-use Rattle.lb_chain.specs.Edits.{counted_from}
-use Rattle.lb_chain.proofs.Lists.{pass_at, listed_next}
+use Rattle.lb_chain.specs.Listed.{counted_from}
+use Rattle.lb_chain.proofs.CountedFrom.{pass_at, listed_next}
 use Rattle.lb_chain.proofs.listed.list_limits.Goals as goal
 
 pub loop-at-preserved : goal.loop-at-preserved

@@ -1,5 +1,5 @@
 use Rattle.std.proofs.Common.{◌≡◌, ◌++◌, drop}
-use Rattle.lb_chain.specs.Edits.{counted_from}
+use Rattle.lb_chain.specs.Listed.{counted_from}
 use Rattle.lb_chain.proofs.listed.list_limits.Given as goal
 
 abbrev pub invariant-loop-at : goal.invariant-loop-at

@@ -1,5 +1,5 @@
 use Rattle.std.proofs.Common.{◌≡◌, map, take}
-use Rattle.lb_chain.specs.Edits.{listed_of}
+use Rattle.lb_chain.specs.Listed.{listed_of}
 use Rattle.lb_chain.proofs.listed.list_rules.Given as goal
 
 abbrev pub invariant-loop-numbered : goal.invariant-loop-numbered

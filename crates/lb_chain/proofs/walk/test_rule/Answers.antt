@@ -2,7 +2,7 @@ use Rattle.std.proofs.Common.{◌≡◌, ap, length, List, ◌∙◌, arith}
 use Rattle.lb_limits.specs.Window.{Limits}
 use Rattle.lb_terms.specs.Truth.{asked_of, passes_at}
 use Rattle.lb_terms.specs.declared.tested.Tested.{Tested}
-use Rattle.lb_chain.proofs.Terms.{few_passes}
+use Rattle.lb_chain.proofs.Passes.{few_passes}
 use Rattle.lb_chain.proofs.walk.test_rule.Goals as goal
 
 pub add_passes-requires : goal.add_passes-requires

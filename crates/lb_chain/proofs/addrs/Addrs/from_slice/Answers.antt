@@ -1,6 +1,6 @@
 use Rattle.std.proofs.Common.{arith, rules}
 use Rattle.std.proofs.lemmas.Bool.Decides.{nat_tests}
-use Rattle.lb_chain.proofs.Places.{in_places}
+use Rattle.lb_chain.proofs.IsAddrs.{in_places}
 use Rattle.lb_chain.proofs.addrs.Addrs.from_slice.Goals as goal
 
 pub invariant_of-result : goal.invariant_of-result

@@ -1,10 +1,19 @@
-use Rattle.std.proofs.Common.{◌<◌, length, slice_get, refl, arith}
-use Rattle.lb_chain.proofs.Kept.{kept_put_again}
+use Rattle.lb_chain.specs.Places.{places_of}
+use Rattle.std.proofs.Common.{ap, ◌∙◌, ◌<◌, length, slice_get, refl, arith}
+use Rattle.lb_chain.proofs.Chains.{limiters_few, kept_put_again}
 use Rattle.lb_chain.proofs.chain.Chain.move_to.Goals as goal
+
+pub of-self-inside-requires : goal.of-self-inside-requires
+of-self-inside-requires c =
+    let rules = c.self.inside.rules.items in
+    let lt : c.in-Some.at < length rules = omega (arith, c.in-Some.ensures.within) in
+    let to : c.args.place < length rules = omega arith in
+    limiters_few _ _ _ c.move_rule.new.rules.items c.as_slice-2.result.now c.as_slice-2.ensures.value
+    (kept_put_again c.self.inside.last_rule c.self.inside.moment c.self.inside.limiters rules c.move_rule.new.rules.items c.in-Some.at c.args.place (slice_get rules c.in-Some.at) c.self.invariant.0 lt to refl c.move_rule.ensures)
 
 pub invariant_of-self : goal.invariant_of-self
 invariant_of-self c =
     let rules = c.self.inside.rules.items in
     let lt : c.in-Some.at < length rules = omega (arith, c.in-Some.ensures.within) in
     let to : c.args.place < length rules = omega arith in
-    kept_put_again c.self.inside.last_rule c.self.inside.moment c.self.inside.limiters rules c.move_rule.new.rules.items c.in-Some.at c.args.place (slice_get rules c.in-Some.at) c.self.invariant lt to refl c.move_rule.ensures
+    (kept_put_again c.self.inside.last_rule c.self.inside.moment c.self.inside.limiters rules c.move_rule.new.rules.items c.in-Some.at c.args.place (slice_get rules c.in-Some.at) c.self.invariant.0 lt to refl c.move_rule.ensures, c.of-self-inside.ensures ∙ ap places_of c.as_slice-2.ensures.value)

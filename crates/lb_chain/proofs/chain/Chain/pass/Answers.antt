@@ -1,20 +1,20 @@
 use Rattle.std.proofs.Common.{◌≡◌, ◌+◌, ◌≤◌, List, [], ap, ◌∙◌, arith}
 use Rattle.lb_chain.specs.Edits.{Rules}
-use Rattle.lb_chain.specs.Rooms.{counted, passed_rules}
+use Rattle.lb_chain.specs.Counting.{counted, passed_rules}
 use Rattle.lb_chain.specs.Seen.{seen_rules}
 use Rattle.lb_chain.specs.declared.walked.Passed.{Passed}
-use Rattle.lb_chain.proofs.Chains.{found_empty, kept_counted, passed_idle, seen_idle, seen_passed}
+use Rattle.lb_chain.proofs.Counted.{found_empty, kept_counted, passed_idle, seen_idle, seen_passed}
 use Rattle.lb_chain.proofs.chain.Chain.pass.Goals as goal
 
 pub invariant_of-self : goal.invariant_of-self
 invariant_of-self c =
     let same = ap (λ (chain : Rules). chain.moment) c.self.view_is in
     let le : c.self.inside.moment ≤ c.args.now = omega (arith, same, c.requires.moment) in
-    kept_counted c.self.inside.last_rule c.self.inside.moment c.args.now c.self.inside.limiters c.as_slice-passes.result.now c.args.addr.now c.self.inside.rules.items c.pass_rules.new.rules.items le c.self.invariant c.pass_rules.ensures
+    kept_counted c.self.inside.last_rule c.self.inside.moment c.args.now c.self.inside.limiters c.self.inside.places c.as_slice-passes.result.now c.args.addr.now c.self.inside.rules.items c.pass_rules.new.rules.items le c.self.invariant c.pass_rules.ensures
 
 pub returns-then-not-is_empty-clause-seen : goal.returns-then-not-is_empty-clause-seen
 returns-then-not-is_empty-clause-seen c =
-    seen_passed c.as_slice-passes.result.now c.args.addr.now c.args.now c.self.inside.rules.items c.pass_rules.new.rules.items c.pass_rules.ensures
+    seen_passed c.recent_twice.ensures c.as_slice-passes.result.now c.args.addr.now c.args.now c.self.inside.rules.items c.pass_rules.new.rules.items c.pass_rules.ensures
     ∙ ap (λ (passes : List Passed). counted passes c.args.addr.now c.args.now (seen_rules c.args.now c.self.inside.rules.items)) c.as_slice-passes.ensures
     ∙ ap (λ (chain : Rules). counted c.args.walked.now.passes c.args.addr.now c.args.now (seen_rules c.args.now chain.rules)) c.self.view_is
 

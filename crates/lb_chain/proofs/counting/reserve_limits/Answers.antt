@@ -1,7 +1,7 @@
 use Rattle.std.proofs.Common.{◌<◌, length, refl, arith}
-use Rattle.lb_chain.proofs.Changed.{limits_next}
-use Rattle.lb_chain.proofs.Partly.{some_none, some_next}
-use Rattle.lb_chain.proofs.rooms.reserve_limits.Goals as goal
+use Rattle.lb_chain.proofs.ChangedRules.{limits_next}
+use Rattle.lb_chain.proofs.PartlyReserved.{some_none, some_next}
+use Rattle.lb_chain.proofs.counting.reserve_limits.Goals as goal
 
 pub loop-at-init : goal.loop-at-init
 loop-at-init c = (refl, some_none c.args.passes.now c.args.addr.now c.args.now c.args.rule 0 c.args.limits.now.items)

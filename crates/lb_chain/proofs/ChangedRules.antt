@@ -1,5 +1,5 @@
 -- Limiters and rules that are changed in place, one after the other.
-use Rattle.std.proofs.Common.{◌≡◌, ℕ, ◌+◌, ◌<◌, ◌≤◌, Bool, List, [], ◌∷◌, ◌++◌, length, get_or, set, take, drop, inl, inr, refl, sym, ap, ◌∙◌, arith, append_assoc, if◌then◌else◌}
+use Rattle.std.proofs.Common.{◌≡◌, ℕ, ◌+◌, ◌<◌, ◌≤◌, Bool, List, [], ◌∷◌, ◌++◌, length, get_or, set, map, take, drop, inl, inr, refl, sym, ap, ◌∙◌, arith, append_assoc, if◌then◌else◌}
 use Rattle.std.specs.List.{All, AllZip}
 use Rattle.std.proofs.lemmas.Bool.{cases_Bool}
 use Rattle.std.proofs.lemmas.List.Elements.{All-nil, All-cons, All-head, All-tail}
@@ -8,8 +8,9 @@ use Rattle.lb_wire.specs.declared.ids.RuleId.{RuleId}
 use Rattle.lb_limits.specs.Window.{Limits}
 use Rattle.lb_chain.specs.declared.walked.Passed.{Passed}
 use Rattle.lb_chain.specs.declared.numbered.Numbered.{Numbered}
-use Rattle.lb_chain.proofs.Kept.{IsLike, ArePast}
-use Rattle.lb_chain.specs.Rooms.{has_pass, changed_limits, changed_rule, changed_rules}
+use Rattle.lb_chain.specs.Listed.{as_new}
+use Rattle.lb_chain.proofs.Chains.{IsLike, ArePast}
+use Rattle.lb_chain.specs.Counting.{has_pass, changed_limits, changed_rule, changed_rules}
 
 -- a limiter with its number, changed where it has a pass
 abbrev pub changed_at : (Limits → Limits) → List Passed → RuleId → ℕ → Limits → Limits
@@ -59,7 +60,7 @@ limits_more change passes rule xs ys i x d lt is new =
 abbrev pub rules_so_far : (Limits → Limits) → List Passed → ℕ → List Numbered → List Numbered
 rules_so_far change passes i xs = changed_rules change passes (take i xs) ++ drop i xs
 
-rules_long : (change : Limits → Limits) (passes : List Passed) (i : ℕ) (xs : List Numbered) → i ≤ length xs → length (changed_rules change passes (take i xs)) ≡ i
+pub rules_long : (change : Limits → Limits) (passes : List Passed) (i : ℕ) (xs : List Numbered) → i ≤ length xs → length (changed_rules change passes (take i xs)) ≡ i
 rules_long change passes i xs le = length-map (take i xs) (changed_rule change passes) ∙ length-take-le i xs le
 
 pub rules_there : (change : Limits → Limits) (passes : List Passed) (xs ys : List Numbered) (i : ℕ) (d : Numbered) → i < length xs → ys ≡ rules_so_far change passes i xs → get_or ys i d ≡ get_or xs i d
@@ -91,17 +92,24 @@ changed_past change passes rule now at (x ∷ xs) new past =
     let here : P (changed_at change passes rule at x) = elim (cases_Bool (has_pass passes rule at)) [ inl is ↦ rw is (new x) | inr is ↦ rw is (All-head P x xs past) ] in
     All-cons P (changed_at change passes rule at x) (changed_limits change passes rule (at + 1) xs) here (changed_past change passes rule now (at + 1) xs new (All-tail P x xs past))
 
+changed_rates : (change : Limits → Limits) (passes : List Passed) (rule : RuleId) (at : ℕ) (xs : List Limits) → ((l : Limits) → as_new (change l) ≡ as_new l) → map as_new (changed_limits change passes rule at xs) ≡ map as_new xs
+changed_rates change passes rule at [] same = refl
+changed_rates change passes rule at (x ∷ xs) same =
+    let here : as_new (changed_at change passes rule at x) ≡ as_new x = elim (cases_Bool (has_pass passes rule at)) [ inl is ↦ rw is (same x) | inr is ↦ rw is refl ] in
+    ap (λ (l : Limits). l ∷ map as_new (changed_limits change passes rule (at + 1) xs)) here ∙ ap (λ (ls : List Limits). as_new x ∷ ls) (changed_rates change passes rule (at + 1) xs same)
+
 -- rules whose limiters change stay as they are but for those
-pub changed_like : (change : Limits → Limits) (passes : List Passed) (now : ℕ) (xs : List Numbered) → ((l : Limits) → (change l).moment ≤ now) → All (λ n. All (λ l. l.moment ≤ now) n.limits) xs → AllZip (IsLike now) xs (changed_rules change passes xs)
-changed_like change passes now [] new past = tt
-changed_like change passes now (n ∷ xs) new past =
+pub changed_like : (change : Limits → Limits) (passes : List Passed) (now : ℕ) (xs : List Numbered) → ((l : Limits) → (change l).moment ≤ now) → ((l : Limits) → as_new (change l) ≡ as_new l) → All (λ n. All (λ l. l.moment ≤ now) n.limits) xs → AllZip (IsLike now) xs (changed_rules change passes xs)
+changed_like change passes now [] new same past = tt
+changed_like change passes now (n ∷ xs) new same past =
     let here : IsLike now n (changed_rule change passes n) = record {
       id = refl;
       rule = refl;
       limiters = length-changed change passes n.id 0 n.limits;
+      rates = changed_rates change passes n.id 0 n.limits same;
       moments = changed_past change passes n.id now 0 n.limits new (All-head (ArePast now) n xs past);
     } in
-    (here, changed_like change passes now xs new (All-tail (ArePast now) n xs past))
+    (here, changed_like change passes now xs new same (All-tail (ArePast now) n xs past))
 
 -- the next limiter is changed in its place
 pub limits_next : (change : Limits → Limits) (passes : List Passed) (rule : RuleId) (xs ys : List Limits) (i : ℕ) (wanted : Bool) (x y : Limits) → i < length xs → ys ≡ limits_so_far change passes rule i xs → y ≡ get_or ys i y → wanted ≡ has_pass passes rule i → x ≡ (if wanted then change y else y) → set ys i x ≡ limits_so_far change passes rule (i + 1) xs

@@ -1,8 +1,8 @@
 use Rattle.std.proofs.Common.{◌≡◌}
 use Rattle.lb_limits.specs.Window.{reserved_at}
-use Rattle.lb_chain.specs.Rooms.{SomeReserved}
-use Rattle.lb_chain.proofs.Changed.{limits_so_far}
-use Rattle.lb_chain.proofs.rooms.reserve_limits.Given as goal
+use Rattle.lb_chain.specs.Counting.{SomeReserved}
+use Rattle.lb_chain.proofs.ChangedRules.{limits_so_far}
+use Rattle.lb_chain.proofs.counting.reserve_limits.Given as goal
 
 abbrev pub invariant-loop-at : goal.invariant-loop-at
 invariant-loop-at l =

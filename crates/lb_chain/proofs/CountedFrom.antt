@@ -4,7 +4,7 @@ use Rattle.std.proofs.lemmas.List.{drop_more}
 use Rattle.lb_limits.specs.Window.{Limits}
 use Rattle.lb_limits.specs.declared.pass.Pass.{Pass}
 use Rattle.lb_chain.specs.declared.listed.RulePass.{RulePass}
-use Rattle.lb_chain.specs.Edits.{counted_from}
+use Rattle.lb_chain.specs.Listed.{counted_from}
 
 -- a pass of the limiter with a number
 abbrev pub pass_at : ℕ → Pass → RulePass

@@ -1,7 +1,7 @@
 use Rattle.std.proofs.Common.{◌∙◌, sym, arith}
-use Rattle.lb_chain.proofs.Changed.{limits_next}
-use Rattle.lb_chain.proofs.Ready.{ready_there}
-use Rattle.lb_chain.proofs.rooms.pass_limits.Goals as goal
+use Rattle.lb_chain.proofs.ChangedRules.{limits_next}
+use Rattle.lb_chain.proofs.RulesReady.{ready_there}
+use Rattle.lb_chain.proofs.counting.pass_limits.Goals as goal
 
 pub pass_one-requires-clause-ready : goal.pass_one-requires-clause-ready
 pass_one-requires-clause-ready c = λ is.

@@ -4,9 +4,13 @@ use Rattle.std.specs.List.{All, count_by}
 use Rattle.lb_terms.specs.Truth.{limiters_of}
 use Rattle.lb_chain.specs.declared.numbered.Numbered.{Numbered}
 use Rattle.lb_chain.specs.Edits.{limiters_in}
+use Rattle.lb_chain.specs.Listed.{HasOwnLimiters}
 
--- a rule of a chain: it has a limiter for each rate of its term, and none of them is ahead of the chain
+-- a rule of a chain: it has a number from 1 on and a limiter for each rate of its term, with that rate, and none of them
+-- is ahead of the chain
 pub record IsKept (moment : ℕ) (n : Numbered) : Type 0 where
+  pub number : 1 ≤ n.id.0
+  pub own : HasOwnLimiters n
   pub limiters : length n.limits ≡ limiters_of n.rule.term
   pub moments : All (λ l. l.moment ≤ moment) n.limits
 

@@ -3,7 +3,8 @@
 ghost use Rattle.std.specs.Prelude.{◌≡◌, ◌≤◌, OnErr, OnOk, true, if◌then◌else◌};
 ghost use Rattle.std.specs.List.{All};
 ghost use Rattle.lb_limits.specs.Window.{reserved_at, passed_at};
-ghost use Rattle.lb_chain.specs.Rooms.{AreReady, IsReady, PartlyReserved, Ready, SomeReserved, changed_limits, changed_rule, changed_rules, counted, has_pass as has_pass_of};
+ghost use Rattle.lb_chain.specs.Counting.{LimitersReady, IsReady, PartlyReserved, RulesReady, SomeReserved, changed_limits, changed_rule, changed_rules, counted, has_pass as has_pass_of};
+ghost use Rattle.lb_chain.specs.Places.{places_of};
 
 use crate::numbered::Numbered;
 use crate::walked::Passed;
@@ -65,19 +66,21 @@ fn reserve_rule(
     reserve_limits(&mut numbered.limits.items, passes, numbered.id, addr, now)
 }
 
-/// Takes memory for the passes.
+/// Takes memory for the passes; only the rules at the places have limiters.
 pub(crate) fn reserve_rules(
     rules: &mut Vec<Numbered>,
+    places: &[usize],
     passes: &[Passed],
     addr: &Addr,
     now: u64,
 ) -> Result<(), AllocError>
-    requires { All (λ n. All (λ l. l.moment ≤ now) n.limits) rules.old.items }
+    requires moments { All (λ n. All (λ l. l.moment ≤ now) n.limits) rules.old.items }
+    requires places { places.now ≡ places_of rules.old.items }
     ensures ok { OnOk result (rules.new.items ≡ changed_rules (λ l. reserved_at l addr.now now) passes.now rules.old.items) }
     ensures partly { PartlyReserved passes.now addr.now now rules.old.items rules.new.items }
 {
-    for at in 0..rules.len() {
-        reserve_rule(&mut rules[at], passes, addr, now)?;
+    for at in places {
+        reserve_rule(&mut rules[*at], passes, addr, now)?;
     }
     Ok(())
 }
@@ -96,7 +99,7 @@ fn pass_one(limiter: &mut Limiter, wanted: bool, addr: &Addr, now: u64)
 /// Counts a query in those limiters of a rule that have a pass.
 fn pass_limits(limits: &mut Vec<Limiter>, passes: &[Passed], rule: RuleId, addr: &Addr, now: u64)
     requires moments { All (λ l. l.moment ≤ now) limits.old.items }
-    requires ready { AreReady passes.now addr.now now rule 0 limits.old.items }
+    requires ready { LimitersReady passes.now addr.now now rule 0 limits.old.items }
     ensures { limits.new.items ≡ changed_limits (λ l. passed_at l addr.now now) passes.now rule 0 limits.old.items }
 {
     for at in 0..limits.len() {
@@ -108,19 +111,26 @@ fn pass_limits(limits: &mut Vec<Limiter>, passes: &[Passed], rule: RuleId, addr:
 /// Counts a query in those of a rule's limiters that have a pass.
 fn pass_rule(numbered: &mut Numbered, passes: &[Passed], addr: &Addr, now: u64)
     requires moments { All (λ l. l.moment ≤ now) numbered.old.limits }
-    requires ready { AreReady passes.now addr.now now numbered.old.id 0 numbered.old.limits }
+    requires ready { LimitersReady passes.now addr.now now numbered.old.id 0 numbered.old.limits }
     ensures { numbered.new ≡ changed_rule (λ l. passed_at l addr.now now) passes.now numbered.old }
 {
     pass_limits(&mut numbered.limits.items, passes, numbered.id, addr, now);
 }
 
-/// Counts the passes.
-pub(crate) fn pass_rules(rules: &mut Vec<Numbered>, passes: &[Passed], addr: &Addr, now: u64)
+/// Counts the passes; only the rules at the places have limiters.
+pub(crate) fn pass_rules(
+    rules: &mut Vec<Numbered>,
+    places: &[usize],
+    passes: &[Passed],
+    addr: &Addr,
+    now: u64,
+)
     requires moments { All (λ n. All (λ l. l.moment ≤ now) n.limits) rules.old.items }
-    requires ready { Ready passes.now addr.now now rules.old.items }
+    requires places { places.now ≡ places_of rules.old.items }
+    requires ready { RulesReady passes.now addr.now now rules.old.items }
     ensures { rules.new.items ≡ counted passes.now addr.now now rules.old.items }
 {
-    for at in 0..rules.len() {
-        pass_rule(&mut rules[at], passes, addr, now);
+    for at in places {
+        pass_rule(&mut rules[*at], passes, addr, now);
     }
 }

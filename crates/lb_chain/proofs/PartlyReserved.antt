@@ -6,14 +6,15 @@ use Rattle.lb_wire.specs.declared.addr.Addr.{Addr}
 use Rattle.lb_wire.specs.declared.ids.RuleId.{RuleId}
 use Rattle.lb_limits.specs.Window.{Limits, reserved_at}
 use Rattle.lb_limits.specs.declared.pass.Pass.{Pass}
-use Rattle.lb_limits.proofs.Late.{recent_twice}
+use Rattle.lb_limits.specs.Laws.{RecentTwice}
 use Rattle.lb_chain.specs.declared.rule.Rule.{Rule}
 use Rattle.lb_chain.specs.declared.walked.Passed.{Passed}
 use Rattle.lb_chain.specs.declared.numbered.Numbered.{Numbered}
-use Rattle.lb_chain.specs.Rooms.{has_pass, SomeReserved, PartlyReserved}
+use Rattle.lb_chain.specs.Counting.{has_pass, SomeReserved, PartlyReserved}
+use Rattle.lb_chain.specs.Listed.{as_new}
 use Rattle.lb_chain.specs.Seen.{seen_limits, seen_rule, seen_rules}
-use Rattle.lb_chain.proofs.Changed.{changed_at, limits_so_far, limits_there, rules_so_far, rules_there}
-use Rattle.lb_chain.proofs.Kept.{IsLike, ArePast}
+use Rattle.lb_chain.proofs.ChangedRules.{changed_at, limits_so_far, limits_there, rules_so_far, rules_there}
+use Rattle.lb_chain.proofs.Chains.{IsLike, ArePast}
 
 -- none is reserved yet
 pub some_none : (passes : List Passed) (addr : Addr) (now : ℕ) (rule : RuleId) (at : ℕ) (xs : List Limits) → SomeReserved passes addr now rule at xs xs
@@ -53,6 +54,17 @@ some_length passes addr now rule at [] (m ∷ new) some = absurd some
 some_length passes addr now rule at (l ∷ old) [] some = absurd some
 some_length passes addr now rule at (l ∷ old) (m ∷ new) some = omega (arith, some_length passes addr now rule (at + 1) old new some.3)
 
+taken_rate : (addr : Addr) (now : ℕ) (taken : Bool) (l m : Limits) → m ≡ (if taken then reserved_at l addr now else l) → as_new m ≡ as_new l
+taken_rate addr now true l m is = ap as_new is
+taken_rate addr now false l m is = ap as_new is
+
+some_rates : (passes : List Passed) (addr : Addr) (now : ℕ) (rule : RuleId) (at : ℕ) (old new : List Limits) → SomeReserved passes addr now rule at old new → map as_new new ≡ map as_new old
+some_rates passes addr now rule at [] [] some = refl
+some_rates passes addr now rule at [] (m ∷ new) some = absurd some
+some_rates passes addr now rule at (l ∷ old) [] some = absurd some
+some_rates passes addr now rule at (l ∷ old) (m ∷ new) some =
+    ap (λ (k : Limits). k ∷ map as_new new) (taken_rate addr now some.0 l m some.2) ∙ ap (λ (ks : List Limits). as_new l ∷ ks) (some_rates passes addr now rule (at + 1) old new some.3)
+
 abbrev IsPast : ℕ → Limits → Type 0
 IsPast now l = l.moment ≤ now
 
@@ -78,34 +90,14 @@ partly_like passes addr now (a ∷ old) (b ∷ new) past partly =
       id = partly.0;
       rule = partly.1;
       limiters = some_length passes addr now a.id 0 a.limits b.limits partly.2;
+      rates = some_rates passes addr now a.id 0 a.limits b.limits partly.2;
       moments = some_past passes addr now a.id 0 a.limits b.limits (All-head (ArePast now) a old past) partly.2;
     } in
     (here, partly_like passes addr now old new (All-tail (ArePast now) a old past) partly.3)
 
-taken_seen : (addr : Addr) (now : ℕ) (taken : Bool) (l m : Limits) → m ≡ (if taken then reserved_at l addr now else l) → seen_limits now m ≡ seen_limits now l
-taken_seen addr now false l m is = ap (seen_limits now) is
-taken_seen addr now true l m is =
-    ap (seen_limits now) is ∙ ap (λ (passes : List Pass). record l { moment = now; passes = passes; reserved = [] }) (recent_twice now now l.passes (omega arith))
-
-some_seen : (passes : List Passed) (addr : Addr) (now : ℕ) (rule : RuleId) (at : ℕ) (old new : List Limits) → SomeReserved passes addr now rule at old new → map (seen_limits now) new ≡ map (seen_limits now) old
-some_seen passes addr now rule at [] [] some = refl
-some_seen passes addr now rule at [] (m ∷ new) some = absurd some
-some_seen passes addr now rule at (l ∷ old) [] some = absurd some
-some_seen passes addr now rule at (l ∷ old) (m ∷ new) some =
-    ap (λ (k : Limits). k ∷ map (seen_limits now) new) (taken_seen addr now some.0 l m some.2) ∙ ap (λ (ks : List Limits). seen_limits now l ∷ ks) (some_seen passes addr now rule (at + 1) old new some.3)
-
-same_seen : (now : ℕ) (a b : Numbered) → b.id ≡ a.id → b.rule ≡ a.rule → map (seen_limits now) b.limits ≡ map (seen_limits now) a.limits → seen_rule now b ≡ seen_rule now a
+pub same_seen : (now : ℕ) (a b : Numbered) → b.id ≡ a.id → b.rule ≡ a.rule → map (seen_limits now) b.limits ≡ map (seen_limits now) a.limits → seen_rule now b ≡ seen_rule now a
 same_seen now a b id rule limits =
     ap (λ (i : RuleId). record (seen_rule now b) { id = i }) id ∙ ap (λ (r : Rule). record (seen_rule now b) { id = a.id; rule = r }) rule ∙ ap (λ (ls : List Limits). record (seen_rule now a) { limits = ls }) limits
-
--- no walk and no count sees it
-pub partly_seen : (passes : List Passed) (addr : Addr) (now : ℕ) (old new : List Numbered) → PartlyReserved passes addr now old new → seen_rules now new ≡ seen_rules now old
-partly_seen passes addr now [] [] partly = refl
-partly_seen passes addr now [] (b ∷ new) partly = absurd partly
-partly_seen passes addr now (a ∷ old) [] partly = absurd partly
-partly_seen passes addr now (a ∷ old) (b ∷ new) partly =
-    let limits : map (seen_limits now) b.limits ≡ map (seen_limits now) a.limits = some_seen passes addr now a.id 0 a.limits b.limits partly.2 in
-    ap (λ (n : Numbered). n ∷ seen_rules now new) (same_seen now a b partly.0 partly.1 limits) ∙ ap (λ (ns : List Numbered). seen_rule now a ∷ ns) (partly_seen passes addr now old new partly.3)
 
 -- the next limiter is reserved, or left where it has no pass
 pub some_next : (passes : List Passed) (addr : Addr) (now : ℕ) (rule : RuleId) (xs ys : List Limits) (i : ℕ) (wanted : Bool) (x y : Limits) → i < length xs → ys ≡ limits_so_far (λ l. reserved_at l addr now) passes rule i xs → y ≡ get_or ys i y → wanted ≡ has_pass passes rule i → x ≡ (if wanted then reserved_at y addr now else y) → SomeReserved passes addr now rule 0 xs ys → SomeReserved passes addr now rule 0 xs (set ys i x)
@@ -123,3 +115,26 @@ partly_next passes addr now xs ys i x y lt is own id rule some partly =
     let old : y ≡ get_or xs i y = own ∙ rules_there (λ l. reserved_at l addr now) passes xs ys i y lt is in
     partly_set passes addr now xs ys i y x partly lt (id ∙ ap (λ (n : Numbered). n.id) old) (rule ∙ ap (λ (n : Numbered). n.rule) old)
     (subst (λ (n : Numbered). SomeReserved passes addr now n.id 0 n.limits x.limits) old some)
+
+-- where passes given up earlier change nothing later
+module _ (recent_twice : RecentTwice) where
+  taken_seen : (addr : Addr) (now : ℕ) (taken : Bool) (l m : Limits) → m ≡ (if taken then reserved_at l addr now else l) → seen_limits now m ≡ seen_limits now l
+  taken_seen addr now false l m is = ap (seen_limits now) is
+  taken_seen addr now true l m is =
+      ap (seen_limits now) is ∙ ap (λ (passes : List Pass). record l { moment = now; passes = passes; reserved = [] }) (recent_twice now now l.passes (omega arith))
+
+  some_seen : (passes : List Passed) (addr : Addr) (now : ℕ) (rule : RuleId) (at : ℕ) (old new : List Limits) → SomeReserved passes addr now rule at old new → map (seen_limits now) new ≡ map (seen_limits now) old
+  some_seen passes addr now rule at [] [] some = refl
+  some_seen passes addr now rule at [] (m ∷ new) some = absurd some
+  some_seen passes addr now rule at (l ∷ old) [] some = absurd some
+  some_seen passes addr now rule at (l ∷ old) (m ∷ new) some =
+      ap (λ (k : Limits). k ∷ map (seen_limits now) new) (taken_seen addr now some.0 l m some.2) ∙ ap (λ (ks : List Limits). seen_limits now l ∷ ks) (some_seen passes addr now rule (at + 1) old new some.3)
+
+  -- no walk and no count sees it
+  pub partly_seen : (passes : List Passed) (addr : Addr) (now : ℕ) (old new : List Numbered) → PartlyReserved passes addr now old new → seen_rules now new ≡ seen_rules now old
+  partly_seen passes addr now [] [] partly = refl
+  partly_seen passes addr now [] (b ∷ new) partly = absurd partly
+  partly_seen passes addr now (a ∷ old) [] partly = absurd partly
+  partly_seen passes addr now (a ∷ old) (b ∷ new) partly =
+      let limits : map (seen_limits now) b.limits ≡ map (seen_limits now) a.limits = some_seen passes addr now a.id 0 a.limits b.limits partly.2 in
+      ap (λ (n : Numbered). n ∷ seen_rules now new) (same_seen now a b partly.0 partly.1 limits) ∙ ap (λ (ns : List Numbered). seen_rule now a ∷ ns) (partly_seen passes addr now old new partly.3)

@@ -42,14 +42,14 @@ pub record IsReady (addr : Addr) (now : ℕ) (l : Limits) : Type 0 where
   pub within : matches l addr now ≡ false
 
 -- each limiter of a rule, counted from a number, that has a pass may count the query
-abbrev pub AreReady : List Passed → Addr → ℕ → RuleId → ℕ → List Limits → Type 0
-AreReady passes addr now rule at [] = Unit {0}
-AreReady passes addr now rule at (l ∷ limits) = (has_pass passes rule at ≡ true → IsReady addr now l) × AreReady passes addr now rule (at + 1) limits
+abbrev pub LimitersReady : List Passed → Addr → ℕ → RuleId → ℕ → List Limits → Type 0
+LimitersReady passes addr now rule at [] = Unit {0}
+LimitersReady passes addr now rule at (l ∷ limits) = (has_pass passes rule at ≡ true → IsReady addr now l) × LimitersReady passes addr now rule (at + 1) limits
 
 -- each limiter of the rules that has a pass may count the query
-abbrev pub Ready : List Passed → Addr → ℕ → List Numbered → Type 0
-Ready passes addr now [] = Unit {0}
-Ready passes addr now (n ∷ rules) = AreReady passes addr now n.id 0 n.limits × Ready passes addr now rules
+abbrev pub RulesReady : List Passed → Addr → ℕ → List Numbered → Type 0
+RulesReady passes addr now [] = Unit {0}
+RulesReady passes addr now (n ∷ rules) = LimitersReady passes addr now n.id 0 n.limits × RulesReady passes addr now rules
 
 -- limiters of a rule, counted from a number, of which some that have a pass are as their own reservation left them
 abbrev pub SomeReserved : List Passed → Addr → ℕ → RuleId → ℕ → List Limits → List Limits → Type 0
