@@ -11,7 +11,7 @@ use Rattle.lb_chain.specs.declared.walked.Walked.{Walked}
 use Rattle.lb_chain.specs.declared.walked.Verdict.{Verdict}
 use Rattle.lb_chain.specs.declared.walked.Verdict.TheVariants as verdicts
 use Rattle.lb_chain.specs.Edits.{Rules}
-use Rattle.lb_chain.specs.Rooms.{counted}
+use Rattle.lb_chain.specs.Counting.{counted}
 use Rattle.lb_chain.specs.Seen.{seen_rules, SeenTwice}
 use Rattle.lb_core.specs.declared.event.Event.TheVariants.{Query, Edit}
 use Rattle.lb_core.specs.declared.event.Command.{Command}

@@ -14,7 +14,7 @@ use Rattle.lb_chain.specs.declared.walked.Verdict.TheVariants as verdicts
 use Rattle.lb_chain.specs.declared.walked.Walked.{Walked}
 use Rattle.lb_chain.specs.declared.fault.ChainFault.TheVariants as chain_faults
 use Rattle.lb_chain.specs.Walk.{walk_of}
-use Rattle.lb_chain.specs.Rooms.{counted}
+use Rattle.lb_chain.specs.Counting.{counted}
 use Rattle.lb_core.specs.declared.event.Event.{Event}
 use Rattle.lb_core.specs.declared.event.Event.TheVariants.{Query, Edit}
 use Rattle.lb_core.specs.declared.event.Command.{Command}
