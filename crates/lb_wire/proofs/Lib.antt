@@ -1,4 +1,5 @@
 mod Lists
+mod Tables
 mod Questions
 mod OneMessage
 mod Owners

@@ -1,8 +1,8 @@
 -- Messages some seconds later.
-use Rattle.std.specs.Prelude.{◌≡◌, ℕ, ◌-◌, ◌≤◌, false, List, ◌++◌, take, map, if◌then◌else◌}
-use Rattle.std.specs.List.{flat_map}
+use Rattle.std.specs.Prelude.{◌≡◌, ℕ, ◌-◌, ◌≤◌, false, Some, List, ◌++◌, take, map, if◌then◌else◌}
+use Rattle.std.specs.List.{flat_map, AllByRecursion}
 use Rattle.lb_wire.specs.Record.{Record, record_octets}
-use Rattle.lb_wire.specs.Opt.{is_opt, ttl_value}
+use Rattle.lb_wire.specs.Opt.{is_opt, ttl_value, least_ttl}
 use Rattle.lb_wire.specs.Message.{Message}
 
 -- the record lives so many seconds at least, or is an OPT
@@ -12,6 +12,10 @@ Outlives secs r = is_opt r ≡ false → secs ≤ ttl_value r.ttl
 -- the record so many seconds later: its TTL is lowered, unless it is an OPT
 abbrev pub aged_record : ℕ → Record → Record
 aged_record secs r = record r { ttl = if is_opt r then r.ttl else r.ttl - secs }
+
+-- every record outlives the least TTL of them all
+abbrev pub LeastIsOutlived : Type 0
+LeastIsOutlived = (secs n : ℕ) (records : List Record) → least_ttl records ≡ Some n → secs ≤ n → AllByRecursion (Outlives secs) records
 
 -- the message so many seconds later
 abbrev pub aged : ℕ → Message → Message

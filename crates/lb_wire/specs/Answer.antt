@@ -32,19 +32,37 @@ truncated_of view = made_of view (answer_flags view.flags.0 1 0)
 abbrev pub formerr_of : List ℕ → List ℕ
 formerr_of bytes = header_octets (made_header (number_at bytes 0) (record { 0 = answer_flags (number_at bytes 2) 0 1 }) 0 0 0)
 
+-- the types A and AAAA, the question's type ANY, and the class IN (RFC 1035 sections 3.2.2, 3.2.3 and 3.2.4, RFC 3596
+-- section 2.1)
+abbrev pub a_type : ℕ
+a_type = 1
+
+abbrev pub aaaa_type : ℕ
+aaaa_type = 28
+
+abbrev pub any_type : ℕ
+any_type = 255
+
+abbrev pub in_class : ℕ
+in_class = 1
+
+-- how long a client may keep a stated address: 60 seconds
+abbrev pub address_ttl : ℕ
+address_ttl = 60
+
 -- an owner that points to the question name, which stands at octet 12 (RFC 1035 section 4.1.4)
 abbrev pub asked_owner : Owner
 asked_owner = record { labels = []; pointer = Some 12 }
 
--- the record of an address: TYPE 1 or 28, CLASS 1, TTL 60 (RFC 1035 section 3.4.1, RFC 3596 section 2.2)
+-- the record of an address (RFC 1035 section 3.4.1, RFC 3596 section 2.2)
 abbrev pub address_record : Addr → Record
-address_record (V4 octets) = record { owner = asked_owner; rtype = 1; class = 1; ttl = 60; rdata = octets }
-address_record (V6 octets) = record { owner = asked_owner; rtype = 28; class = 1; ttl = 60; rdata = octets }
+address_record (V4 octets) = record { owner = asked_owner; rtype = a_type; class = in_class; ttl = address_ttl; rdata = octets }
+address_record (V6 octets) = record { owner = asked_owner; rtype = aaaa_type; class = in_class; ttl = address_ttl; rdata = octets }
 
 -- whether an address answers a question of a type: V4 for A, V6 for AAAA, both for ANY
 abbrev pub fits_type : ℕ → Addr → Bool
-fits_type qtype (V4 octets) = qtype == 1 || qtype == 255
-fits_type qtype (V6 octets) = qtype == 28 || qtype == 255
+fits_type qtype (V4 octets) = qtype == a_type || qtype == any_type
+fits_type qtype (V6 octets) = qtype == aaaa_type || qtype == any_type
 
 -- the answer records of a spoofed answer: one for each address that fits, in their order
 abbrev pub spoof_records : ℕ → List Addr → List Record

@@ -2,6 +2,8 @@ pub use Rattle.lb_name.specs.Name
 pub use Rattle.lb_name.specs.Reading
 pub mod BigEndian
 pub mod Numbers
+pub mod Rcode
+pub mod RecordType
 pub mod Flags
 pub mod Record
 pub mod Opt

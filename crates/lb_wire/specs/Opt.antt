@@ -3,9 +3,22 @@ use Rattle.std.specs.Prelude.{ℕ, ◌/◌, ◌%◌, ◌^◌, Bool, true, false,
 use Rattle.lb_wire.specs.Record.{Record, record_octets}
 use Rattle.lb_wire.specs.declared.opt.Opt.{Opt}
 
--- a record of type 41 is an OPT, in any section and whatever its owner
+-- the type OPT (RFC 6891 section 6.1.1)
+abbrev pub opt_type : ℕ
+opt_type = 41
+
+-- what DO counts for in the TTL of an OPT: it is the 17th of its bits (RFC 3225 section 3, RFC 6891 section 6.1.3)
+abbrev pub dnssec_ok : ℕ
+dnssec_ok = 2 ^ 15
+
+-- the payload size that a made answer states, in octets
+abbrev pub payload_size : ℕ
+payload_size = 1232
+
+-- a record of type 41 is an OPT. This goes further than RFC 6891 section 6.1.1, which has it among the additional
+-- records and with the root as its owner: here it counts in any section and whatever its owner
 abbrev pub is_opt : Record → Bool
-is_opt r = r.rtype == 41
+is_opt r = r.rtype == opt_type
 
 -- every other record
 abbrev pub is_other : Record → Bool
@@ -15,22 +28,22 @@ is_other r = if is_opt r then false else true
 abbrev pub opts : List Record → List Record
 opts records = filter is_opt records
 
--- what an OPT says: DO is the 17th bit of its TTL (RFC 3225 section 3, RFC 6891 section 6.1.3)
+-- what an OPT says
 abbrev pub opt_of : Record → Opt
-opt_of r = record { dnssec_ok = r.ttl / 2 ^ 15 % 2 == 1 }
+opt_of r = record { dnssec_ok = r.ttl / dnssec_ok % 2 == 1 }
 
 -- what the first of the OPT records says
 abbrev pub first_opt : List Record → Option Opt
 first_opt [] = None
 first_opt (r ∷ records) = Some (opt_of r)
 
--- the OPT of a made answer: the root as its owner, payload size 1232, DO copied, all else 0, no options
+-- the OPT of a made answer: the root as its owner, the payload size stated, DO copied, all else 0, no options
 abbrev pub opt_record : Opt → Record
 opt_record opt = record {
   owner = record { labels = []; pointer = None };
-  rtype = 41;
-  class = 1232;
-  ttl = if opt.dnssec_ok then 2 ^ 15 else 0;
+  rtype = opt_type;
+  class = payload_size;
+  ttl = if opt.dnssec_ok then dnssec_ok else 0;
   rdata = [];
 }
 

@@ -4,7 +4,8 @@ use Rattle.std.specs.List.{flat_map, AllByRecursion}
 use Rattle.lb_name.specs.Name.{IsLabel, labels_octets}
 use Rattle.lb_wire.specs.BigEndian.{two_octets, four_octets}
 
--- the owner of a record: labels, then the root or a pointer, which is never followed (section 4.1.4)
+-- the owner of a record: labels, then the root or a pointer (section 4.1.4). The RFC has the pointer followed to the rest
+-- of the name: here it is never followed, so that it may point anywhere, and the owner ends with it
 pub record Owner : Type 0 where
   pub labels : List (List ℕ)
   pub pointer : Option ℕ
@@ -23,7 +24,8 @@ abbrev pub IsPointer : Option ℕ → Type 0
 IsPointer None = Unit {0}
 IsPointer (Some place) = place < 2 ^ 14
 
--- an owner has labels, and at most 255 octets with the pointer counted
+-- an owner has labels, and at most 255 octets (section 2.3.4). The RFC bounds the name that it stands for: here it is what
+-- stands there that counts, the pointer as two octets
 pub record IsOwner (owner : Owner) : Type 0 where
   pub each : AllByRecursion IsLabel owner.labels
   pub pointer : IsPointer owner.pointer

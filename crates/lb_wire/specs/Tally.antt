@@ -1,7 +1,7 @@
 -- What a walk over records gathers.
 use Rattle.std.specs.Prelude.{ℕ, ◌/◌, ◌%◌, ◌^◌, Bool, true, false, List, [], ◌∷◌, None, Some, is_some, ◌==◌, ◌&&◌, ◌||◌, if◌then◌else◌}
 use Rattle.lb_wire.specs.Record.{Record}
-use Rattle.lb_wire.specs.Opt.{opts, first_opt, least_ttl, ttl_value, lesser}
+use Rattle.lb_wire.specs.Opt.{opt_type, dnssec_ok, opts, first_opt, least_ttl, ttl_value, lesser}
 use Rattle.lb_wire.specs.declared.tally.Tally.{Tally}
 
 -- whether there are two records or more
@@ -16,7 +16,7 @@ tally_of records = record { opt = first_opt (opts records); twice = is_two (opts
 
 -- the same of one record of this type and TTL
 abbrev pub tally_of_one : ℕ → ℕ → Tally
-tally_of_one rtype ttl = if rtype == 41 then record { opt = Some (record { dnssec_ok = ttl / 2 ^ 15 % 2 == 1 }); twice = false; least = None } else record { opt = None; twice = false; least = Some (ttl_value ttl) }
+tally_of_one rtype ttl = if rtype == opt_type then record { opt = Some (record { dnssec_ok = ttl / dnssec_ok % 2 == 1 }); twice = false; least = None } else record { opt = None; twice = false; least = Some (ttl_value ttl) }
 
 -- the same of records and others behind them
 abbrev pub both_of : Tally → Tally → Tally

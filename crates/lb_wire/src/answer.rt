@@ -2,8 +2,6 @@
 
 ghost use Rattle.std.specs.Prelude.{◌≡◌, ◌+◌, ◌≤◌, ◌++◌, take, vec_len, vec_capacity, length};
 ghost use Rattle.lb_wire.specs.Numbers.{rcode_number};
-ghost use Rattle.lb_wire.specs.Record.{record_octets};
-ghost use Rattle.lb_wire.specs.Opt.{opt_record, opt_number};
 ghost use Rattle.lb_wire.specs.Message.{Message, Lays};
 ghost use Rattle.lb_wire.specs.Query.{IsQuery, view_of};
 ghost use Rattle.lb_wire.specs.Answer.{made_of, refusal_of, truncated_of, formerr_of, made_header as made_header_of};
@@ -12,12 +10,9 @@ use crate::big_endian::read_u16;
 use crate::flags::Flags;
 use crate::header::{HEADER_LEN, Header, put_header};
 use crate::octets::overwrite;
-use crate::opt::Opt;
+use crate::opt::opt_piece;
 use crate::query::QueryView;
 use crate::rcode::Rcode;
-
-/// How many octets the OPT of a made answer has.
-pub(crate) const OPT_LEN: usize = 11;
 
 /// Makes the answer with this RCODE in the query's own bytes, from which the view was read: the header by the rules
 /// of made answers, the question octet for octet, and an OPT if the query had one. It takes no memory.
@@ -82,14 +77,6 @@ fn put_and_cut(bytes: &mut Vec<u8>, at: usize, piece: &[u8])
 {
     overwrite(bytes.as_mut_slice(), at, piece);
     bytes.truncate(at + piece.len());
-}
-
-/// The OPT of a made answer on the wire: the root, type 41, payload size 1232, DO copied.
-pub(crate) fn opt_piece(opt: Opt) -> [u8; 11]
-    ensures { result ≡ record_octets (opt_record opt) }
-{
-    let dnssec_ok = if opt.dnssec_ok { 0x80 } else { 0 };
-    [0, 0, 41, 0x04, 0xd0, 0, 0, dnssec_ok, 0, 0, 0]
 }
 
 /// The header of a made answer.

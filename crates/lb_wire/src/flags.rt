@@ -18,17 +18,19 @@ use crate::rcode::Rcode;
 #[derive(Clone, Copy, Debug, PartialEq, Eq)]
 pub struct Flags(pub u16);
 
-/// What each field counts for. Fields are read by division and put together by sums.
+// What each field counts for: the value of its last bit. Fields are read by division and put together by sums.
+
+/// The message is a response.
 const QR: u16 = 0x8000;
-
+/// The kind of query, four bits.
 const OPCODE: u16 = 0x800;
-
+/// The message is truncated.
 const TC: u16 = 0x200;
-
+/// Recursion is desired.
 const RD: u16 = 0x100;
-
+/// Recursion is available.
 const RA: u16 = 0x80;
-
+/// Checking is disabled.
 const CD: u16 = 0x10;
 
 impl Flags {
@@ -62,7 +64,7 @@ impl Flags {
 
     /// The flags of a made answer to a query with these flags: QR 1, Opcode kept, AA 0, TC as stated, RD kept, RA
     /// equal to RD, Z 0, AD 0, CD kept, the stated RCODE.
-    pub fn answer(self, truncated: bool, rcode: Rcode) -> Flags
+    pub(crate) fn answer(self, truncated: bool, rcode: Rcode) -> Flags
         ensures { result.0 ≡ answer_flags self.0 (if truncated then 1 else 0) (rcode_number rcode) }
     {
         let opcode = self.0 / OPCODE % 16;

@@ -1,6 +1,7 @@
 //! What holds of messages, whatever reads them. Each function is a law: its contract is the statement, and a call does
 //! nothing but bring it to the caller's proof.
 
+ghost use Rattle.lb_wire.specs.Aging.{LeastIsOutlived};
 ghost use Rattle.lb_wire.specs.Message.{OneMessage};
 ghost use Rattle.lb_wire.specs.Query.{OneReading};
 
@@ -19,3 +20,8 @@ pub fn one_reading()
 {
     labels_go_on();
 }
+
+/// Every record outlives the least TTL of them all, which `survey` gives: so much a message may be aged.
+pub fn least_is_outlived()
+    ensures { LeastIsOutlived }
+{}

@@ -38,7 +38,7 @@ pub use flags::Flags;
 pub use ids::{CacheId, PoolId, RuleId, ServerId};
 pub use kept::Kept;
 pub use key::{Key, key_of};
-pub use laws::{one_message, one_reading};
+pub use laws::{least_is_outlived, one_message, one_reading};
 pub use octets::Octets;
 pub use opcode::Opcode;
 pub use opt::Opt;

@@ -10,6 +10,17 @@ use crate::record_type::{Class, RecordType};
 use lb_name::Name;
 
 /// A question (RFC 1035 section 4.1.2), its name as it was spelled.
+///
+/// ```text
+///   0  1  2  3  4  5  6  7  8  9 10 11 12 13 14 15
+/// +--+--+--+--+--+--+--+--+--+--+--+--+--+--+--+--+
+/// /                     QNAME                     /
+/// +--+--+--+--+--+--+--+--+--+--+--+--+--+--+--+--+
+/// |                     QTYPE                     |
+/// +--+--+--+--+--+--+--+--+--+--+--+--+--+--+--+--+
+/// |                     QCLASS                    |
+/// +--+--+--+--+--+--+--+--+--+--+--+--+--+--+--+--+
+/// ```
 #[derive(Debug, Drop)]
 pub struct Question {
     pub name: Name,

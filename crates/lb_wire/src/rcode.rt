@@ -2,6 +2,7 @@
 
 ghost use Rattle.std.specs.Prelude.{◌≡◌, ◌%◌, ◌^◌, ◌<◌};
 ghost use Rattle.lb_wire.specs.Numbers.{rcode_number};
+ghost use Rattle.lb_wire.specs.Rcode.{rcode_of_name};
 
 use std::fmt;
 
@@ -27,7 +28,43 @@ pub enum Rcode {
     Unassigned15,
 }
 
+/// The response codes that a text names, with their names.
+const NAMES: [(Rcode, &str); 6] = [
+    (Rcode::NoError, "NOERROR"),
+    (Rcode::FormErr, "FORMERR"),
+    (Rcode::ServFail, "SERVFAIL"),
+    (Rcode::NXDomain, "NXDOMAIN"),
+    (Rcode::NotImp, "NOTIMP"),
+    (Rcode::Refused, "REFUSED"),
+];
+
+/// The response codes whose names are written and not read.
+const WRITTEN_NAMES: [(Rcode, &str); 10] = [
+    (Rcode::YXDomain, "YXDOMAIN"),
+    (Rcode::YXRRSet, "YXRRSET"),
+    (Rcode::NXRRSet, "NXRRSET"),
+    (Rcode::NotAuth, "NOTAUTH"),
+    (Rcode::NotZone, "NOTZONE"),
+    (Rcode::DsoTypeNI, "DSOTYPENI"),
+    (Rcode::Unassigned12, "RESERVED12"),
+    (Rcode::Unassigned13, "RESERVED13"),
+    (Rcode::Unassigned14, "RESERVED14"),
+    (Rcode::Unassigned15, "RESERVED15"),
+];
+
 impl Rcode {
+    /// The response code that a text names: NOERROR, FORMERR, SERVFAIL, NXDOMAIN, NOTIMP or REFUSED, in these letters.
+    pub fn from_name(name: &[u8]) -> Option<Rcode>
+        ensures { result ≡ rcode_of_name name.now }
+    {
+        for (rcode, word) in NAMES {
+            if word.as_bytes() == name {
+                return Some(rcode);
+            }
+        }
+        None
+    }
+
     /// The number on the wire, 0 to 15.
     pub fn number(self) -> u8
         ensures number { result ≡ rcode_number self }
@@ -78,26 +115,14 @@ impl Rcode {
     }
 }
 
+/// The name, as dig writes it.
 impl fmt::Display for Rcode {
     fn fmt<W: fmt::Write>(&self, f: &mut fmt::Formatter<W>) -> fmt::Result {
-        let text = match self {
-            Rcode::NoError => "NOERROR",
-            Rcode::FormErr => "FORMERR",
-            Rcode::ServFail => "SERVFAIL",
-            Rcode::NXDomain => "NXDOMAIN",
-            Rcode::NotImp => "NOTIMP",
-            Rcode::Refused => "REFUSED",
-            Rcode::YXDomain => "YXDOMAIN",
-            Rcode::YXRRSet => "YXRRSET",
-            Rcode::NXRRSet => "NXRRSET",
-            Rcode::NotAuth => "NOTAUTH",
-            Rcode::NotZone => "NOTZONE",
-            Rcode::DsoTypeNI => "DSOTYPENI",
-            Rcode::Unassigned12 => "RESERVED12",
-            Rcode::Unassigned13 => "RESERVED13",
-            Rcode::Unassigned14 => "RESERVED14",
-            Rcode::Unassigned15 => "RESERVED15",
-        };
-        f.write_str(text)
+        for (rcode, word) in NAMES.iter().chain(&WRITTEN_NAMES) {
+            if rcode.number() == self.number() {
+                return f.write_str(word);
+            }
+        }
+        Ok(())
     }
 }

@@ -2,23 +2,28 @@
 
 ghost use Rattle.std.specs.Prelude.{◌≡◌, ◌<◌, ◌≤◌, ◌++◌, length, IfOk, OnOk};
 ghost use Rattle.std.specs.List.{flat_map};
-ghost use Rattle.lb_wire.specs.Record.{record_octets};
+ghost use Rattle.lb_wire.specs.BigEndian.{two_octets, four_octets};
+ghost use Rattle.lb_wire.specs.Record.{owner_octets, record_octets};
 ghost use Rattle.lb_wire.specs.Opt.{opt_octets, opt_number};
 ghost use Rattle.lb_wire.specs.Message.{Message, Lays};
 ghost use Rattle.lb_wire.specs.Query.{IsQuery, view_of};
-ghost use Rattle.lb_wire.specs.Answer.{address_record, fits_type as fits_type_of, spoof_records, spoofed_of};
+ghost use Rattle.lb_wire.specs.Answer.{asked_owner, in_class, address_ttl, address_record, fits_type as fits_type_of, spoof_records, spoofed_of};
 
 use crate::addr::Addr;
-use crate::answer::{made_header, opt_piece};
-use crate::header::put_header;
-use crate::opt::Opt;
+use crate::answer::made_header;
+use crate::header::{HEADER_LEN, put_header};
+use crate::opt::{Opt, opt_piece};
 use crate::query::QueryView;
 use crate::rcode::Rcode;
-use crate::record_type::RecordType;
+use crate::record_type::{Class, RecordType};
+use lb_name::POINTER;
 use std::alloc::{AllocError, Global};
 
 /// The most octets of a spoofed answer: a header, the longest question, eight IPv6 records and an OPT.
 const MAX_SPOOFED: usize = 506;
+
+/// How long a client may keep a stated address, in seconds.
+const ADDRESS_TTL: u32 = 60;
 
 /// The answer to a query with these 1 to 8 addresses, as far as they fit the type asked for: the question, and one
 /// record for each in their order. The view was read from the bytes. The one error is want of memory.
@@ -82,14 +87,38 @@ fn push_address(answer: &mut Vec<u8>, addr: &Addr) -> Result<(), AllocError>
 {
     match addr {
         Addr::V4(octets) => {
-            answer.extend_from_slice(&[0xc0, 12, 0, 1, 0, 1, 0, 0, 0, 60, 0, 4])?;
+            answer.extend_from_slice(&address_front(RecordType::A, 4))?;
             answer.extend_from_slice(octets)
         }
         Addr::V6(octets) => {
-            answer.extend_from_slice(&[0xc0, 12, 0, 28, 0, 1, 0, 0, 0, 60, 0, 16])?;
+            answer.extend_from_slice(&address_front(RecordType::AAAA, 16))?;
             answer.extend_from_slice(octets)
         }
     }
+}
+
+/// What stands before the address in its record: the owner, a pointer to the question name behind the header, and
+/// TYPE, CLASS, TTL and RDLENGTH.
+fn address_front(rtype: RecordType, len: u8) -> [u8; 12]
+    ensures { result ≡ owner_octets asked_owner ++ (two_octets rtype.0 ++ (two_octets in_class ++ (four_octets address_ttl ++ two_octets len))) }
+{
+    let [type_high, type_low] = rtype.0.to_be_bytes();
+    let [class_high, class_low] = Class::IN.0.to_be_bytes();
+    let ttl = ADDRESS_TTL.to_be_bytes();
+    [
+        POINTER,
+        HEADER_LEN as u8,
+        type_high,
+        type_low,
+        class_high,
+        class_low,
+        ttl[0],
+        ttl[1],
+        ttl[2],
+        ttl[3],
+        0,
+        len,
+    ]
 }
 
 /// Appends the OPT of an answer, if the query had one, and gives the number of OPT records.

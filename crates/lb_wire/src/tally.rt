@@ -3,7 +3,7 @@
 ghost use Rattle.std.specs.Prelude.{◌≡◌, ◌^◌, ◌<◌};
 ghost use Rattle.lb_wire.specs.Tally.{both_of, tally_of_one};
 
-use crate::opt::Opt;
+use crate::opt::{DNSSEC_OK, Opt};
 use crate::record_type::RecordType;
 
 /// What the OPT records and the TTLs of some records come to.
@@ -28,9 +28,6 @@ pub struct Survey {
 
 /// The TTLs from here on have the top bit set, and are read as 0 (RFC 2181 section 8).
 const TTL_END: u32 = 0x8000_0000;
-
-/// What the DO bit counts for in the TTL of an OPT (RFC 6891 section 6.1.3).
-const DNSSEC_OK: u32 = 0x8000;
 
 impl Tally {
     /// Of no record.
