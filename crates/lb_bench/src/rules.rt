@@ -1,7 +1,5 @@
 //! How long a query takes that is walked through many rules, and one that is counted by a limiter.
 
-ghost use Rattle.std.specs.Prelude.{◌≤◌};
-
 use lb_chain::{Action, Chain, Rule};
 use lb_core::{Answer, Balancer, Command, Event, LocalReason};
 use lb_masks::{Group, Mask};
@@ -91,7 +89,7 @@ struct Counter {
 }
 
 impl Model for Counter {
-    ghost use Rattle.std.specs.Prelude.{ℕ};
+    ghost use Rattle.std.specs.Prelude.{ℕ, ◌≤◌};
 
     ghost Value = { ℕ };
 

@@ -5,8 +5,8 @@ ghost use Rattle.lb_chain.specs.Edits.{limiters_in};
 ghost use Rattle.lb_chain.specs.Places.{places_of};
 
 use crate::numbered::Numbered;
-use crate::walked::MAX_LIMITERS;
 use arrayvec::ArrayVec;
+use lb_terms::MAX_LIMITERS;
 use std::marker::Model;
 
 /// The places of the rules that have limiters, at most 16: so that a query is counted without a visit of all rules. A

@@ -2,7 +2,10 @@
 
 ghost use Rattle.std.specs.Prelude.{◌≡◌, ◌≤◌};
 
-use crate::{Action, Addrs, Chain, ChainFault, Passed, Rule, RulePass, Verdict, Walked};
+use crate::{
+    Action, Addrs, Chain, ChainFault, Passed, Rule, RulePass, Verdict, Walked,
+    first_to_end_decides, listed_alike_seen_alike, seen_have_own_limiters, seen_twice, seen_walks,
+};
 use lb_limits::Pass;
 use lb_name::Name;
 use lb_terms::{Names, Term};
@@ -285,4 +288,19 @@ fn copies_and_numbers(rt: HostRuntime) -> Result<(), Fail> {
         assert_eq!(rt; fault.number(), number);
     }
     Ok(())
+}
+
+#[test]
+fn laws_do_nothing(rt: HostRuntime) {
+    let mut chain = Chain::new(rt.alloc());
+    assert!(rt; push(&mut chain, rate(), Action::None));
+    chain.law_of_rules();
+    first_to_end_decides();
+    listed_alike_seen_alike();
+    seen_have_own_limiters();
+    seen_twice();
+    seen_walks();
+    assert_eq!(rt; chain.len(), 1);
+    let unused = Passed::default();
+    assert_eq!(rt; (unused.rule, unused.limiter), (RuleId(0), 0));
 }

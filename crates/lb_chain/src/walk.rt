@@ -12,17 +12,7 @@ use crate::numbered::Numbered;
 use crate::walked::{Passed, PassedList, Verdict, Walked};
 use arrayvec::ArrayVec;
 use lb_terms::holds;
-use lb_wire::{Addr, Class, Kind, QueryView, RecordType, RuleId};
-
-/// Whether an address answers a question of this type.
-fn fits_type(qtype: RecordType, addr: &Addr) -> bool
-    ensures { result ≡ fits_type_of qtype.0 addr.now }
-{
-    match addr {
-        Addr::V4(_) => qtype.0 == RecordType::A.0 || qtype.0 == RecordType::ANY.0,
-        Addr::V6(_) => qtype.0 == RecordType::AAAA.0 || qtype.0 == RecordType::ANY.0,
-    }
-}
+use lb_wire::{Addr, Class, Kind, QueryView, RecordType, RuleId, fits_type};
 
 /// Whether one of the addresses answers a question of this type.
 fn one_fits(qtype: RecordType, addrs: &[Addr]) -> bool

@@ -4,11 +4,9 @@ ghost use Rattle.std.specs.Prelude.{◌≡◌, ◌≤◌, length};
 
 use crate::addrs::Addrs;
 use arrayvec::ArrayVec;
+use lb_terms::MAX_LIMITERS;
 use lb_wire::{PoolId, Rcode, RuleId};
 use std::marker::Model;
-
-/// The most limiters of a chain.
-pub(crate) const MAX_LIMITERS: usize = 16;
 
 /// What is done with a query: by the rule that ended the walk, or Allow where none did.
 #[derive(Clone, Copy, Debug)]
@@ -37,7 +35,10 @@ pub struct Passed {
 }
 
 impl Default for Passed {
-    fn default() -> Passed {
+    /// The first limiter of rule 0, which no chain has: it fills the places of a list that are not in use.
+    fn default() -> Passed
+        ensures { result ≡ record { rule = record { 0 = 0 }; limiter = 0 } }
+    {
         Passed {
             rule: RuleId(0),
             limiter: 0,

@@ -4,7 +4,7 @@ use Rattle.std.specs.List.{All as Each}
 use Rattle.std.proofs.lemmas.List.Elements.{All-append}
 use Rattle.lb_limits.specs.Window.{Limits, limits_of}
 use Rattle.lb_terms.specs.Selector.{Selector, All, Suffix, Masks, Qtype, And, Or, Not, MaxQps, Selectors, end, more}
-use Rattle.lb_terms.specs.Size.{nodes_of, nodes_in}
+use Rattle.lb_terms.specs.Check.{nodes_of, nodes_in}
 use Rattle.lb_terms.specs.Truth.{limiters_of, limiters_in}
 use Rattle.lb_terms.specs.Limiters.{new_limiters, limiters_each}
 

@@ -6,6 +6,6 @@ pub mod Fault
 pub mod Selector
 pub mod Codes
 pub mod Sets
-pub mod Size
+pub mod Check
 pub mod Truth
 pub mod Limiters

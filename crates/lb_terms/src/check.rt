@@ -2,7 +2,7 @@
 
 ghost use Rattle.std.specs.Prelude.{◌≡◌, ◌+◌, ◌<◌, IfSome, IfNone, nat_le};
 ghost use Rattle.lb_terms.specs.Selector.{selector_of};
-ghost use Rattle.lb_terms.specs.Size.{depth_of, has_members, has_rates, has_small_sets, nodes_of};
+ghost use Rattle.lb_terms.specs.Check.{depth_of, has_members, has_rates, has_small_sets, nodes_of};
 
 use crate::term::Term;
 

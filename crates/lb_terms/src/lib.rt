@@ -8,15 +8,15 @@ mod laws;
 mod limiters;
 mod names;
 mod term;
-mod test;
 mod tested;
 #[cfg(test)]
 mod tests;
+mod truth;
 
 pub use fault::TermFault;
 pub use laws::{mask_test_decides, suffix_test_decides};
 pub use limiters::{limiter_count, new_limiters};
 pub use names::Names;
 pub use term::{CheckedTerm, Term};
-pub use test::holds;
-pub use tested::{Passes, Tested};
+pub use tested::{MAX_LIMITERS, Passes, Tested};
+pub use truth::holds;

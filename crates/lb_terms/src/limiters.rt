@@ -3,27 +3,35 @@
 ghost use Rattle.std.specs.Prelude.{◌≡◌, ◌+◌, ◌++◌, ◌≤◌, IfOk, OnOk, length, true};
 ghost use Rattle.std.specs.List.{All};
 ghost use Rattle.lb_terms.specs.Limiters.{new_limiters};
-ghost use Rattle.lb_terms.specs.Selector.{selector_of};
-ghost use Rattle.lb_terms.specs.Size.{has_rates};
-ghost use Rattle.lb_terms.specs.Truth.{limiters_of};
+ghost use Rattle.lb_terms.specs.Selector.{selector_of, selectors_of};
+ghost use Rattle.lb_terms.specs.Check.{has_rates};
+ghost use Rattle.lb_terms.specs.Truth.{limiters_in, limiters_of};
 
 use crate::term::{CheckedTerm, Term};
 use lb_limits::Limiter;
 use std::alloc::{AllocError, Global};
 
+/// How many limiters terms have.
+#[cycle(count)]
+pub(crate) fn count_all(terms: &[Term]) -> usize
+    requires { limiters_in (selectors_of terms.now) ≤ 64 }
+    ensures { result ≡ limiters_in (selectors_of terms.now) }
+{
+    let mut sum = 0;
+    for term in terms {
+        sum += count(term);
+    }
+    sum
+}
+
 /// How many limiters a term has: one for each rate.
-pub(crate) fn count(term: &Term) -> usize
+#[cycle(count)]
+fn count(term: &Term) -> usize
     requires { limiters_of (selector_of term.now) ≤ 64 }
     ensures { result ≡ limiters_of (selector_of term.now) }
 {
     match term {
-        Term::And(terms) | Term::Or(terms) => {
-            let mut sum = 0;
-            for term in terms {
-                sum += count(term);
-            }
-            sum
-        }
+        Term::And(terms) | Term::Or(terms) => count_all(terms.as_slice()),
         Term::Not(term) => count(term),
         Term::MaxQps(_, _, _) => 1,
         _ => 0,

@@ -2,7 +2,7 @@
 
 ghost use Rattle.std.specs.Prelude.{◌≡◌, IfOk};
 ghost use Rattle.lb_terms.specs.Selector.{selector_of};
-ghost use Rattle.lb_terms.specs.Size.{IsChecked, checked_of};
+ghost use Rattle.lb_terms.specs.Check.{IsChecked, checked_of};
 
 use crate::check::{has_members, has_rates, has_small_sets, is_within, nodes_left};
 use crate::copy::copied;
@@ -49,7 +49,7 @@ pub struct CheckedTerm {
 
 impl Model for CheckedTerm {
     ghost use Rattle.lb_terms.specs.Selector.{Selector, selector_of};
-    ghost use Rattle.lb_terms.specs.Size.{IsChecked};
+    ghost use Rattle.lb_terms.specs.Check.{IsChecked};
 
     ghost Value = { Selector };
 

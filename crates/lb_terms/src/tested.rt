@@ -6,7 +6,7 @@ use arrayvec::ArrayVec;
 use std::marker::Model;
 
 /// The most limiters of a term that is tested.
-pub(crate) const MAX_LIMITERS: usize = 16;
+pub const MAX_LIMITERS: usize = 16;
 
 /// The numbers of limiters of a term, counted from 0 and from the left; at most 16. A contract sees it as the list.
 #[derive(Debug, Drop)]

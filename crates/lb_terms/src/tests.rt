@@ -2,7 +2,10 @@
 
 ghost use Rattle.std.specs.Prelude.{◌≡◌, ◌≤◌, OnOk};
 
-use crate::{Names, Term, TermFault, holds, limiter_count, new_limiters};
+use crate::{
+    Names, Term, TermFault, holds, limiter_count, mask_test_decides, new_limiters,
+    suffix_test_decides,
+};
 use lb_limits::Limiter;
 use lb_masks::{Group, Mask};
 use lb_name::Name;
@@ -216,6 +219,25 @@ fn names_under_a_suffix(rt: HostRuntime) {
         let tested = tested(alloc, suffix(alloc, "example.com"), octets, ONE);
         assert!(rt; gives(tested, truth, &[]));
     }
+}
+
+#[test]
+fn names_in_order(rt: HostRuntime) -> Result<(), Fail> {
+    let alloc = rt.alloc();
+    let (com, org) = (
+        Name::parse_text("example.com")?,
+        Name::parse_text("example.org")?,
+    );
+    let mut items = Vec::new(alloc);
+    items.push(com.copy())?;
+    items.push(org.copy())?;
+    let names = Names::from_vec(items).copy(alloc)?;
+    assert_eq!(rt; names.len(), 2);
+    assert!(rt; names.covers(&org) && names.as_slice()[1].is_under(&org));
+    assert!(rt; !names.as_slice()[0].is_under(&org));
+    suffix_test_decides();
+    mask_test_decides();
+    Ok(())
 }
 
 #[test]

@@ -1,6 +1,6 @@
 use Rattle.std.proofs.Common.{◌≡◌, drop}
 use Rattle.lb_terms.specs.Selector.{selector_of, selectors_of}
-use Rattle.lb_terms.specs.Size.{has_rates, have_rates}
+use Rattle.lb_terms.specs.Check.{has_rates, have_rates}
 use Rattle.lb_terms.proofs.check.+has_rates.Given as goal
 
 abbrev pub invariant-loop-term : goal.invariant-loop-term

@@ -1,6 +1,6 @@
 use Rattle.std.proofs.Common.{◌≡◌, ◌+◌, ◌<◌, drop, nat_le}
 use Rattle.lb_terms.specs.Selector.{selector_of, selectors_of}
-use Rattle.lb_terms.specs.Size.{depth_in, depth_of}
+use Rattle.lb_terms.specs.Check.{depth_in, depth_of}
 use Rattle.lb_terms.proofs.check.+is_within.Given as goal
 
 abbrev pub invariant-loop-term : goal.invariant-loop-term

@@ -1,6 +1,6 @@
 use Rattle.std.proofs.Common.{◌≡◌, ◌+◌, drop}
 use Rattle.lb_terms.specs.Selector.{selector_of, selectors_of}
-use Rattle.lb_terms.specs.Size.{nodes_in, nodes_of}
+use Rattle.lb_terms.specs.Check.{nodes_in, nodes_of}
 use Rattle.lb_terms.proofs.check.+nodes_left.Given as goal
 
 abbrev pub invariant-loop-term : goal.invariant-loop-term

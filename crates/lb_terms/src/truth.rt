@@ -6,7 +6,7 @@ ghost use Rattle.lb_terms.specs.Selector.{selector_of, selectors_of};
 ghost use Rattle.lb_terms.specs.Sets.{in_group};
 ghost use Rattle.lb_terms.specs.Truth.{asked_of, limiters_in, limiters_of, passes_all, passes_any, passes_at, tested_of, truth_all, truth_any, truth_at};
 
-use crate::limiters::count;
+use crate::limiters::count_all;
 use crate::term::{CheckedTerm, Term};
 use crate::tested::{Passes, Tested};
 use lb_limits::Limiter;
@@ -20,8 +20,8 @@ fn is_in_group(group: &Group, addr: &Addr) -> bool
     group.covers(addr)
 }
 
-/// Whether the term holds. Its first limiter is the one at the place; the numbers of those that are tested and do not
-/// match go behind the passes.
+/// Whether the term holds. `next` is the number of its first limiter and moves on to the one behind its last; the numbers
+/// of those that are tested and do not match go behind the passes.
 #[cycle(test)]
 fn test(
     term: &Term,
@@ -29,26 +29,29 @@ fn test(
     addr: &Addr,
     limits: &[Limiter],
     now: u64,
-    at: usize,
+    next: &mut usize,
     passes: &mut Passes,
 ) -> bool
-    requires limiters { at + limiters_of (selector_of term.now) ≤ length limits.now }
+    requires limiters { next.old + limiters_of (selector_of term.now) ≤ length limits.now }
     requires few { length limits.now ≤ 16 }
     requires moments { All (λ limiter. limiter.moment ≤ now) limits.now }
-    requires room { length passes.old ≤ at }
-    ensures truth { result ≡ truth_at (selector_of term.now) (asked_of view.now addr.now limits.now now) at }
-    ensures passes { passes.new ≡ passes.old ++ passes_at (selector_of term.now) (asked_of view.now addr.now limits.now now) at }
-    ensures room { length passes.new ≤ at + limiters_of (selector_of term.now) }
+    requires room { length passes.old ≤ next.old }
+    ensures truth { result ≡ truth_at (selector_of term.now) (asked_of view.now addr.now limits.now now) next.old }
+    ensures passes { passes.new ≡ passes.old ++ passes_at (selector_of term.now) (asked_of view.now addr.now limits.now now) next.old }
+    ensures next { next.new ≡ next.old + limiters_of (selector_of term.now) }
+    ensures room { length passes.new ≤ next.new }
 {
     match term {
         Term::All => true,
         Term::Suffix(names) => names.covers(&view.name),
         Term::Masks(group) => is_in_group(group, addr),
         Term::Qtype(qtype) => *qtype == view.qtype,
-        Term::And(terms) => test_all(terms.as_slice(), view, addr, limits, now, at, passes),
-        Term::Or(terms) => test_any(terms.as_slice(), view, addr, limits, now, at, passes),
-        Term::Not(term) => !test(term, view, addr, limits, now, at, passes),
+        Term::And(terms) => test_all(terms.as_slice(), view, addr, limits, now, next, passes),
+        Term::Or(terms) => test_any(terms.as_slice(), view, addr, limits, now, next, passes),
+        Term::Not(term) => !test(term, view, addr, limits, now, next, passes),
         Term::MaxQps(_, _, _) => {
+            let at = *next;
+            *next = at + 1;
             let matches = limits[at].would_match(addr, now);
             if !matches {
                 passes.push(at as u8);
@@ -66,23 +69,24 @@ fn test_all(
     addr: &Addr,
     limits: &[Limiter],
     now: u64,
-    at: usize,
+    next: &mut usize,
     passes: &mut Passes,
 ) -> bool
-    requires limiters { at + limiters_in (selectors_of terms.now) ≤ length limits.now }
+    requires limiters { next.old + limiters_in (selectors_of terms.now) ≤ length limits.now }
     requires few { length limits.now ≤ 16 }
     requires moments { All (λ limiter. limiter.moment ≤ now) limits.now }
-    requires room { length passes.old ≤ at }
-    ensures truth { result ≡ truth_all (selectors_of terms.now) (asked_of view.now addr.now limits.now now) at }
-    ensures passes { passes.new ≡ passes.old ++ passes_all (selectors_of terms.now) (asked_of view.now addr.now limits.now now) at }
-    ensures room { length passes.new ≤ at + limiters_in (selectors_of terms.now) }
+    requires room { length passes.old ≤ next.old }
+    ensures truth { result ≡ truth_all (selectors_of terms.now) (asked_of view.now addr.now limits.now now) next.old }
+    ensures passes { passes.new ≡ passes.old ++ passes_all (selectors_of terms.now) (asked_of view.now addr.now limits.now now) next.old }
+    ensures next { next.new ≡ next.old + limiters_in (selectors_of terms.now) }
+    ensures room { length passes.new ≤ next.new }
 {
-    let mut next = at;
-    for term in terms {
+    for (at, term) in terms.iter().enumerate() {
         if !test(term, view, addr, limits, now, next, passes) {
+            let (_, rest) = terms.split_at(at + 1);
+            skip(rest, limits.len(), next);
             return false;
         }
-        next += count(term);
     }
     true
 }
@@ -95,25 +99,38 @@ fn test_any(
     addr: &Addr,
     limits: &[Limiter],
     now: u64,
-    at: usize,
+    next: &mut usize,
     passes: &mut Passes,
 ) -> bool
-    requires limiters { at + limiters_in (selectors_of terms.now) ≤ length limits.now }
+    requires limiters { next.old + limiters_in (selectors_of terms.now) ≤ length limits.now }
     requires few { length limits.now ≤ 16 }
     requires moments { All (λ limiter. limiter.moment ≤ now) limits.now }
-    requires room { length passes.old ≤ at }
-    ensures truth { result ≡ truth_any (selectors_of terms.now) (asked_of view.now addr.now limits.now now) at }
-    ensures passes { passes.new ≡ passes.old ++ passes_any (selectors_of terms.now) (asked_of view.now addr.now limits.now now) at }
-    ensures room { length passes.new ≤ at + limiters_in (selectors_of terms.now) }
+    requires room { length passes.old ≤ next.old }
+    ensures truth { result ≡ truth_any (selectors_of terms.now) (asked_of view.now addr.now limits.now now) next.old }
+    ensures passes { passes.new ≡ passes.old ++ passes_any (selectors_of terms.now) (asked_of view.now addr.now limits.now now) next.old }
+    ensures next { next.new ≡ next.old + limiters_in (selectors_of terms.now) }
+    ensures room { length passes.new ≤ next.new }
 {
-    let mut next = at;
-    for term in terms {
+    for (at, term) in terms.iter().enumerate() {
         if test(term, view, addr, limits, now, next, passes) {
+            let (_, rest) = terms.split_at(at + 1);
+            skip(rest, limits.len(), next);
             return true;
         }
-        next += count(term);
     }
     false
+}
+
+/// Moves `next` on past the limiters of terms that are not tested. Where no limiter is left, as in a rule that has none,
+/// the terms are not looked at.
+fn skip(terms: &[Term], most: usize, next: &mut usize)
+    requires within { next.old + limiters_in (selectors_of terms.now) ≤ most }
+    requires few { most ≤ 16 }
+    ensures { next.new ≡ next.old + limiters_in (selectors_of terms.now) }
+{
+    if *next < most {
+        *next += count_all(terms);
+    }
 }
 
 /// Tests a term of a query that came from the address now, in milliseconds. It is handed one limiter for each rate of
@@ -135,13 +152,14 @@ pub fn holds(
         truth: false,
         passes: Passes::new(),
     };
+    let mut next = 0;
     tested.truth = test(
         term.as_term(),
         view,
         addr,
         limits,
         now,
-        0,
+        &mut next,
         &mut tested.passes,
     );
     tested
