@@ -1,11 +1,13 @@
 //! The program `lb_bench`: it measures, and writes nanoseconds a call to standard error. With the argument `messages`
 //! it reads queries, makes their answers and surveys replies; with `rules` it asks balancers with many rules and with a
-//! limiter; with no argument it does nothing.
+//! limiter; with `limits` it gives a limiter fresh addresses; with no argument it does nothing.
 #![tactic(auto)]
 
+mod limits;
 mod messages;
 mod rules;
 
+use limits::time_fresh;
 use messages::{time_answers, time_surveys};
 use rules::{time_counting, time_limiter, time_walks};
 use std::{env, io};
@@ -20,6 +22,9 @@ fn main(rt: HostRuntime) -> io::Result<()> {
             time_walks(&rt)?;
             time_counting(&rt)?;
             time_limiter(&rt)?;
+        }
+        if word.as_str() == "limits" {
+            time_fresh(&rt)?;
         }
     }
     Ok(())

@@ -19,7 +19,7 @@ use Rattle.lb_limits.specs.declared.pass.Pass.{Pass}
 use Rattle.lb_limits.specs.declared.bucket.Bucket.{Bucket}
 use Rattle.lb_limits.specs.Order.{same_addr}
 use Rattle.lb_limits.specs.Moments.{is_recent, recent_of, ends_recent}
-use Rattle.lb_limits.specs.Buckets.{Ascends, IsBucket, IsHeld, IsPlace, Keeps, is_below, begins, pass_of, late_passes, held_at, is_live, live_count, free_in, free_of, max_places, max_buckets, stays}
+use Rattle.lb_limits.specs.Buckets.{Ascends, IsBucket, IsHeld, IsPlace, Keeps, is_below, begins, pass_of, late_passes, held_at, is_live, live_count, free_in, free_of, stays}
 use Rattle.lb_limits.proofs.Keys.{same_decides}
 use Rattle.lb_limits.proofs.Recent.{filter_fewer, recent_twice, ends_tell, last_push, positive}
 use Rattle.lb_limits.proofs.Pairs.{pairs_insert}
@@ -31,10 +31,10 @@ one_if b = cond b 1 0
 
 -- what holds at a moment holds at a later one
 pub bucket_later : (m now : ℕ) (b : Bucket) → m ≤ now → IsBucket m b → IsBucket now b
-bucket_later m now b le is = record { order = is.order; past = λ k d lt. omega (arith, is.past k d lt); places = is.places; few = is.few }
+bucket_later m now b le is = record { order = is.order; past = λ k d lt. omega (arith, is.past k d lt); places = is.places }
 
 pub held_later : (m now : ℕ) (bs : List Bucket) → m ≤ now → IsHeld m bs → IsHeld now bs
-held_later m now bs le is = record { order = is.order; each = λ k d lt. bucket_later m now (get_or bs k d) le (is.each k d lt); few = is.few }
+held_later m now bs le is = record { order = is.order; each = λ k d lt. bucket_later m now (get_or bs k d) le (is.each k d lt) }
 
 -- an empty bucket of a new address
 module _ (moment : ℕ) (key : Addr) (place : ℕ) (bs : List Bucket) (b : Bucket) (held : IsHeld moment bs) (at : IsPlace key place bs) (source : b.source ≡ key) (empty : b.moments.items ≡ []) where
@@ -58,30 +58,28 @@ module _ (moment : ℕ) (key : Addr) (place : ℕ) (bs : List Bucket) (b : Bucke
       let none : one_if (is_live now b) ≡ 0 = rw empty refl in
       omega (arith, sum_by-insert (λ c. cond (is_live now c) 1 0) bs place b)
 
-  pub opened : b.moments.capacity ≡ 4 → begins key (drop place bs) ≡ false → length bs < max_buckets → IsBucket moment b → Keeps moment bs (insert bs place b)
-  opened places new few is = record {
+  pub opened : begins key (drop place bs) ≡ false → IsBucket moment b → Keeps moment bs (insert bs place b)
+  opened new is = record {
     held = record {
       order = opened_order new;
       each = All-append (IsBucket moment) (take place bs) (b ∷ drop place bs) (All-take (IsBucket moment) place bs held.each) (All-cons (IsBucket moment) b (drop place bs) is (All-drop (IsBucket moment) place bs held.each));
-      few = omega (arith, length-insert bs place b at.within);
     };
     passes = λ now le. opened_passes now;
     live = λ now le. opened_live now;
   }
 
-pub empty_bucket : (moment : ℕ) (b : Bucket) → b.moments.items ≡ [] → b.moments.capacity ≡ 4 → IsBucket moment b
-empty_bucket moment b empty places = record {
+pub empty_bucket : (moment : ℕ) (b : Bucket) → b.moments.items ≡ [] → IsBucket moment b
+empty_bucket moment b empty = record {
   order = λ i j d le within. absurd (omega (arith, ap (λ (ms : List ℕ). length ms) empty));
   past = λ k d lt. absurd (omega (arith, ap (λ (ms : List ℕ). length ms) empty));
   places = omega (arith, ap (λ (ms : List ℕ). length ms) empty);
-  few = omega (arith, places);
 }
 
-pub opened_room : (key : Addr) (place : ℕ) (bs : List Bucket) (b : Bucket) → b.source ≡ key → b.moments.items ≡ [] → b.moments.capacity ≡ 4 → 0 < free_of key (insert bs place b)
-opened_room key place bs b source empty places =
+pub opened_room : (key : Addr) (place : ℕ) (bs : List Bucket) (b : Bucket) → b.source ≡ key → b.moments.items ≡ [] → 0 < b.moments.capacity → 0 < free_of key (insert bs place b)
+opened_room key place bs b source empty some =
     let own : same_addr key b.source ≡ true = (same_decides key b.source).1 (sym source) in
-    let free : free_in key b ≡ 4 = rw (own, empty, places) refl in
-    omega (arith, sum_by-insert (free_in key) bs place b)
+    let free : free_in key b ≡ b.moments.capacity - 0 = rw (own, empty) refl in
+    omega (arith, some, sum_by-insert (free_in key) bs place b)
 
 -- a bucket in the place of one of the same address, with the same moments that count
 pub widened : (moment : ℕ) (place : ℕ) (bs : List Bucket) (b d : Bucket) → IsHeld moment bs → place < length bs → b.source ≡ (get_or bs place d).source → IsBucket moment b → ((later : ℕ) → moment ≤ later → recent_of later b.moments.items ≡ recent_of later (get_or bs place d).moments.items) → Keeps moment bs (set bs place b)
@@ -91,7 +89,6 @@ widened moment place bs b d held lt source is same =
       held = record {
         order = ascends_set bs place b d lt held.order source;
         each = All-set (IsBucket moment) bs place b is held.each;
-        few = omega (arith, length-set bs place b, held.few);
       };
       passes = λ now le.
           let late : late_passes now b ≡ late_passes now old = ap (λ (s : Addr). map (pass_of s) (recent_of now b.moments.items)) source ∙ ap (λ (ms : List ℕ). map (pass_of old.source) ms) (same now le) in
@@ -106,21 +103,21 @@ widened moment place bs b d held lt source is same =
     }
 
 -- buckets that a sweep gives up
-left_or : (a b : Bool) → (a || b) ≡ false → a ≡ false
+pub left_or : (a b : Bool) → (a || b) ≡ false → a ≡ false
 left_or true b is = absurd (cc)
 left_or false b is = refl
 
-right_or : (a b : Bool) → (a || b) ≡ false → b ≡ false
+pub right_or : (a b : Bool) → (a || b) ≡ false → b ≡ false
 right_or true b is = absurd (cc)
 right_or false b is = is
 
-no_length : (ms : List ℕ) → nat_lt 0 (length ms) ≡ false → ms ≡ []
+pub no_length : (ms : List ℕ) → nat_lt 0 (length ms) ≡ false → ms ≡ []
 no_length [] is = refl
 no_length (m ∷ ms) is =
     let some : nat_lt 0 (suc (length ms)) ≡ true = positive (length ms) in
     absurd (cc)
 
-gone : (reserved : List Addr) (moment now : ℕ) (b : Bucket) → moment ≤ now → IsBucket moment b → stays reserved moment b ≡ false → recent_of now b.moments.items ≡ []
+pub gone : (reserved : List Addr) (moment now : ℕ) (b : Bucket) → moment ≤ now → IsBucket moment b → stays reserved moment b ≡ false → recent_of now b.moments.items ≡ []
 gone reserved moment now b le is goes =
     let old : ends_recent moment (last_item b.moments.items) ≡ false = left_or (ends_recent moment (last_item b.moments.items)) (list_any (same_addr b.source) reserved) goes in
     let none : recent_of moment b.moments.items ≡ [] = no_length (recent_of moment b.moments.items) (sym (ends_tell moment b.moments.items is.order) ∙ old) in
@@ -131,7 +128,6 @@ swept reserved moment bs held = record {
   held = record {
     order = AllPairs-filter (λ a c. is_below c.source a ≡ true) (stays reserved moment) bs held.order;
     each = All-filter (stays reserved moment) (IsBucket moment) bs held.each;
-    few = omega (arith, filter_fewer (stays reserved moment) bs, held.few);
   };
   passes = λ now le. flat_filter (IsBucket moment) (stays reserved moment) (late_passes now)
       (λ b is goes. ap (λ (ms : List ℕ). map (pass_of b.source) ms) (gone reserved moment now b le is goes)) bs held.each;
@@ -140,7 +136,7 @@ swept reserved moment bs held = record {
 }
 
 -- a bucket of a reserved address stays
-reserved_stays : (reserved : List Addr) (moment : ℕ) (key : Addr) (b : Bucket) → Contains reserved key → stays reserved moment b ≡ false → free_in key b ≡ 0
+pub reserved_stays : (reserved : List Addr) (moment : ℕ) (key : Addr) (b : Bucket) → Contains reserved key → stays reserved moment b ≡ false → free_in key b ≡ 0
 reserved_stays reserved moment key b there goes = elim (cases_Bool (same_addr key b.source)) [
   | inr other ↦ rw other refl
   | inl own ↦
@@ -184,12 +180,10 @@ module _ (now : ℕ) (place : ℕ) (bs : List Bucket) (b d : Bucket) (held : IsH
         order = subst IsNonDecreasing (sym items) (added_rises is);
         past = subst (All (λ m. m ≤ now)) (sym items) (All-push (λ m. m ≤ now) old.moments.items now is.past (omega arith));
         places = omega arith;
-        few = omega (arith, is.few);
       } in
       record {
         order = ascends_set bs place b d lt held.order source;
         each = All-set (IsBucket now) bs place b more held.each;
-        few = omega (arith, length-set bs place b, held.few);
       }
 
   pub added_live : (later : ℕ) → live_count later (set bs place b) + cond (ends_recent later (last_item (get_or bs place d).moments.items)) 1 0 ≡ live_count later bs + cond (is_recent later now) 1 0
@@ -223,7 +217,6 @@ forgot now a b is items places = record {
   order = subst IsNonDecreasing (sym items) (IsNonDecreasingBy-filter (λ (x : ℕ). x) (is_recent now) a.moments.items is.order);
   past = subst (All (λ m. m ≤ now)) (sym items) (All-filter (is_recent now) (λ m. m ≤ now) a.moments.items is.past);
   places = omega (arith, ap (λ (ms : List ℕ). length ms) items, filter_fewer (is_recent now) a.moments.items, is.places);
-  few = omega (arith, is.few);
 }
 
 pub forgot_same : (now later : ℕ) (a b : Bucket) → now ≤ later → b.moments.items ≡ recent_of now a.moments.items → recent_of later b.moments.items ≡ recent_of later a.moments.items
@@ -232,10 +225,9 @@ forgot_same now later a b le items = ap (λ (ms : List ℕ). recent_of later ms)
 pub forgot_more : (now : ℕ) (a b : Bucket) → b.moments.items ≡ recent_of now a.moments.items → b.moments.capacity ≡ a.moments.capacity → a.moments.capacity + length b.moments.items ≤ b.moments.capacity + length a.moments.items
 forgot_more now a b items places = omega (arith, ap (λ (ms : List ℕ). length ms) items, filter_fewer (is_recent now) a.moments.items)
 
-pub replaced : (now : ℕ) (a b : Bucket) → IsBucket now a → b.moments.items ≡ a.moments.items → length b.moments.items ≤ b.moments.capacity → b.moments.capacity ≤ max_places → IsBucket now b
-replaced now a b is items places few = record {
+pub replaced : (now : ℕ) (a b : Bucket) → IsBucket now a → b.moments.items ≡ a.moments.items → length b.moments.items ≤ b.moments.capacity → IsBucket now b
+replaced now a b is items places = record {
   order = subst IsNonDecreasing (sym items) is.order;
   past = subst (All (λ m. m ≤ now)) (sym items) is.past;
   places = places;
-  few = few;
 }

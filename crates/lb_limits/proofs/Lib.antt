@@ -8,7 +8,9 @@ pub mod Held
 pub mod Places
 pub mod Changes
 pub mod Put
-pub mod Ends
+pub mod Tallies
+pub mod Rated
+pub mod Left
 pub mod Tested
 pub mod Added
 pub mod Limits

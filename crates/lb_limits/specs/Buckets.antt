@@ -1,5 +1,5 @@
 -- What a limiter holds of each masked address: a bucket with the moments of its passes.
-use Rattle.std.specs.Prelude.{◌≡◌, ℕ, ◌-◌, ◌^◌, ◌≤◌, Bool, true, false, nat_lt, ◌||◌, List, [], ◌∷◌, length, map, take, drop, if◌then◌else◌}
+use Rattle.std.specs.Prelude.{◌≡◌, ℕ, ◌+◌, ◌-◌, ◌<◌, ◌≤◌, Bool, true, false, nat_lt, ◌||◌, List, [], ◌∷◌, length, get_or, map, take, drop, if◌then◌else◌}
 use Rattle.std.specs.List.{flat_map, sum_by, count_by, list_any, All, AllPairs}
 use Rattle.std.specs.List.Sorted.{IsNonDecreasing}
 use Rattle.std.specs.Ordering.{is_lt}
@@ -62,26 +62,25 @@ pub record IsPlace (key : Addr) (place : ℕ) (buckets : List Bucket) : Type 0 w
   pub below : All (λ b. is_below key b ≡ true) (take place buckets)
   pub above : All (λ b. is_below key b ≡ false) (drop place buckets)
 
--- a bucket has no more places than the first, and a limiter no more buckets than the second, so that 64 bits count its
--- passes
-abbrev pub max_places : ℕ
-max_places = 2 ^ 16
-
-abbrev pub max_buckets : ℕ
-max_buckets = 2 ^ 32
+-- where there are more buckets than this beside those that are reserved, the ones that are neither live nor reserved go
+abbrev pub many : ℕ
+many = 8192
 
 -- the moments of a bucket ascend, none is later than the one that the limiter stands at, and they are in its places
 pub record IsBucket (moment : ℕ) (b : Bucket) : Type 0 where
   pub order : IsNonDecreasing b.moments.items
   pub past : All (λ m. m ≤ moment) b.moments.items
   pub places : length b.moments.items ≤ b.moments.capacity
-  pub few : b.moments.capacity ≤ max_places
 
--- the buckets are in order, each as above, and not too many
+-- no more moments of a bucket count than the rate allows, and it has one place more than that at most
+pub record IsRated (qps moment : ℕ) (b : Bucket) : Type 0 where
+  pub rate : length (recent_of moment b.moments.items) ≤ qps
+  pub places : b.moments.capacity ≤ qps + 1
+
+-- the buckets are in order, each as above
 pub record IsHeld (moment : ℕ) (buckets : List Bucket) : Type 0 where
   pub order : Ascends buckets
   pub each : All (IsBucket moment) buckets
-  pub few : length buckets ≤ max_buckets
 
 -- the buckets changed in nothing that counts
 pub record Keeps (moment : ℕ) (old new : List Bucket) : Type 0 where
@@ -92,3 +91,15 @@ pub record Keeps (moment : ℕ) (old new : List Bucket) : Type 0 where
 -- whether a sweep keeps a bucket: its last moment counts, or its address is reserved
 abbrev pub stays : List Addr → ℕ → Bucket → Bool
 stays reserved moment b = ends_recent moment (last_item b.moments.items) || list_any (same_addr b.source) reserved
+
+-- at a place there is a bucket that a sweep gives up
+pub record IsIdleAt (reserved : List Addr) (moment place : ℕ) (buckets : List Bucket) : Type 0 where
+  pub within : place < length buckets
+  pub idle : (d : Bucket) → stays reserved moment (get_or buckets place d) ≡ false
+
+-- no bucket was given up that a sweep keeps, and the others are as they were
+pub record Leaves (reserved : List Addr) (moment : ℕ) (old new : List Bucket) : Type 0 where
+  pub keeps : Keeps moment old new
+  pub fewer : length new ≤ length old
+  pub rated : (qps : ℕ) → All (IsRated qps moment) old → All (IsRated qps moment) new
+  pub rooms : All (λ key. 0 < free_of key old) reserved → All (λ key. 0 < free_of key new) reserved

@@ -3,5 +3,6 @@ pub mod Order
 pub mod Window
 pub mod Moments
 pub mod Buckets
-pub mod Rooms
+pub mod Ticks
+pub mod Limiter
 pub mod Laws

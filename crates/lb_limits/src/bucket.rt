@@ -4,7 +4,7 @@ ghost use Rattle.std.specs.Prelude.{◌≡◌, ◌+◌, ◌≤◌, ◌<◌, [], 
 ghost use Rattle.std.specs.List.Sorted.{IsNonDecreasing};
 ghost use Rattle.circular_buffer.specs.Buffer.{last_item};
 ghost use Rattle.lb_limits.specs.Moments.{ends_recent, recent_of};
-ghost use Rattle.lb_limits.specs.Buckets.{IsBucket, late_passes, max_places, pass_of};
+ghost use Rattle.lb_limits.specs.Buckets.{IsBucket, IsRated, late_passes, pass_of};
 
 use crate::moments::{is_recent, recent_count};
 use crate::pass::Pass;
@@ -15,9 +15,6 @@ use std::alloc::{AllocError, Global};
 /// How many moments a new bucket has room for.
 const FIRST_PLACES: usize = 4;
 
-/// The most that a bucket has room for, so that all passes can be counted. No rate asks for as many.
-const MAX_PLACES: usize = 65536;
-
 /// The moments of one masked address, oldest first. Some may no longer count.
 #[derive(Debug, Drop)]
 pub(crate) struct Bucket {
@@ -26,13 +23,15 @@ pub(crate) struct Bucket {
 }
 
 impl Bucket {
-    /// A bucket with no moment.
-    pub(crate) fn new(alloc: Global, source: Addr) -> Result<Bucket, AllocError>
+    /// A bucket with no moment, for so many passes a second.
+    pub(crate) fn new(alloc: Global, source: Addr, qps: u16) -> Result<Bucket, AllocError>
         ensures source { IfOk result (λ b. b.source ≡ source) }
         ensures moments { IfOk result (λ b. b.moments.items ≡ []) }
-        ensures places { IfOk result (λ b. b.moments.capacity ≡ 4) }
+        ensures room { IfOk result (λ b. 0 < b.moments.capacity) }
+        ensures few { IfOk result (λ b. b.moments.capacity ≤ qps + 1) }
     {
-        let moments = HeapCircularBuffer::with_capacity(alloc, FIRST_PLACES)?;
+        let places = FIRST_PLACES.min(usize::from(qps) + 1);
+        let moments = HeapCircularBuffer::with_capacity(alloc, places)?;
         Ok(Bucket { source, moments })
     }
 
@@ -69,27 +68,29 @@ impl Bucket {
         self.moments.truncate_front(recent);
     }
 
-    /// Makes more room.
-    fn widen(&mut self) -> Result<(), AllocError>
-        requires { self.old.moments.capacity ≤ max_places }
+    /// Makes more room, one place more than the rate at most.
+    fn widen(&mut self, qps: u16) -> Result<(), AllocError>
+        requires places { length self.old.moments.items ≤ self.old.moments.capacity }
+        requires few { self.old.moments.capacity ≤ qps }
         ensures source { self.new.source ≡ self.old.source }
         ensures moments { self.new.moments.items ≡ self.old.moments.items }
-        ensures places { self.new.moments.capacity ≤ max_places }
+        ensures few { self.new.moments.capacity ≤ qps + 1 }
         ensures more { self.old.moments.capacity ≤ self.new.moments.capacity }
         ensures room { OnOk result (self.old.moments.capacity < self.new.moments.capacity) }
     {
         let places = self.moments.capacity();
-        if places >= MAX_PLACES {
-            return Err(AllocError);
-        }
-        self.moments.resize((places * 2 + 1).min(MAX_PLACES))
+        self.moments
+            .resize((places * 2 + 1).min(usize::from(qps) + 1))
     }
 
     /// Where all its places are taken, gives up the moments that no longer count.
-    fn trim(&mut self, now: u64)
-        requires { IsBucket now self.old }
+    fn trim(&mut self, qps: u16, now: u64)
+        requires bucket { IsBucket now self.old }
+        requires rated { IsRated qps now self.old }
         ensures source { self.new.source ≡ self.old.source }
         ensures bucket { IsBucket now self.new }
+        ensures rated { IsRated qps now self.new }
+        ensures few { self.new.moments.capacity ≤ length self.new.moments.items → self.new.moments.capacity ≤ qps }
         ensures same { (later : ℕ) → now ≤ later → recent_of later self.new.moments.items ≡ recent_of later self.old.moments.items }
         ensures more { self.old.moments.capacity + length self.new.moments.items ≤ self.new.moments.capacity + length self.old.moments.items }
     {
@@ -99,17 +100,19 @@ impl Bucket {
     }
 
     /// Takes the room for one moment.
-    pub(crate) fn make_room(&mut self, now: u64) -> Result<(), AllocError>
-        requires { IsBucket now self.old }
+    pub(crate) fn make_room(&mut self, qps: u16, now: u64) -> Result<(), AllocError>
+        requires bucket { IsBucket now self.old }
+        requires rated { IsRated qps now self.old }
         ensures source { self.new.source ≡ self.old.source }
         ensures bucket { IsBucket now self.new }
+        ensures rated { IsRated qps now self.new }
         ensures same { (later : ℕ) → now ≤ later → recent_of later self.new.moments.items ≡ recent_of later self.old.moments.items }
         ensures more { self.old.moments.capacity + length self.new.moments.items ≤ self.new.moments.capacity + length self.old.moments.items }
         ensures room { OnOk result (length self.new.moments.items < self.new.moments.capacity) }
     {
-        self.trim(now);
+        self.trim(qps, now);
         if self.moments.is_full() {
-            return self.widen();
+            return self.widen(qps);
         }
         Ok(())
     }

@@ -1,12 +1,12 @@
 //! The buckets of all addresses, in the order of addresses.
 
-ghost use Rattle.std.specs.Prelude.{◌≡◌, ◌+◌, ◌≤◌, ◌<◌, ℕ, true, false, cond, drop, length, IfOk, IfSome, OnOk};
+ghost use Rattle.std.specs.Prelude.{◌≡◌, ◌+◌, ◌≤◌, ◌<◌, ◌^◌, ℕ, true, false, cond, drop, length, IfOk, IfSome, OnOk};
 ghost use Rattle.std.specs.List.{All, list_any};
 ghost use Rattle.lb_wire.specs.declared.addr.Addr.{Addr};
 ghost use Rattle.lb_limits.specs.Order.{same_addr};
-ghost use Rattle.lb_limits.specs.Window.{put_pass};
+ghost use Rattle.lb_limits.specs.Window.{max_live, put_pass};
 ghost use Rattle.lb_limits.specs.Moments.{is_recent, ends_recent};
-ghost use Rattle.lb_limits.specs.Buckets.{Ascends, IsHeld, IsPlace, Keeps, begins, free_of, held_at, live_count, pass_of, stays, window_count};
+ghost use Rattle.lb_limits.specs.Buckets.{Ascends, IsHeld, IsIdleAt, IsPlace, IsRated, Keeps, Leaves, begins, free_of, held_at, live_count, many, pass_of, stays, window_count};
 
 use crate::bucket::Bucket;
 use crate::order::{is_below, same_addr};
@@ -15,8 +15,12 @@ use crate::reserved::has_addr;
 use lb_wire::Addr;
 use std::alloc::{AllocError, Global};
 
-/// The most buckets that there may be, so that all passes can be counted. A limiter that is swept comes nowhere near.
-const MAX_BUCKETS: usize = 4294967296;
+/// Where there are more buckets than this beside those that are reserved, all that are neither live nor reserved are
+/// given up.
+const MANY: usize = 8192;
+
+/// At how many buckets a reservation looks whether they are still needed.
+const LOOKS: usize = 8;
 
 /// The place of a masked address.
 fn place_of(key: &Addr, buckets: &[Bucket]) -> usize
@@ -51,47 +55,70 @@ pub(crate) fn window_count(key: &Addr, now: u64, buckets: &[Bucket]) -> usize
 }
 
 /// Puts an empty bucket at the place of a masked address that has none.
-fn open(buckets: &mut Vec<Bucket>, place: usize, key: Addr, moment: u64) -> Result<(), AllocError>
+fn open(
+    buckets: &mut Vec<Bucket>,
+    place: usize,
+    key: Addr,
+    qps: u16,
+    moment: u64,
+) -> Result<(), AllocError>
     requires held { IsHeld moment buckets.old.items }
+    requires rated { All (IsRated qps moment) buckets.old.items }
     requires place { IsPlace key place buckets.old.items }
     requires new { begins key (drop place buckets.old.items) ≡ false }
     ensures keeps { Keeps moment buckets.old.items buckets.new.items }
+    ensures rated { All (IsRated qps moment) buckets.new.items }
+    ensures few { length buckets.new.items ≤ length buckets.old.items + 1 }
     ensures rooms { (other : Addr) → 0 < free_of other buckets.old.items → 0 < free_of other buckets.new.items }
     ensures room { OnOk result (0 < free_of key buckets.new.items) }
 {
-    if buckets.len() >= MAX_BUCKETS {
-        return Err(AllocError);
-    }
-    let bucket = Bucket::new(*buckets.allocator(), key)?;
+    let bucket = Bucket::new(*buckets.allocator(), key, qps)?;
     buckets.insert(place, bucket)?;
     Ok(())
 }
 
 /// Takes the room for one moment in the bucket of a masked address.
-fn widen(buckets: &mut Vec<Bucket>, place: usize, key: &Addr, moment: u64) -> Result<(), AllocError>
+fn widen(
+    buckets: &mut Vec<Bucket>,
+    place: usize,
+    key: &Addr,
+    qps: u16,
+    moment: u64,
+) -> Result<(), AllocError>
     requires held { IsHeld moment buckets.old.items }
+    requires rated { All (IsRated qps moment) buckets.old.items }
     requires place { IsPlace key.now place buckets.old.items }
     requires within { place < length buckets.old.items }
     requires found { begins key.now (drop place buckets.old.items) ≡ true }
     ensures keeps { Keeps moment buckets.old.items buckets.new.items }
+    ensures rated { All (IsRated qps moment) buckets.new.items }
+    ensures few { length buckets.new.items ≤ length buckets.old.items }
     ensures rooms { (other : Addr) → 0 < free_of other buckets.old.items → 0 < free_of other buckets.new.items }
     ensures room { OnOk result (0 < free_of key.now buckets.new.items) }
 {
-    buckets[place].make_room(moment)
+    buckets[place].make_room(qps, moment)
 }
 
 /// Takes the room for one moment of a masked address.
-pub(crate) fn make_room(buckets: &mut Vec<Bucket>, key: Addr, moment: u64) -> Result<(), AllocError>
-    requires { IsHeld moment buckets.old.items }
+pub(crate) fn make_room(
+    buckets: &mut Vec<Bucket>,
+    key: Addr,
+    qps: u16,
+    moment: u64,
+) -> Result<(), AllocError>
+    requires held { IsHeld moment buckets.old.items }
+    requires rated { All (IsRated qps moment) buckets.old.items }
     ensures keeps { Keeps moment buckets.old.items buckets.new.items }
+    ensures rated { All (IsRated qps moment) buckets.new.items }
+    ensures few { length buckets.new.items ≤ length buckets.old.items + 1 }
     ensures rooms { (other : Addr) → 0 < free_of other buckets.old.items → 0 < free_of other buckets.new.items }
     ensures room { OnOk result (0 < free_of key buckets.new.items) }
 {
     let place = place_of(&key, buckets.as_slice());
     if is_at(&key, place, buckets.as_slice()) {
-        widen(buckets, place, &key, moment)
+        widen(buckets, place, &key, qps, moment)
     } else {
-        open(buckets, place, key, moment)
+        open(buckets, place, key, qps, moment)
     }
 }
 
@@ -103,12 +130,78 @@ fn stays(bucket: &Bucket, reserved: &[Addr], moment: u64) -> bool
 }
 
 /// Gives up the buckets of addresses that have no moment that counts and no room reserved.
-pub(crate) fn sweep(buckets: &mut Vec<Bucket>, reserved: &[Addr], moment: u64)
-    requires { IsHeld moment buckets.old.items }
-    ensures keeps { Keeps moment buckets.old.items buckets.new.items }
-    ensures rooms { All (λ key. 0 < free_of key buckets.old.items) reserved.now → All (λ key. 0 < free_of key buckets.new.items) reserved.now }
+fn sweep(buckets: &mut Vec<Bucket>, reserved: &[Addr], moment: u64)
+    requires held { IsHeld moment buckets.old.items }
+    requires crowd { live_count moment buckets.old.items ≤ max_live }
+    ensures left { Leaves reserved.now moment buckets.old.items buckets.new.items }
+    ensures few { length buckets.new.items ≤ max_live + length reserved.now }
 {
     buckets.retain(|bucket| stays(bucket, reserved, moment));
+}
+
+/// Gives up all such buckets where there are many.
+pub(crate) fn sweep_many(buckets: &mut Vec<Bucket>, reserved: &[Addr], moment: u64)
+    requires held { IsHeld moment buckets.old.items }
+    requires crowd { live_count moment buckets.old.items ≤ max_live }
+    ensures left { Leaves reserved.now moment buckets.old.items buckets.new.items }
+    ensures few { length buckets.new.items ≤ many + length reserved.now }
+{
+    if buckets.len() > MANY + reserved.len() {
+        sweep(buckets, reserved, moment);
+    }
+}
+
+/// The place of the first such bucket between two places.
+fn idle_between(
+    buckets: &[Bucket],
+    start: usize,
+    end: usize,
+    reserved: &[Addr],
+    moment: u64,
+) -> Option<usize>
+    requires { end ≤ length buckets.now }
+    ensures { IfSome result (λ place. IsIdleAt reserved.now moment place buckets.now) }
+{
+    for place in start..end {
+        if !stays(&buckets[place], reserved, moment) {
+            return Some(place);
+        }
+    }
+    None
+}
+
+/// Looks at a few buckets from a place on, gives up the first such one, and returns the place to look from next.
+fn give_up_one(buckets: &mut Vec<Bucket>, from: usize, reserved: &[Addr], moment: u64) -> usize
+    requires { IsHeld moment buckets.old.items }
+    ensures { Leaves reserved.now moment buckets.old.items buckets.new.items }
+{
+    let start = if from < buckets.len() { from } else { 0 };
+    let end = buckets.len().min(start + LOOKS);
+    match idle_between(buckets.as_slice(), start, end, reserved, moment) {
+        Some(place) => {
+            buckets.remove(place);
+            place
+        }
+        None if end < buckets.len() => end,
+        None => 0,
+    }
+}
+
+/// Gives up one such bucket near a place, or all of them where there are many. Returns the place to look from next.
+pub(crate) fn give_up(
+    buckets: &mut Vec<Bucket>,
+    from: usize,
+    reserved: &[Addr],
+    moment: u64,
+) -> usize
+    requires held { IsHeld moment buckets.old.items }
+    requires crowd { live_count moment buckets.old.items ≤ max_live }
+    ensures left { Leaves reserved.now moment buckets.old.items buckets.new.items }
+    ensures few { length buckets.new.items ≤ many + length reserved.now }
+{
+    let next = give_up_one(buckets, from, reserved, moment);
+    sweep_many(buckets, reserved, moment);
+    next
 }
 
 /// Adds a pass to the bucket of its address.
@@ -118,8 +211,11 @@ fn add_at(buckets: &mut Vec<Bucket>, place: usize, key: &Addr, now: u64) -> Opti
     requires room { 0 < free_of key.now buckets.old.items }
     ensures held { IsHeld now buckets.new.items }
     ensures passes { held_at now buckets.new.items ≡ put_pass (pass_of key.now now) (held_at now buckets.old.items) }
+    ensures few { length buckets.new.items ≡ length buckets.old.items }
+    ensures rated { (qps : ℕ) → window_count key.now now buckets.old.items < qps → All (IsRated qps now) buckets.old.items → All (IsRated qps now) buckets.new.items }
     ensures live { (later : ℕ) → live_count later buckets.new.items + cond (ends_recent later result) 1 0 ≡ live_count later buckets.old.items + cond (is_recent later now) 1 0 }
     ensures last { IfSome result (λ m. live_count (m + 1000) buckets.old.items < live_count (m + 999) buckets.old.items) }
+    ensures first { ends_recent now result ≡ false → window_count key.now now buckets.old.items ≡ 0 }
 {
     buckets[place].add(now)
 }
@@ -130,8 +226,11 @@ pub(crate) fn add_pass(buckets: &mut Vec<Bucket>, key: &Addr, now: u64) -> Optio
     requires room { 0 < free_of key.now buckets.old.items }
     ensures held { IsHeld now buckets.new.items }
     ensures passes { held_at now buckets.new.items ≡ put_pass (pass_of key.now now) (held_at now buckets.old.items) }
+    ensures few { length buckets.new.items ≡ length buckets.old.items }
+    ensures rated { (qps : ℕ) → window_count key.now now buckets.old.items < qps → All (IsRated qps now) buckets.old.items → All (IsRated qps now) buckets.new.items }
     ensures live { (later : ℕ) → live_count later buckets.new.items + cond (ends_recent later result) 1 0 ≡ live_count later buckets.old.items + cond (is_recent later now) 1 0 }
     ensures last { IfSome result (λ m. live_count (m + 1000) buckets.old.items < live_count (m + 999) buckets.old.items) }
+    ensures first { ends_recent now result ≡ false → window_count key.now now buckets.old.items ≡ 0 }
 {
     let place = place_of(key, buckets.as_slice());
     add_at(buckets, place, key, now)
@@ -139,7 +238,8 @@ pub(crate) fn add_pass(buckets: &mut Vec<Bucket>, key: &Addr, now: u64) -> Optio
 
 /// How many passes count.
 pub(crate) fn count(buckets: &[Bucket], moment: u64) -> usize
-    requires { IsHeld moment buckets.now }
+    requires held { IsHeld moment buckets.now }
+    requires fits { length (held_at moment buckets.now) < 2 ^ 63 }
     ensures { result ≡ length (held_at moment buckets.now) }
 {
     let mut count = 0;

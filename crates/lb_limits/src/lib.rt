@@ -4,7 +4,6 @@
 
 mod bucket;
 mod buckets;
-mod latest;
 mod laws;
 mod limiter;
 mod moments;
@@ -13,6 +12,7 @@ mod pass;
 mod reserved;
 #[cfg(test)]
 mod tests;
+mod ticks;
 
 pub use laws::{put_is_there, recent_twice, reserving_keeps_matches};
 pub use limiter::Limiter;

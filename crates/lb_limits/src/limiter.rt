@@ -1,17 +1,16 @@
 //! Limiters.
 
 ghost use Rattle.std.specs.Prelude.{◌≡◌, ◌≤◌, ◌&&◌, ◌||◌, ◌==◌, nat_le, Contains, IfOk, OnErr, OnOk, false, length};
-ghost use Rattle.std.specs.List.Sorted.{IsNonDecreasing, IsSorted};
-ghost use Rattle.lb_limits.specs.Moments.{recent_of};
+ghost use Rattle.std.specs.List.Sorted.{IsSorted};
+ghost use Rattle.lb_limits.specs.Ticks.{IsTally, live_at};
 ghost use Rattle.lb_limits.specs.Order.{cmp_pass};
 ghost use Rattle.lb_limits.specs.Window.{source_of, limits_of, matches, max_live, passed_at, reserved_at};
 
 use crate::bucket::Bucket;
 use crate::buckets;
-use crate::latest::{keep_recent, put_latest};
-use crate::moments::{is_recent, recent_count};
 use crate::pass::Pass;
 use crate::reserved::put_key;
+use crate::ticks::Ticks;
 use lb_masks::masked;
 use lb_wire::Addr;
 use std::alloc::{AllocError, Global};
@@ -28,36 +27,35 @@ pub struct Limiter {
     moment: u64,
     // In the order of addresses. What no longer counts may still stand there; the view leaves it out.
     buckets: Vec<Bucket>,
-    // The last moments of all addresses, ascending, so that no walk over the buckets is needed to count the live ones.
-    latest: Vec<u64>,
+    // The last moments of all addresses, so that no walk over the buckets is needed to count the live ones.
+    ticks: Ticks,
     // Masked, each once; each has room for one pass more.
     reserved: Vec<Addr>,
-    // When addresses that are no longer live were last given up.
-    swept: u64,
+    // The place to look from for addresses that are no longer live.
+    cursor: usize,
 }
 
 impl Model for Limiter {
-    ghost use Rattle.std.specs.Prelude.{vec_len, vec_capacity};
     ghost use Rattle.lb_limits.specs.Window.{Limits};
     ghost use Rattle.lb_limits.specs.Buckets.{held_at};
-    ghost use Rattle.lb_limits.specs.Rooms.{IsLimiter};
+    ghost use Rattle.lb_limits.specs.Limiter.{IsLimiter};
 
     ghost Value = { Limits };
 
     ghost view = { λ l. record { qps = l.qps; v4 = l.v4; v6 = l.v6; moment = l.moment; passes = held_at l.moment l.buckets.items; reserved = l.reserved.items } };
 
-    ghost invariant = { λ l. IsLimiter l.v4 l.v6 l.moment l.buckets.items l.latest.items (vec_len l.latest) (vec_capacity l.latest) l.reserved.items };
+    ghost invariant = { λ l. IsLimiter l.qps l.v4 l.v6 l.moment l.buckets.items l.ticks l.reserved.items };
 }
 
 /// Where so many other addresses have passes that count, one that has none matches.
-const MAX_LIVE: usize = 4096;
+const MAX_LIVE: u32 = 4096;
 
 /// Whether an address with so many passes that count is over the rate. The others are counted only where it has none.
-fn is_over(qps: u16, count: usize, latest: &[u64], now: u64) -> bool
-    requires { IsNonDecreasing latest.now }
-    ensures { result ≡ (nat_le qps count || (count == 0 && nat_le max_live (length (recent_of now latest.now)))) }
+fn is_over(qps: u16, count: usize, ticks: &Ticks, now: u64) -> bool
+    requires { IsTally ticks.now }
+    ensures { result ≡ (nat_le qps count || (count == 0 && nat_le max_live (live_at now ticks.now.list.items))) }
 {
-    count >= usize::from(qps) || count == 0 && recent_count(latest, now) >= MAX_LIVE
+    count >= usize::from(qps) || count == 0 && ticks.live(now) >= MAX_LIVE
 }
 
 impl Limiter {
@@ -75,9 +73,9 @@ impl Limiter {
             v6,
             moment: 0,
             buckets: Vec::new(alloc),
-            latest: Vec::new(alloc),
+            ticks: Ticks::new(alloc),
             reserved: Vec::new(alloc),
-            swept: 0,
+            cursor: 0,
         })
     }
 
@@ -88,7 +86,7 @@ impl Limiter {
     {
         let key = masked(*addr, self.v4, self.v6);
         let count = buckets::window_count(&key, now, self.buckets.as_slice());
-        is_over(self.qps, count, self.latest.as_slice(), now)
+        is_over(self.qps, count, &self.ticks, now)
     }
 
     /// Takes the memory for one query of the address, and gives up the passes that no longer count.
@@ -98,24 +96,14 @@ impl Limiter {
         ensures reserved { OnOk result (Contains self.new.reserved (source_of self.new addr.now)) }
         ensures err { OnErr result (self.new ≡ self.old) }
     {
-        self.sweep();
+        let reserved = self.reserved.as_slice();
+        self.cursor = buckets::give_up(&mut self.buckets, self.cursor, reserved, self.moment);
         let key = masked(*addr, self.v4, self.v6);
-        self.latest.reserve(1)?;
-        buckets::make_room(&mut self.buckets, key, self.moment)?;
+        self.ticks.make_room()?;
+        buckets::make_room(&mut self.buckets, key, self.qps, self.moment)?;
         put_key(&mut self.reserved, key)?;
         self.moment = now;
         Ok(())
-    }
-
-    /// Gives up the addresses that are no longer live, where they were last given up a window ago.
-    fn sweep(&mut self)
-        ensures { self.new ≡ self.old }
-    {
-        if !is_recent(self.moment, self.swept) {
-            buckets::sweep(&mut self.buckets, self.reserved.as_slice(), self.moment);
-            keep_recent(&mut self.latest, self.moment);
-            self.swept = self.moment;
-        }
     }
 
     /// Counts a query. It takes no memory.
@@ -127,8 +115,9 @@ impl Limiter {
     {
         let key = masked(*addr, self.v4, self.v6);
         let last = buckets::add_pass(&mut self.buckets, &key, now);
-        put_latest(&mut self.latest, last, now);
+        self.ticks.pass(last, now);
         self.reserved.clear();
+        buckets::sweep_many(&mut self.buckets, self.reserved.as_slice(), now);
         self.moment = now;
     }
 
@@ -151,5 +140,11 @@ impl Limiter {
     #[cfg(test)]
     pub(crate) fn addresses(&self) -> usize {
         self.buckets.len()
+    }
+
+    /// How many milliseconds it holds in which addresses had their last passes.
+    #[cfg(test)]
+    pub(crate) fn milliseconds(&self) -> usize {
+        self.ticks.list.len()
     }
 }

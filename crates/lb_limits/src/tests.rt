@@ -73,6 +73,16 @@ fn no_more_than_4096_addresses_at_once(rt: HostRuntime) -> Result<(), Fail> {
         }
     }
     assert_eq!(rt; limiter.len(), 4096);
+    let list = limiter.list(rt.alloc())?;
+    assert_eq!(rt; list.len(), 4096);
+    let source = Addr::V4([10, 0, 15, 255]);
+    assert!(rt;
+        list.last().is_some_and(|pass| *pass
+            == Pass {
+                source,
+                moment: 1000
+            })
+    );
     assert!(rt; limiter.would_match(&ONE, 1000));
     assert!(rt; !limiter.would_match(&ONE, 2000));
     Ok(())
@@ -99,10 +109,25 @@ fn addresses_that_are_out_are_given_up(rt: HostRuntime) -> Result<(), Fail> {
         assert!(rt; !comes(&mut limiter, &Addr::V4([10, 0, 0, low]), 1000)?);
     }
     assert_eq!(rt; limiter.addresses(), 256);
-    assert!(rt; !comes(&mut limiter, &ONE, 2000)?);
-    limiter.reserve(&Addr::V4([10, 0, 0, 0]), 2999)?;
+    // Each reservation gives up one at most, and those that are reserved stay.
+    limiter.reserve(&Addr::V4([10, 0, 0, 0]), 2000)?;
+    for _ in 0..300 {
+        limiter.reserve(&ONE, 2000)?;
+    }
     assert_eq!(rt; limiter.addresses(), 2);
-    assert!(rt; !comes(&mut limiter, &ONE, 3000)?);
-    assert_eq!(rt; limiter.len(), 1);
+    Ok(())
+}
+
+#[test]
+fn fresh_addresses_leave_little_behind(rt: HostRuntime) -> Result<(), Fail> {
+    let mut limiter = Limiter::new(rt.alloc(), 1, 32, 128)?;
+    for query in 0..1_000_000u32 {
+        // Four a millisecond; an odd factor, so that each number comes once.
+        let source = Addr::V4(query.wrapping_mul(2_654_435_761).to_be_bytes());
+        assert!(rt; !comes(&mut limiter, &source, u64::from(query / 4))?);
+    }
+    assert!(rt; limiter.addresses() <= 8193);
+    assert!(rt; limiter.milliseconds() <= 1000);
+    assert_eq!(rt; limiter.len(), 4000);
     Ok(())
 }

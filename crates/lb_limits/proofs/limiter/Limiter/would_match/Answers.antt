@@ -1,7 +1,6 @@
-use Rattle.std.proofs.Common.{ℕ, List, ◌||◌, ◌&&◌, ◌==◌, nat_le, length, refl, sym, ap, ◌∙◌}
+use Rattle.std.proofs.Common.{ℕ, List, refl, sym, ap, ◌∙◌}
 use Rattle.lb_limits.specs.declared.bucket.Bucket.{Bucket}
 use Rattle.lb_limits.specs.Window.{Limits}
-use Rattle.lb_limits.specs.Moments.{recent_of}
 use Rattle.lb_limits.specs.Buckets.{held_at, window_count}
 use Rattle.lb_limits.proofs.Limits.{view_of}
 use Rattle.lb_limits.proofs.Tested.{tested_by}
@@ -14,5 +13,4 @@ returns c =
     let view : Limits = view_of i.qps i.v4 i.v6 i.moment (held_at i.moment i.buckets.items) i.reserved.items in
     let counted = c.window_count-count.ensures ∙ ap (λ (bs : List Bucket). window_count c.masked-key.result c.args.now bs) c.as_slice.ensures.value in
     c.is_over.ensures
-    ∙ ap (λ (ms : List ℕ). nat_le i.qps count || (count == 0 && nat_le 4096 (length (recent_of c.args.now ms)))) c.as_slice-2.ensures.value
-    ∙ sym (tested_by c.args.self.now view i.buckets.items i.latest.items c.args.addr.now c.masked-key.result c.args.now count c.self.view_is refl c.requires c.self.invariant.passes c.self.invariant.ends c.masked-key.ensures.value counted)
+    ∙ sym (tested_by c.args.self.now view i.buckets.items i.ticks c.args.addr.now c.masked-key.result c.args.now count c.self.view_is refl c.requires c.self.invariant.passes c.self.invariant.ends c.masked-key.ensures.value counted)
