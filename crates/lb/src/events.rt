@@ -90,36 +90,19 @@ fn read_action(words: &mut Words<'_>) -> Result<Action, Fault> {
 /// Reads a record type: a name, or a number to 65,535.
 fn read_type(words: &mut Words<'_>) -> Result<RecordType, Fault> {
     let word = words.word()?;
-    match word.text {
-        b"A" => Ok(RecordType::A),
-        b"NS" => Ok(RecordType::NS),
-        b"CNAME" => Ok(RecordType::CNAME),
-        b"SOA" => Ok(RecordType::SOA),
-        b"PTR" => Ok(RecordType::PTR),
-        b"MX" => Ok(RecordType::MX),
-        b"TXT" => Ok(RecordType::TXT),
-        b"AAAA" => Ok(RecordType::AAAA),
-        b"SRV" => Ok(RecordType::SRV),
-        b"ANY" => Ok(RecordType::ANY),
-        text => match number_of(text) {
-            Some(number) if number <= 65_535 => Ok(RecordType(number as u16)),
-            _ => Err(word.unknown()),
-        },
+    if let Some(rtype) = RecordType::from_name(word.text) {
+        return Ok(rtype);
+    }
+    match number_of(word.text) {
+        Some(number) if number <= 65_535 => Ok(RecordType(number as u16)),
+        _ => Err(word.unknown()),
     }
 }
 
 /// Reads a response code.
 fn read_rcode(words: &mut Words<'_>) -> Result<Rcode, Fault> {
     let word = words.word()?;
-    match word.text {
-        b"NOERROR" => Ok(Rcode::NoError),
-        b"FORMERR" => Ok(Rcode::FormErr),
-        b"SERVFAIL" => Ok(Rcode::ServFail),
-        b"NXDOMAIN" => Ok(Rcode::NXDomain),
-        b"NOTIMP" => Ok(Rcode::NotImp),
-        b"REFUSED" => Ok(Rcode::Refused),
-        _ => Err(word.unknown()),
-    }
+    Rcode::from_name(word.text).ok_or(word.unknown())
 }
 
 /// Reads a transport.
