@@ -1,6 +1,13 @@
 //! How long the calls on whole messages take.
 
-use lb_wire::{Rcode, answer_in_place, read_query, survey};
+ghost use Rattle.std.specs.Prelude.{IsTrue};
+ghost use Rattle.std.specs.List.{AllByRecursion};
+ghost use Rattle.lb_wire.specs.Message.{Message, Lays};
+ghost use Rattle.lb_wire.specs.Aging.{Outlives};
+
+use lb_wire::{
+    Kind, Rcode, age, answer_in_place, key_of, least_is_outlived, read_query, survey,
+};
 use std::alloc::{AllocError, Global};
 use std::io;
 use std::time::Instant;
@@ -32,9 +39,36 @@ const LAST: [u8; 27] = [
     b'l', b' ', b'y', b'o', b'u', b'!',
 ];
 
+/// Times the calls on a query with an OPT.
+pub(crate) fn time_answers(rt: &HostRuntime) -> io::Result<()> {
+    time_reads(rt)?;
+    time_refusals(rt)?;
+    time_keys(rt)
+}
+
+/// Times the calls on a reply of 512 octets with 20 records.
+pub(crate) fn time_surveys(rt: &HostRuntime) -> io::Result<()> {
+    let bytes = reply(rt.alloc())?;
+    time_walks(rt, bytes.as_slice())?;
+    time_ages(rt, bytes.as_slice())
+}
+
+/// Reads the query, again and again.
+fn time_reads(rt: &HostRuntime) -> io::Result<()> {
+    let mut sum = 0u32;
+    let start = Instant::now(rt)?;
+    for _ in 0..ROUNDS {
+        if let Ok(view) = read_query(QUERY.as_slice()) {
+            sum = sum.wrapping_add(u32::from(view.id));
+        }
+    }
+    let nanos = start.elapsed(rt)?.as_nanos() / u128::from(ROUNDS);
+    eprintln!(rt; "read_query: {nanos} ns a call (sum {sum})")
+}
+
 /// Reads the query and makes its refusal in the same octets, again and again. After the first copy of the query no
 /// memory is taken.
-pub(crate) fn time_answers(rt: &HostRuntime) -> io::Result<()> {
+fn time_refusals(rt: &HostRuntime) -> io::Result<()> {
     let mut bytes = Vec::from_slice(rt.alloc(), QUERY.as_slice())?;
     let mut sum = 0u32;
     let start = Instant::now(rt)?;
@@ -50,19 +84,65 @@ pub(crate) fn time_answers(rt: &HostRuntime) -> io::Result<()> {
     eprintln!(rt; "read_query and answer_in_place: {nanos} ns a call (sum {sum})")
 }
 
-/// Surveys a reply of 512 octets with 20 records, again and again.
-pub(crate) fn time_surveys(rt: &HostRuntime) -> io::Result<()> {
-    let bytes = reply(rt.alloc())?;
+/// Makes the key of the query, again and again: it takes memory each time.
+fn time_keys(rt: &HostRuntime) -> io::Result<()> {
+    let Ok(view) = read_query(QUERY.as_slice()) else {
+        return Ok(());
+    };
+    let mut sum = 0u32;
+    let start = Instant::now(rt)?;
+    for _ in 0..ROUNDS {
+        let key = key_of(rt.alloc(), QUERY.as_slice(), &view, Kind::Datagram)?;
+        sum = sum.wrapping_add(key.octets.as_slice().get(1).copied().map_or(0, u32::from));
+    }
+    let nanos = start.elapsed(rt)?.as_nanos() / u128::from(ROUNDS);
+    eprintln!(rt; "key_of: {nanos} ns a call (sum {sum})")
+}
+
+/// Surveys the reply, again and again.
+fn time_walks(rt: &HostRuntime, bytes: &[u8]) -> io::Result<()> {
     let len = bytes.len();
     let mut sum = 0u32;
     let start = Instant::now(rt)?;
     for _ in 0..ROUNDS {
-        if let Some(found) = survey(bytes.as_slice()) {
+        if let Some(found) = survey(bytes) {
             sum = sum.wrapping_add(found.least_all.unwrap_or(0));
         }
     }
     let nanos = start.elapsed(rt)?.as_nanos() / u128::from(ROUNDS);
     eprintln!(rt; "survey of {len} octets: {nanos} ns a call (sum {sum})")
+}
+
+/// Copies the reply and lowers its TTLs by a second, again and again. After the first copy no memory is taken.
+fn time_ages(rt: &HostRuntime, bytes: &[u8]) -> io::Result<()> {
+    let len = bytes.len();
+    let mut older = Vec::from_slice(rt.alloc(), bytes)?;
+    let mut sum = 0u32;
+    let start = Instant::now(rt)?;
+    if outlives_a_second(bytes) {
+        for _ in 0..ROUNDS {
+            older.clear();
+            older.extend_from_slice(bytes)?;
+            age(older.as_mut_slice(), 1);
+            sum = sum.wrapping_add(older.as_slice().last().copied().map_or(0, u32::from));
+        }
+    }
+    let nanos = start.elapsed(rt)?.as_nanos() / u128::from(ROUNDS);
+    eprintln!(rt; "age of a copy of {len} octets: {nanos} ns a call (sum {sum})")
+}
+
+/// Whether the octets are a message each of whose records lives a second at least.
+fn outlives_a_second(bytes: &[u8]) -> bool
+    ensures { IsTrue result → (m : Message) × Lays bytes.now m × AllByRecursion (Outlives 1) m.records }
+{
+    // a law: the call does nothing
+    least_is_outlived();
+    if let Some(found) = survey(bytes) {
+        if let Some(least) = found.least_all {
+            return least > 0;
+        }
+    }
+    false
 }
 
 /// A reply of 512 octets with 20 records.

@@ -3,4 +3,4 @@ mod Passed
 mod FirstLabel
 mod LowerName
 mod CutAtDots
-mod TextReadsBack
+mod TextRoundTrip

@@ -39,5 +39,5 @@ abbrev pub LowersOnWire : Type 0
 LowersOnWire = (labels : List (List ℕ)) → AllByRecursion IsLabel labels → map to_ascii_lowercase (wire_of labels) ≡ wire_of (lower_name labels)
 
 -- the text of a name of letters, digits, `-`, `_` and `*` reads as that name
-abbrev pub TextReadsBack : Type 0
-TextReadsBack = (labels : List (List ℕ)) → IsName labels → IsTrue (has_name_bytes labels) → name_of_text (text_of labels) ≡ Ok labels
+abbrev pub TextRoundTrip : Type 0
+TextRoundTrip = (labels : List (List ℕ)) → IsName labels → IsTrue (has_name_bytes labels) → name_of_text (text_of labels) ≡ Ok labels

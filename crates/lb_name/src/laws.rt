@@ -1,7 +1,7 @@
 //! What holds of names on the wire and as text. Each function is a law: its contract is the statement, and a call does
 //! nothing but bring it to the caller's proof.
 
-ghost use Rattle.lb_name.specs.Laws.{LabelIsPassed, LabelsGoOn, LowersOnWire, OneName, SplitsBack, TextReadsBack};
+ghost use Rattle.lb_name.specs.Laws.{LabelIsPassed, LabelsGoOn, LowersOnWire, OneName, SplitsBack, TextRoundTrip};
 
 /// Octets begin with one name at most, and one rest follows it.
 pub fn one_name()
@@ -29,6 +29,6 @@ pub fn lowers_on_wire()
 {}
 
 /// What `write_text` spells of a name, `parse_text` reads as that name.
-pub fn text_reads_back()
-    ensures { TextReadsBack }
+pub fn text_round_trip()
+    ensures { TextRoundTrip }
 {}

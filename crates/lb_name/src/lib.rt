@@ -10,6 +10,6 @@ mod text;
 
 pub use fault::NameFault;
 pub use laws::{
-    label_is_passed, labels_go_on, lowers_on_wire, one_name, splits_back, text_reads_back,
+    label_is_passed, labels_go_on, lowers_on_wire, one_name, splits_back, text_round_trip,
 };
 pub use name::{LABEL_END, MAX_NAME, Name, POINTER};

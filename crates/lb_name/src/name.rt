@@ -314,6 +314,41 @@ mod tests {
         assert!(rt; matches!(Name::read(b"\xc0\x0c", 0), Err(NameFault::Pointer)));
         assert!(rt; matches!(Name::read(b"\x01a", 0), Err(NameFault::Cut)));
         assert!(rt; matches!(Name::read(b"\x40", 0), Err(NameFault::LongLabel)));
+        assert!(rt; matches!(Name::read(b"\x03www\xc0\x0c", 0), Err(NameFault::Pointer)));
+        assert_eq!(rt; Name::skip(www, 4), Ok(17));
+        assert_eq!(rt; Name::skip(b"\x03www\xc0\x0c", 0), Err(NameFault::Pointer));
+    }
+
+    #[test]
+    fn long_names_in_octets(rt: HostRuntime) -> Result<(), AllocError> {
+        // 64 octets with the first label, 128, 192, and a last one of 62 or 63 before the zero octet
+        for (last, found) in [(61u8, Ok(255)), (62, Err(NameFault::LongName))] {
+            let mut wire = Vec::new(rt.alloc());
+            for len in [63, 63, 63, last] {
+                wire.push(len)?;
+                for _ in 0..len {
+                    wire.push(b'a')?;
+                }
+            }
+            wire.push(0)?;
+            assert_eq!(rt; Name::read(wire.as_slice(), 0).map(|(_, end)| end), found);
+        }
+        Ok(())
+    }
+
+    #[test]
+    fn numbers_of_faults(rt: HostRuntime) {
+        let faults = [
+            NameFault::EmptyLabel,
+            NameFault::LongLabel,
+            NameFault::LongName,
+            NameFault::BadByte,
+            NameFault::Pointer,
+            NameFault::Cut,
+        ];
+        for (number, fault) in (1u8..7).zip(faults) {
+            assert_eq!(rt; fault.number(), number);
+        }
     }
 
     #[test]

@@ -5,8 +5,8 @@ use crate::captured::{CAPTURED, Captured};
 use crate::header::read_header;
 use crate::{
     Addr, Class, Key, Kind, Octets, Opcode, Opt, QueryFault, Rcode, RecordType, ReplyFault, Survey,
-    age, answer_in_place, formerr_in_place, key_of, read_query, read_reply, respell, restore_id,
-    spoofed, survey, truncated_in_place,
+    age, answer_in_place, fits_type, formerr_in_place, key_of, least_is_outlived, read_query,
+    read_reply, respell, restore_id, spoofed, survey, truncated_in_place,
 };
 use lb_name::Name;
 use std::test::Fail;
@@ -119,19 +119,31 @@ fn answers_in_the_query(rt: HostRuntime) -> Result<(), Fail> {
 fn keys(rt: HostRuntime) -> Result<(), Fail> {
     let alloc = rt.alloc();
     let cases = [
-        QUERY,
-        "432101000001000000000000076558614d704c6503436f4d0000010001",
+        (
+            QUERY,
+            Kind::Datagram,
+            "01000001000000000000076578616d706c6503636f6d0000010001",
+        ),
+        (
+            "432101000001000000000000076558614d704c6503436f4d0000010001",
+            Kind::Datagram,
+            "01000001000000000000076578616d706c6503636f6d0000010001",
+        ),
+        // MX, by a stream, with an OPT
+        (
+            "432101000001000000000001076558614d704c6503436f4d00000f00010000290400000080000000",
+            Kind::Stream,
+            "01000001000000000001076578616d706c6503636f6d00000f00010000290400000080000000",
+        ),
     ];
-    for text in cases {
+    for (text, kind, key) in cases {
         let bytes = hex::decode(alloc, text)?;
         let view = read_query(bytes.as_slice())?;
-        let Key { kind, octets } = key_of(alloc, bytes.as_slice(), &view, Kind::Datagram)?;
-        assert_eq!(rt; kind, Kind::Datagram);
-        assert_eq!(rt;
-            hex::encode(alloc, octets.copy(alloc)?.as_slice())?.as_str(),
-            "01000001000000000000076578616d706c6503636f6d0000010001"
-        );
-        assert_eq!(rt; octets.into_vec().len(), 27);
+        let made = key_of(alloc, bytes.as_slice(), &view, kind)?;
+        assert_eq!(rt; made.kind, kind);
+        let copy = made.octets.copy(alloc)?;
+        assert_eq!(rt; hex::encode(alloc, copy.as_slice())?.as_str(), key);
+        assert_eq!(rt; made.octets.into_vec().as_slice(), copy.as_slice());
     }
     Ok(())
 }
@@ -168,6 +180,28 @@ fn spoofed_answers(rt: HostRuntime) -> Result<(), Fail> {
     Ok(())
 }
 
+// a header, a name of 255 octets, type ANY, class IN, and an OPT with DO
+#[test]
+fn longest_spoofed_answer(rt: HostRuntime) -> Result<(), Fail> {
+    let alloc = rt.alloc();
+    let mut bytes = hex::decode(alloc, "123401000001000000000001")?;
+    for len in [63, 63, 63, 61u8] {
+        bytes.push(len)?;
+        for _ in 0..len {
+            bytes.push(b'a')?;
+        }
+    }
+    bytes.extend_from_slice(b"\x00\x00\xff\x00\x01\x00\x00\x29\x04\xd0\x00\x00\x80\x00\x00\x00")?;
+    let view = read_query(bytes.as_slice())?;
+    let made = spoofed(alloc, bytes.as_slice(), &view, &[Addr::V6([7; 16]); 8])?;
+    assert_eq!(rt; made.len(), 506);
+    let end = hex::encode(alloc, made.as_slice())?;
+    let last = "c00c001c00010000003c00100707070707070707070707070707070700002904d0000080000000";
+    assert!(rt; end.as_str().starts_with("123481800001000800000001"));
+    assert!(rt; end.as_str().ends_with(last));
+    Ok(())
+}
+
 #[test]
 fn replies(rt: HostRuntime) -> Result<(), Fail> {
     let alloc = rt.alloc();
@@ -178,11 +212,30 @@ fn replies(rt: HostRuntime) -> Result<(), Fail> {
         (0x10, Opcode::Query, Rcode::NoError)
     );
     assert_eq!(rt; (view.truncated, view.questions), (false, 1));
-    assert!(rt; age_a_second(&mut bytes));
+    let question = view.question.ok_or("no question")?;
+    assert_eq!(rt;
+        question.name.as_wire(),
+        b"\x07example\x03com\x00".as_slice()
+    );
+    assert_eq!(rt;
+        (question.qtype, question.qclass),
+        (RecordType::A, Class::IN)
+    );
+    // 300 seconds less 299
+    assert!(rt; aged_by(&mut bytes, 299));
     assert_eq!(rt;
         hex::encode(alloc, bytes.as_slice())?.as_str(),
-        "001081800001000100000000076578616d706c6503636f6d0000010001c00c000100010000012b0004c0000201"
+        "001081800001000100000000076578616d706c6503636f6d0000010001c00c00010001000000010004c0000201"
     );
+    assert!(rt; !aged_by(&mut bytes, 2));
+    // QDCOUNT 0, and QDCOUNT 1 with no question behind the header
+    for text in ["001081800000000000000000", "001081800001000000000000c00c"] {
+        let bytes = hex::decode(alloc, text)?;
+        assert!(rt;
+            read_reply(bytes.as_slice())?.question.is_none(),
+            "at {text}"
+        );
+    }
     let mut bytes = hex::decode(alloc, REPLY)?;
     assert!(rt; bytes.len() >= 2);
     restore_id(bytes.as_mut_slice(), 0x1234);
@@ -320,7 +373,7 @@ fn captured_replies(rt: HostRuntime) -> Result<(), Fail> {
         let mut bytes = hex::decode(alloc, message.reply)?;
         let printed = is_as_printed(bytes.as_slice(), &message);
         assert!(rt; printed, "at {}", message.reply);
-        let aged = age_a_second(&mut bytes);
+        let aged = aged_by(&mut bytes, 1);
         assert!(rt; aged, "at {}", message.reply);
         assert_eq!(rt;
             hex::encode(alloc, bytes.as_slice())?.as_str(),
@@ -350,12 +403,14 @@ fn is_as_printed(bytes: &[u8], message: &Captured) -> bool {
         && survey(bytes) == Some(found)
 }
 
-// lowers each TTL by a second, where each is one at least
-fn age_a_second(bytes: &mut Vec<u8>) -> bool {
+// lowers each TTL by so many seconds, where each is as much at least
+fn aged_by(bytes: &mut Vec<u8>, secs: u32) -> bool {
+    // a law: the call does nothing
+    least_is_outlived();
     if let Some(found) = survey(bytes.as_slice()) {
         if let Some(least) = found.least_all {
-            if least > 0 {
-                age(bytes.as_mut_slice(), 1);
+            if least >= secs {
+                age(bytes.as_mut_slice(), secs);
                 return true;
             }
         }
@@ -385,30 +440,53 @@ fn printed_text(rt: HostRuntime) -> Result<(), Fail> {
         "RESERVED15",
     ];
     for (number, text) in (0u16..16).zip(rcodes) {
-        assert_eq!(rt;
-            format!(in alloc; "{}", Rcode::from_low_bits(number))?.as_str(),
-            text
-        );
+        let rcode = Rcode::from_low_bits(number);
+        assert_eq!(rt; format!(in alloc; "{rcode}")?.as_str(), text);
+        let read = if number < 6 { Some(rcode) } else { None };
+        assert_eq!(rt; Rcode::from_name(text.as_bytes()), read);
     }
     let types = [
-        (RecordType::A, "A"),
-        (RecordType::NS, "NS"),
-        (RecordType::CNAME, "CNAME"),
-        (RecordType::SOA, "SOA"),
-        (RecordType::PTR, "PTR"),
-        (RecordType::MX, "MX"),
-        (RecordType::TXT, "TXT"),
-        (RecordType::AAAA, "AAAA"),
-        (RecordType::SRV, "SRV"),
-        (RecordType::OPT, "OPT"),
-        (RecordType::IXFR, "IXFR"),
-        (RecordType::AXFR, "AXFR"),
-        (RecordType::ANY, "ANY"),
+        (RecordType::A, "A", true),
+        (RecordType::NS, "NS", true),
+        (RecordType::CNAME, "CNAME", true),
+        (RecordType::SOA, "SOA", true),
+        (RecordType::PTR, "PTR", true),
+        (RecordType::MX, "MX", true),
+        (RecordType::TXT, "TXT", true),
+        (RecordType::AAAA, "AAAA", true),
+        (RecordType::SRV, "SRV", true),
+        (RecordType::ANY, "ANY", true),
+        (RecordType::OPT, "OPT", false),
+        (RecordType::IXFR, "IXFR", false),
+        (RecordType::AXFR, "AXFR", false),
         // RFC 3597 section 5
-        (RecordType(65280), "TYPE65280"),
+        (RecordType(65280), "TYPE65280", false),
     ];
-    for (rtype, text) in types {
+    for (rtype, text, is_read) in types {
         assert_eq!(rt; format!(in alloc; "{rtype}")?.as_str(), text);
+        let read = if is_read { Some(rtype) } else { None };
+        assert_eq!(rt; RecordType::from_name(text.as_bytes()), read);
     }
     Ok(())
+}
+
+#[test]
+fn numbers(rt: HostRuntime) {
+    let faults = [
+        QueryFault::Short,
+        QueryFault::NotQuery,
+        QueryFault::Malformed,
+    ];
+    for (number, fault) in (1u8..4).zip(faults) {
+        assert_eq!(rt; fault.number(), number);
+    }
+    assert_eq!(rt;
+        (ReplyFault::Short.number(), ReplyFault::NotReply.number()),
+        (1, 2)
+    );
+    for number in 0u16..16 {
+        assert_eq!(rt; u16::from(Rcode::from_low_bits(number).number()), number);
+        assert_eq!(rt; u16::from(Opcode::from_low_bits(number).number()), number);
+    }
+    assert!(rt; fits_type(RecordType::A, &Addr::V4([192, 0, 2, 7])));
 }

@@ -6,7 +6,7 @@ use Rattle.std.proofs.lemmas.Bool.Decides.{nat_tests}
 use Rattle.std.specs.Option.{option_or}
 use Rattle.std.specs.List.{AllByRecursion, flat_map, list_all, onto_first}
 use Rattle.lb_name.specs.Name.{IsLabel, wire_of}
-use Rattle.lb_name.specs.Laws.{TextReadsBack}
+use Rattle.lb_name.specs.Laws.{TextRoundTrip}
 use Rattle.lb_name.specs.Text.{is_name_byte, has_name_bytes, is_dot, cut_at_dots, is_dot_alone, without_end_dot, text_labels, label_fault, first_fault, name_or_fault, label_text}
 use Rattle.lb_name.specs.declared.fault.NameFault.{NameFault}
 
@@ -102,7 +102,7 @@ labels_back label labels some all =
     sym (cut_push end.front) ∙ ap (λ (xs : List ℕ). cut_at_dots xs) (sym end.is) ∙ cut_labels (label ∷ labels) all in
     cond-false _ _ _ not_alone ∙ ap (λ (xs : List ℕ). cut_at_dots xs) front ∙ (same_from_push (cut_at_dots end.front) (label ∷ labels) [] [] pieces).0
 
-pub reads_back : TextReadsBack
+pub reads_back : TextRoundTrip
 reads_back [] name all = refl
 reads_back (label ∷ labels) name all =
     ap (λ (ls : List (List ℕ)). name_or_fault ls (first_fault ls)) (labels_back label labels name.each.0.0 all) ∙ ap (λ (fault : Option NameFault). name_or_fault (label ∷ labels) fault) (labels_sound (label ∷ labels) name.each all) ∙ cond-false _ _ _ (le-ltb 255 (length (wire_of (label ∷ labels))) name.fits)
