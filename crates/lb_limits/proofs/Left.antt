@@ -1,16 +1,16 @@
 -- Buckets that are given up, and what is left.
-use Rattle.std.proofs.Common.{◌≡◌, Bool, true, false, ◌||◌, ℕ, ◌+◌, ◌<◌, ◌≤◌, List, [], ◌∷◌, ◌++◌, length, get_or, map, take, drop, cond, inl, inr, refl, sym, ◌∙◌, ap, arith, subst, nat_lt, Contains, add-one, length-append}
+use Rattle.std.proofs.Common.{◌≡◌, Bool, true, false, ◌||◌, ℕ, ◌+◌, ◌<◌, ◌≤◌, List, [], ◌∷◌, ◌++◌, length, get_or, map, take, drop, cond, inl, inr, refl, sym, ◌∙◌, ap, arith, subst, nat_lt, add-one, length-append}
 use Rattle.std.specs.List.{filter, remove, list_any, count_by, All}
 use Rattle.std.proofs.lemmas.Bool.{cases_Bool}
 use Rattle.std.proofs.lemmas.List.Concat.{flat_map-append}
-use Rattle.std.proofs.lemmas.List.Elements.{All-append, All-head, All-tail, All-filter, All-get_or, Contains-get_or}
+use Rattle.std.proofs.lemmas.List.Elements.{All-append, All-head, All-tail, All-filter, Contains-get_or}
 use Rattle.std.proofs.lemmas.List.Sums.{sum_by-cons, sum_by-append, length-filter}
 use Rattle.circular_buffer.specs.Buffer.{last_item}
 use Rattle.lb_wire.specs.declared.addr.Addr.{Addr}
 use Rattle.lb_limits.specs.declared.pass.Pass.{Pass}
 use Rattle.lb_limits.specs.declared.bucket.Bucket.{Bucket}
 use Rattle.lb_limits.specs.Order.{same_addr}
-use Rattle.lb_limits.specs.Moments.{recent_of, ends_recent}
+use Rattle.lb_limits.specs.Moments.{ends_recent}
 use Rattle.lb_limits.specs.Window.{max_live}
 use Rattle.lb_limits.specs.Buckets.{Ascends, IsBucket, IsHeld, IsIdleAt, IsRated, Keeps, Leaves, is_below, pass_of, late_passes, held_at, is_live, live_count, free_in, free_of, stays}
 use Rattle.lb_limits.proofs.Addresses.{less_differs_back}

@@ -14,7 +14,7 @@ use Rattle.lb_limits.specs.declared.bucket.Bucket.{Bucket}
 use Rattle.lb_limits.specs.Order.{same_addr}
 use Rattle.lb_limits.specs.Window.{Limits, max_live, recent_passes, put_pass, put_key, reserved_at, passed_at}
 use Rattle.lb_limits.specs.Moments.{is_recent, ends_recent}
-use Rattle.lb_limits.specs.Buckets.{IsHeld, IsRated, Keeps, Leaves, free_of, held_at, live_count, many, pass_of}
+use Rattle.lb_limits.specs.Buckets.{IsRated, Keeps, Leaves, free_of, held_at, live_count, many, pass_of}
 use Rattle.lb_limits.specs.Limiter.{IsLatest, IsRoom, IsLimiter}
 use Rattle.lb_limits.specs.Ticks.{HasRoom, IsTally, Rises, address_count, live_at, moments_of}
 use Rattle.lb_limits.specs.declared.ticks.Tick.{Tick}

@@ -1,4 +1,4 @@
-use Rattle.std.proofs.Common.{arith, length, ap, List}
+use Rattle.std.proofs.Common.{arith, length, ap}
 use Rattle.std.proofs.lemmas.List.{length-map}
 use Rattle.std.proofs.lemmas.List.Folds.{length-flat_map-take}
 use Rattle.lb_limits.specs.declared.bucket.Bucket.{Bucket}

@@ -1,4 +1,4 @@
-use Rattle.std.proofs.Common.{◌≤◌, arith}
+use Rattle.std.proofs.Common.{arith}
 use Rattle.lb_limits.proofs.Left.{left_then}
 use Rattle.lb_limits.proofs.buckets.give_up.Goals as goal
 

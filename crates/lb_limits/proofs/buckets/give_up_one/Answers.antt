@@ -1,4 +1,4 @@
-use Rattle.std.proofs.Common.{List, subst, sym, ap}
+use Rattle.std.proofs.Common.{List, subst, sym}
 use Rattle.lb_limits.specs.declared.bucket.Bucket.{Bucket}
 use Rattle.lb_limits.specs.Buckets.{IsIdleAt, Leaves}
 use Rattle.lb_limits.proofs.Left.{left_removed}

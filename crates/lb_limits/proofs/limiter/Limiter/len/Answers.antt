@@ -1,4 +1,4 @@
-use Rattle.std.proofs.Common.{◌<◌, List, length, subst, sym, arith}
+use Rattle.std.proofs.Common.{◌<◌, List, length, subst, sym}
 use Rattle.lb_limits.specs.declared.bucket.Bucket.{Bucket}
 use Rattle.lb_limits.specs.Buckets.{held_at}
 use Rattle.lb_limits.proofs.Limits.{passes_few}
