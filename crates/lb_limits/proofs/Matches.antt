@@ -9,7 +9,7 @@ use Rattle.lb_limits.specs.Buckets.{IsHeld, held_at, window_count}
 use Rattle.lb_limits.specs.Limiter.{IsLatest}
 use Rattle.lb_limits.specs.Ticks.{live_at}
 use Rattle.lb_limits.specs.declared.ticks.Ticks.{Ticks}
-use Rattle.lb_limits.proofs.Changes.{left_or, right_or}
+use Rattle.lb_limits.proofs.Keeps.{left_or, right_or}
 use Rattle.lb_limits.proofs.Held.{window_held, live_held}
 
 -- where an address has passes that count, nobody asks how many others have
