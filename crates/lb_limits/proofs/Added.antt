@@ -15,8 +15,8 @@ use Rattle.lb_limits.specs.Window.{put_pass}
 use Rattle.lb_limits.specs.Moments.{is_recent, recent_of, ends_recent}
 use Rattle.lb_limits.specs.Buckets.{IsBucket, IsHeld, IsPlace, begins, free_of, held_at, live_count, pass_of, window_count}
 use Rattle.lb_limits.proofs.Places.{Stands, stands_at, parts_of, set_parts, room_found, room_within, window_there}
-use Rattle.lb_limits.proofs.Put.{put_held}
-use Rattle.lb_limits.proofs.Changes.{live_drops, no_length}
+use Rattle.lb_limits.proofs.PutPass.{put_held}
+use Rattle.lb_limits.proofs.Keeps.{live_drops, no_length}
 use Rattle.lb_limits.proofs.Recent.{ends_tell}
 
 pub added_passes : (now : ℕ) (key : Addr) (place : ℕ) (bs : List Bucket) (b d : Bucket) → IsHeld now bs → IsPlace key place bs → 0 < free_of key bs → b.source ≡ (get_or bs place d).source → b.moments.items ≡ (get_or bs place d).moments.items ++ now ∷ [] → held_at now (set bs place b) ≡ put_pass (pass_of key now) (held_at now bs)

@@ -6,11 +6,11 @@ pub mod Recent
 pub mod Sums
 pub mod Held
 pub mod Places
-pub mod Changes
-pub mod Put
+pub mod Keeps
+pub mod PutPass
 pub mod Tallies
 pub mod Rated
-pub mod Left
-pub mod Tested
+pub mod Leaves
+pub mod Matches
 pub mod Added
-pub mod Limits
+pub mod Limiters

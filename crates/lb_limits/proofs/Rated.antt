@@ -1,6 +1,6 @@
 -- Buckets with no more passes that count than the rate.
-use Rattle.std.proofs.Common.{◌≡◌, Bool, true, false, ℕ, ◌+◌, ◌*◌, ◌<◌, ◌≤◌, List, [], ◌∷◌, ◌++◌, length, get_or, set, map, take, drop, cond, inl, inr, sym, ◌∙◌, ap, arith, subst, nat_lt, length-append}
-use Rattle.std.specs.List.{insert, remove, filter, All}
+use Rattle.std.proofs.Common.{◌≡◌, Bool, true, ℕ, ◌+◌, ◌*◌, ◌<◌, ◌≤◌, List, [], ◌∷◌, ◌++◌, length, get_or, set, take, drop, cond, inl, inr, ◌∙◌, ap, arith, length-append}
+use Rattle.std.specs.List.{insert, All}
 use Rattle.std.proofs.lemmas.Bool.{cases_Bool}
 use Rattle.std.proofs.lemmas.List.{length-map}
 use Rattle.std.proofs.lemmas.List.Elements.{All-append, All-cons, All-head, All-tail, All-take, All-drop, All-set, All-get_or, filter-append}
@@ -8,9 +8,9 @@ use Rattle.std.proofs.lemmas.List.Sums.{sum_by-cons}
 use Rattle.lb_wire.specs.declared.addr.Addr.{Addr}
 use Rattle.lb_limits.specs.declared.bucket.Bucket.{Bucket}
 use Rattle.lb_limits.specs.Moments.{is_recent, recent_of}
-use Rattle.lb_limits.specs.Buckets.{Ascends, IsPlace, IsRated, begins, pass_of, late_passes, held_at, is_live, live_count, window_count}
+use Rattle.lb_limits.specs.Buckets.{Ascends, IsPlace, IsRated, begins, pass_of, bucket_passes, held_at, is_live, live_count, window_count}
 use Rattle.lb_limits.proofs.Recent.{filter_fewer, recent_twice}
-use Rattle.lb_limits.proofs.Changes.{no_length}
+use Rattle.lb_limits.proofs.Keeps.{no_length}
 use Rattle.lb_limits.proofs.Places.{window_there}
 
 abbrev one_if : Bool → ℕ
@@ -55,8 +55,8 @@ held_few qps now [] all = omega arith
 held_few qps now (b ∷ bs) all =
     let rest : length (held_at now bs) ≤ qps * live_count now bs = held_few qps now bs (All-tail (IsRated qps now) b bs all) in
     let is : IsRated qps now b = All-head (IsRated qps now) b bs all in
-    let here : length (late_passes now b) ≡ length (recent_of now b.moments.items) = length-map (recent_of now b.moments.items) (pass_of b.source) in
-    let both : length (held_at now (b ∷ bs)) ≡ length (late_passes now b) + length (held_at now bs) = length-append (late_passes now b) (held_at now bs) in
+    let here : length (bucket_passes now b) ≡ length (recent_of now b.moments.items) = length-map (recent_of now b.moments.items) (pass_of b.source) in
+    let both : length (held_at now (b ∷ bs)) ≡ length (bucket_passes now b) + length (held_at now bs) = length-append (bucket_passes now b) (held_at now bs) in
     let count : live_count now (b ∷ bs) ≡ cond (is_live now b) 1 0 + live_count now bs = sum_by-cons (λ c. cond (is_live now c) 1 0) b bs in
     elim (cases_Bool (is_live now b)) [
       | inl live ↦

@@ -35,11 +35,11 @@ all_taken P xs i all = λ k d lt. subst P (sym (get_or-take i xs k d (omega (ari
 pub all_dropped : {X : Type 0} (P : X → Type 0) (xs : List X) (i : ℕ) → AllWithin P xs i (length xs) → All P (drop i xs)
 all_dropped P xs i all = λ k d lt. subst P (sym (get_or-drop i xs k d)) (all (i + k) d (omega arith) (omega (arith, length-drop i xs)))
 
-untrue : (b : Bool) → not b ≡ true → b ≡ false
+pub untrue : (b : Bool) → not b ≡ true → b ≡ false
 untrue true is = absurd (cc)
 untrue false is = refl
 
-unfalse : (b : Bool) → not b ≡ false → b ≡ true
+pub unfalse : (b : Bool) → not b ≡ false → b ≡ true
 unfalse true is = refl
 unfalse false is = absurd (cc)
 
@@ -51,7 +51,7 @@ still_recent now m n recent le = grind (arith, nat_tests)
 pub still_old : (now later m : ℕ) → now ≤ later → is_recent now m ≡ false → is_recent later m ≡ false
 still_old now later m le old = grind (arith, nat_tests)
 
-older : (now m n : ℕ) → m ≤ n → not (is_recent now n) ≡ true → not (is_recent now m) ≡ true
+pub older : (now m n : ℕ) → m ≤ n → not (is_recent now n) ≡ true → not (is_recent now m) ≡ true
 older now m n le old = elim (cases_Bool (is_recent now m)) [
   | inl recent ↦
       let late : is_recent now n ≡ true = still_recent now m n recent le in

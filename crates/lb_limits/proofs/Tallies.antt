@@ -1,14 +1,13 @@
 -- Ticks, and how many addresses they say are live.
-use Rattle.std.proofs.Common.{◌≡◌, Bool, true, false, ℕ, zero, suc, ◌+◌, ◌-◌, ◌<◌, ◌≤◌, List, [], ◌∷◌, ◌++◌, length, get_or, set, map, take, drop, ltb, inl, inr, refl, sym, ◌∙◌, ap, arith, rules, subst, cond, length-append, length-set, length-drop}
-use Rattle.std.specs.List.{filter, slice_get, sum_by, All, AllPairs}
-use Rattle.std.specs.declared.option.Option.TheVariants.{Some}
+use Rattle.std.proofs.Common.{◌≡◌, Bool, true, false, not, ℕ, zero, suc, ◌+◌, ◌-◌, ◌<◌, ◌≤◌, List, [], ◌∷◌, ◌++◌, length, get_or, set, take, drop, ltb, inl, inr, refl, sym, ◌∙◌, ap, arith, subst, cond, length-set, length-drop}
+use Rattle.std.specs.List.{filter, All}
 use Rattle.std.specs.List.Sorted.{IsPartitionedBy, IsPartitionPoint}
 use Rattle.std.proofs.Math.Seq.{map-set_same, take-length}
 use Rattle.std.proofs.Math.Nat.{add-zero}
 use Rattle.std.proofs.lemmas.Bool.{cases_Bool, cases_lt, cases_eq}
 use Rattle.std.proofs.lemmas.Bool.Decides.{nat_tests}
-use Rattle.std.proofs.lemmas.List.{length-map, map-append, take_all, take_more, take-map, drop-map, get_or-map, get_or-take, get_or-drop, length-take-le}
-use Rattle.std.proofs.lemmas.List.Elements.{All-nil, All-cons, All-head, All-tail, All-append, All-map, All-push, All-filter, All-get_or, filter_passes}
+use Rattle.std.proofs.lemmas.List.{length-map, map-append, take-append-drop, take_at, take_all, take_more, take-map, drop-map, get_or-map, get_or-take, get_or-drop, length-take-le}
+use Rattle.std.proofs.lemmas.List.Elements.{All-nil, All-cons, All-head, All-tail, All-map, All-push, All-filter, filter-append, filter_passes}
 use Rattle.std.proofs.lemmas.List.Kept.{AllPairs-filter, AllPairs-cons}
 use Rattle.std.proofs.lemmas.List.Sums.{sum_by-cons, sum_by-append, sum_by-set, get_or-le-sum_by}
 use Rattle.lb_limits.specs.declared.ticks.Tick.{Tick}
@@ -16,7 +15,7 @@ use Rattle.lb_limits.specs.declared.ticks.Ticks.{Ticks}
 use Rattle.lb_limits.specs.Moments.{is_recent, recent_of}
 use Rattle.lb_limits.specs.Window.{max_live}
 use Rattle.lb_limits.specs.Ticks.{IsTally, IsTickPlace, Rises, address_count, addresses_in, live_at, live_in, max_ticks, moments_of}
-use Rattle.lb_limits.proofs.Recent.{all_taken, all_dropped, filter_fewer, still_old, still_recent}
+use Rattle.lb_limits.proofs.Recent.{all_taken, all_dropped, filter_all, filter_fewer, filter_none, older, untrue, unfalse, still_old, still_recent}
 use Rattle.lb_limits.proofs.Pairs.{pairs_append, pairs_head, pairs_tail}
 use Rattle.lb_limits.proofs.Sums.{sum_filter}
 
@@ -78,12 +77,39 @@ out_all now i ts end old =
     let whole : take i ts ≡ ts = take_all i ts end in
     omega (arith, ap address_count whole, all_old now ts (subst (λ (xs : List Tick). All (λ m. is_recent now m ≡ false) (moments_of xs)) whole old))
 
--- where the first one counts, all do
-pub first_recent : (now : ℕ) (ts : List Tick) (t : Tick) → Rises (moments_of ts) → slice_get ts 0 ≡ Some t → is_recent now t.moment ≡ true → All (λ m. is_recent now m ≡ true) (moments_of ts)
-first_recent now [] t order is recent = absurd (cc)
-first_recent now (s ∷ ts) t order is recent =
-    let same : s ≡ t = search (rules, is) in
-    rest_recent now s ts order (ap (λ (t : Tick). is_recent now t.moment) same ∙ recent)
+-- those that do not count stand before those that do
+pub parted_old : (now : ℕ) (ts : List Tick) → Rises (moments_of ts) → IsPartitionedBy (λ (t : Tick). not (is_recent now t.moment)) ts
+parted_old now ts order = λ i j d le within old.
+    let ms : List ℕ = moments_of ts in
+    let e : ℕ = d.moment in
+    let size : length ms ≡ length ts = length-map ts (λ (t : Tick). t.moment) in
+    elim (cases_lt i j) [
+      | inl lt ↦
+          let rises : get_or ms i e < get_or ms j e = order i j e lt (omega (arith, within, size)) in
+          older now (get_or ts i d).moment (get_or ts j d).moment
+          (omega (arith, rises, get_or-map (λ (t : Tick). t.moment) ts i d e (omega arith), get_or-map (λ (t : Tick). t.moment) ts j d e within)) old
+      | inr ge ↦
+          let same : i ≡ j = omega arith in
+          rw same old
+    ]
+
+-- so those that count are what stands from the place on
+pub ticks_from : (now place : ℕ) (ts : List Tick) → IsPartitionPoint (λ (t : Tick). not (is_recent now t.moment) ≡ true) (λ (t : Tick). not (is_recent now t.moment) ≡ false) ts place → drop place ts ≡ filter (λ (t : Tick). is_recent now t.moment) ts
+ticks_from now place ts point =
+    let front : filter (λ (t : Tick). is_recent now t.moment) (take place ts) ≡ [] =
+    filter_none (λ (t : Tick). is_recent now t.moment) (take place ts) (λ k d lt. untrue (is_recent now (get_or (take place ts) k d).moment) (all_taken (λ (t : Tick). not (is_recent now t.moment) ≡ true) ts place point.0 k d lt)) in
+    let back : filter (λ (t : Tick). is_recent now t.moment) (drop place ts) ≡ drop place ts =
+    filter_all (λ (t : Tick). is_recent now t.moment) (drop place ts) (λ k d lt. unfalse (is_recent now (get_or (drop place ts) k d).moment) (all_dropped (λ (t : Tick). not (is_recent now t.moment) ≡ false) ts place point.1 k d lt)) in
+    sym
+    (ap (λ (xs : List Tick). filter (λ (t : Tick). is_recent now t.moment) xs) (sym (take-append-drop place ts))
+    ∙ filter-append (λ (t : Tick). is_recent now t.moment) (take place ts) (drop place ts)
+    ∙ ap (λ (xs : List Tick). xs ++ filter (λ (t : Tick). is_recent now t.moment) (drop place ts)) front
+    ∙ back)
+
+-- and they are left where the others are turned to the end and cut off
+pub turned : (now place left : ℕ) (ts us ws : List Tick) → left + place ≡ length ts → us ≡ drop place ts ++ take place ts → ws ≡ take left us → drop place ts ≡ filter (λ (t : Tick). is_recent now t.moment) ts → ws ≡ filter (λ (t : Tick). is_recent now t.moment) ts
+turned now place left ts us ws size turn cut rest =
+    cut ∙ ap (λ (xs : List Tick). take left xs) turn ∙ take_at (drop place ts) (take place ts) left (omega (arith, size, length-drop place ts)) ∙ rest
 
 -- ticks that count
 pub kept_moments : (now : ℕ) (ts : List Tick) → moments_of (filter (λ (t : Tick). is_recent now t.moment) ts) ≡ recent_of now (moments_of ts)

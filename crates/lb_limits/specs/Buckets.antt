@@ -15,12 +15,12 @@ abbrev pub pass_of : Addr → ℕ → Pass
 pass_of source moment = record { source = source; moment = moment }
 
 -- a bucket's moments that count, as passes
-abbrev pub late_passes : ℕ → Bucket → List Pass
-late_passes now b = map (pass_of b.source) (recent_of now b.moments.items)
+abbrev pub bucket_passes : ℕ → Bucket → List Pass
+bucket_passes now b = map (pass_of b.source) (recent_of now b.moments.items)
 
 -- the passes of all buckets that count
 abbrev pub held_at : ℕ → List Bucket → List Pass
-held_at now buckets = flat_map (late_passes now) buckets
+held_at now buckets = flat_map (bucket_passes now) buckets
 
 -- how many moments of a masked address count
 abbrev pub window_in : Addr → ℕ → Bucket → ℕ

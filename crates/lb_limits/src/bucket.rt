@@ -4,7 +4,7 @@ ghost use Rattle.std.specs.Prelude.{◌≡◌, ◌+◌, ◌≤◌, ◌<◌, [], 
 ghost use Rattle.std.specs.List.Sorted.{IsNonDecreasing};
 ghost use Rattle.circular_buffer.specs.Buffer.{last_item};
 ghost use Rattle.lb_limits.specs.Moments.{ends_recent, recent_of};
-ghost use Rattle.lb_limits.specs.Buckets.{IsBucket, IsRated, late_passes, pass_of};
+ghost use Rattle.lb_limits.specs.Buckets.{IsBucket, IsRated, bucket_passes, pass_of};
 
 use crate::moments::{is_recent, recent_count};
 use crate::pass::Pass;
@@ -132,7 +132,7 @@ impl Bucket {
 
     /// Adds its moments that count to a list of passes.
     pub(crate) fn list(&self, now: u64, passes: &mut Vec<Pass>) -> Result<(), AllocError>
-        ensures { OnOk result (passes.new.items ≡ passes.old.items ++ late_passes now self.now) }
+        ensures { OnOk result (passes.new.items ≡ passes.old.items ++ bucket_passes now self.now) }
     {
         let (front, back) = self.moments.as_slices();
         list_moments(self.source, front, now, passes)?;

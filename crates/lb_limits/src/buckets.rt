@@ -8,7 +8,7 @@ ghost use Rattle.lb_limits.specs.Window.{max_live, put_pass};
 ghost use Rattle.lb_limits.specs.Moments.{is_recent, ends_recent};
 ghost use Rattle.lb_limits.specs.Buckets.{Ascends, IsHeld, IsIdleAt, IsPlace, IsRated, Keeps, Leaves, begins, free_of, held_at, live_count, many, pass_of, stays, window_count};
 
-use crate::bucket::Bucket;
+use crate::boxed::Boxed;
 use crate::order::{is_below, same_addr};
 use crate::pass::Pass;
 use crate::reserved::has_addr;
@@ -23,26 +23,26 @@ const MANY: usize = 8192;
 const LOOKS: usize = 8;
 
 /// The place of a masked address.
-fn place_of(key: &Addr, buckets: &[Bucket]) -> usize
+fn place_of(key: &Addr, buckets: &[Boxed]) -> usize
     requires { Ascends buckets.now }
     ensures { IsPlace key.now result buckets.now }
 {
-    buckets.partition_point(|bucket| is_below(key, &bucket.source))
+    buckets.partition_point(|bucket| is_below(key, bucket.source()))
 }
 
 /// Whether the bucket at a place is that of a masked address.
-fn is_at(key: &Addr, place: usize, buckets: &[Bucket]) -> bool
+fn is_at(key: &Addr, place: usize, buckets: &[Boxed]) -> bool
     ensures found { result ≡ begins key.now (drop place buckets.now) }
     ensures within { result ≡ true → place < length buckets.now }
 {
     match buckets.get(place) {
-        Some(bucket) => same_addr(key, &bucket.source),
+        Some(bucket) => same_addr(key, bucket.source()),
         None => false,
     }
 }
 
 /// How many passes of a masked address count.
-pub(crate) fn window_count(key: &Addr, now: u64, buckets: &[Bucket]) -> usize
+pub(crate) fn window_count(key: &Addr, now: u64, buckets: &[Boxed]) -> usize
     requires { IsHeld now buckets.now }
     ensures { result ≡ window_count key.now now buckets.now }
 {
@@ -56,7 +56,7 @@ pub(crate) fn window_count(key: &Addr, now: u64, buckets: &[Bucket]) -> usize
 
 /// Puts an empty bucket at the place of a masked address that has none.
 fn open(
-    buckets: &mut Vec<Bucket>,
+    buckets: &mut Vec<Boxed>,
     place: usize,
     key: Addr,
     qps: u16,
@@ -72,14 +72,14 @@ fn open(
     ensures rooms { (other : Addr) → 0 < free_of other buckets.old.items → 0 < free_of other buckets.new.items }
     ensures room { OnOk result (0 < free_of key buckets.new.items) }
 {
-    let bucket = Bucket::new(*buckets.allocator(), key, qps)?;
+    let bucket = Boxed::new(*buckets.allocator(), key, qps)?;
     buckets.insert(place, bucket)?;
     Ok(())
 }
 
 /// Takes the room for one moment in the bucket of a masked address.
 fn widen(
-    buckets: &mut Vec<Bucket>,
+    buckets: &mut Vec<Boxed>,
     place: usize,
     key: &Addr,
     qps: u16,
@@ -101,7 +101,7 @@ fn widen(
 
 /// Takes the room for one moment of a masked address.
 pub(crate) fn make_room(
-    buckets: &mut Vec<Bucket>,
+    buckets: &mut Vec<Boxed>,
     key: Addr,
     qps: u16,
     moment: u64,
@@ -123,14 +123,14 @@ pub(crate) fn make_room(
 }
 
 /// Whether a sweep keeps a bucket: its last moment counts, or there is room reserved in it.
-fn stays(bucket: &Bucket, reserved: &[Addr], moment: u64) -> bool
+fn stays(bucket: &Boxed, reserved: &[Addr], moment: u64) -> bool
     ensures { result ≡ stays reserved.now moment bucket.now }
 {
-    bucket.ends_recent(moment) || has_addr(&bucket.source, reserved)
+    bucket.ends_recent(moment) || has_addr(bucket.source(), reserved)
 }
 
 /// Gives up the buckets of addresses that have no moment that counts and no room reserved.
-fn sweep(buckets: &mut Vec<Bucket>, reserved: &[Addr], moment: u64)
+fn sweep(buckets: &mut Vec<Boxed>, reserved: &[Addr], moment: u64)
     requires held { IsHeld moment buckets.old.items }
     requires crowd { live_count moment buckets.old.items ≤ max_live }
     ensures left { Leaves reserved.now moment buckets.old.items buckets.new.items }
@@ -140,7 +140,7 @@ fn sweep(buckets: &mut Vec<Bucket>, reserved: &[Addr], moment: u64)
 }
 
 /// Gives up all such buckets where there are many.
-pub(crate) fn sweep_many(buckets: &mut Vec<Bucket>, reserved: &[Addr], moment: u64)
+pub(crate) fn sweep_many(buckets: &mut Vec<Boxed>, reserved: &[Addr], moment: u64)
     requires held { IsHeld moment buckets.old.items }
     requires crowd { live_count moment buckets.old.items ≤ max_live }
     ensures left { Leaves reserved.now moment buckets.old.items buckets.new.items }
@@ -153,7 +153,7 @@ pub(crate) fn sweep_many(buckets: &mut Vec<Bucket>, reserved: &[Addr], moment: u
 
 /// The place of the first such bucket between two places.
 fn idle_between(
-    buckets: &[Bucket],
+    buckets: &[Boxed],
     start: usize,
     end: usize,
     reserved: &[Addr],
@@ -171,7 +171,7 @@ fn idle_between(
 }
 
 /// Looks at a few buckets from a place on, gives up the first such one, and returns the place to look from next.
-fn give_up_one(buckets: &mut Vec<Bucket>, from: usize, reserved: &[Addr], moment: u64) -> usize
+fn give_up_one(buckets: &mut Vec<Boxed>, from: usize, reserved: &[Addr], moment: u64) -> usize
     requires { IsHeld moment buckets.old.items }
     ensures { Leaves reserved.now moment buckets.old.items buckets.new.items }
 {
@@ -189,7 +189,7 @@ fn give_up_one(buckets: &mut Vec<Bucket>, from: usize, reserved: &[Addr], moment
 
 /// Gives up one such bucket near a place, or all of them where there are many. Returns the place to look from next.
 pub(crate) fn give_up(
-    buckets: &mut Vec<Bucket>,
+    buckets: &mut Vec<Boxed>,
     from: usize,
     reserved: &[Addr],
     moment: u64,
@@ -205,7 +205,7 @@ pub(crate) fn give_up(
 }
 
 /// Adds a pass to the bucket of its address.
-fn add_at(buckets: &mut Vec<Bucket>, place: usize, key: &Addr, now: u64) -> Option<u64>
+fn add_at(buckets: &mut Vec<Boxed>, place: usize, key: &Addr, now: u64) -> Option<u64>
     requires held { IsHeld now buckets.old.items }
     requires place { IsPlace key.now place buckets.old.items }
     requires room { 0 < free_of key.now buckets.old.items }
@@ -221,7 +221,7 @@ fn add_at(buckets: &mut Vec<Bucket>, place: usize, key: &Addr, now: u64) -> Opti
 }
 
 /// Adds a pass, and returns the moment of the last one of its address.
-pub(crate) fn add_pass(buckets: &mut Vec<Bucket>, key: &Addr, now: u64) -> Option<u64>
+pub(crate) fn add_pass(buckets: &mut Vec<Boxed>, key: &Addr, now: u64) -> Option<u64>
     requires held { IsHeld now buckets.old.items }
     requires room { 0 < free_of key.now buckets.old.items }
     ensures held { IsHeld now buckets.new.items }
@@ -237,7 +237,7 @@ pub(crate) fn add_pass(buckets: &mut Vec<Bucket>, key: &Addr, now: u64) -> Optio
 }
 
 /// How many passes count.
-pub(crate) fn count(buckets: &[Bucket], moment: u64) -> usize
+pub(crate) fn count(buckets: &[Boxed], moment: u64) -> usize
     requires held { IsHeld moment buckets.now }
     requires fits { length (held_at moment buckets.now) < 2 ^ 63 }
     ensures { result ≡ length (held_at moment buckets.now) }
@@ -250,7 +250,7 @@ pub(crate) fn count(buckets: &[Bucket], moment: u64) -> usize
 }
 
 /// The passes that count, in order.
-pub(crate) fn list(alloc: Global, buckets: &[Bucket], moment: u64) -> Result<Vec<Pass>, AllocError>
+pub(crate) fn list(alloc: Global, buckets: &[Boxed], moment: u64) -> Result<Vec<Pass>, AllocError>
     ensures { IfOk result (λ list. list.items ≡ held_at moment buckets.now) }
 {
     let mut passes = Vec::new(alloc);

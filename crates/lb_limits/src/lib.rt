@@ -2,6 +2,7 @@
 //! over the rate.
 #![tactic(auto)]
 
+mod boxed;
 mod bucket;
 mod buckets;
 mod laws;

@@ -6,7 +6,7 @@ ghost use Rattle.lb_limits.specs.Ticks.{IsTally, live_at};
 ghost use Rattle.lb_limits.specs.Order.{cmp_pass};
 ghost use Rattle.lb_limits.specs.Window.{source_of, limits_of, matches, max_live, passed_at, reserved_at};
 
-use crate::bucket::Bucket;
+use crate::boxed::Boxed;
 use crate::buckets;
 use crate::pass::Pass;
 use crate::reserved::put_key;
@@ -26,7 +26,7 @@ pub struct Limiter {
     // In milliseconds: the latest that it was told.
     moment: u64,
     // In the order of addresses. What no longer counts may still stand there; the view leaves it out.
-    buckets: Vec<Bucket>,
+    buckets: Vec<Boxed>,
     // The last moments of all addresses, so that no walk over the buckets is needed to count the live ones.
     ticks: Ticks,
     // Masked, each once; each has room for one pass more.

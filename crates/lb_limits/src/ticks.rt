@@ -1,8 +1,8 @@
 //! The milliseconds in which addresses had their last passes, with how many addresses had them then: they tell how many
 //! addresses are live. One that no longer counts may still stand there.
 
-ghost use Rattle.std.specs.Prelude.{◌≡◌, ◌+◌, ◌≤◌, ◌<◌, ℕ, true, cond, IfSome, OnOk, []};
-ghost use Rattle.std.specs.List.{All};
+ghost use Rattle.std.specs.Prelude.{◌≡◌, ◌+◌, ◌≤◌, ◌<◌, ℕ, true, cond, IfSome, OnOk, [], drop, length};
+ghost use Rattle.std.specs.List.{All, filter};
 ghost use Rattle.lb_limits.specs.Moments.{ends_recent, is_recent};
 ghost use Rattle.lb_limits.specs.Window.{max_live};
 ghost use Rattle.lb_limits.specs.Ticks.{HasRoom, IsTally, IsTickPlace, Rises, address_count, live_at, moments_of};
@@ -56,17 +56,6 @@ impl Ticks {
         self.list.reserve(1)
     }
 
-    /// Whether the first one counts, or there is none.
-    fn is_current(&self, now: u64) -> bool
-        requires { Rises (moments_of self.now.list.items) }
-        ensures { result ≡ true → All (λ m. is_recent now m ≡ true) (moments_of self.now.list.items) }
-    {
-        match self.list.first() {
-            Some(tick) => is_recent(now, tick.moment),
-            None => true,
-        }
-    }
-
     /// Gives up those that no longer count.
     fn forget(&mut self, now: u64)
         requires { IsTally self.old }
@@ -76,10 +65,11 @@ impl Ticks {
         ensures live { (later : ℕ) → now ≤ later → live_at later self.new.list.items ≡ live_at later self.old.list.items }
         ensures room { HasRoom self.old → HasRoom self.new }
     {
-        if !self.is_current(now) {
-            self.total = self.live(now);
-            self.list.retain(|tick| is_recent(now, tick.moment));
-        }
+        self.total = self.live(now);
+        let place = recent_from(self.list.as_slice(), now);
+        let left = self.list.len() - place;
+        self.list.rotate_left(place);
+        self.list.truncate(left);
     }
 
     /// One address fewer had its last pass at a moment.
@@ -160,6 +150,15 @@ fn place_of(ticks: &[Tick], moment: u64) -> usize
     ensures { IsTickPlace moment result (moments_of ticks.now) }
 {
     ticks.partition_point(|tick| tick.moment < moment)
+}
+
+/// The place of the first one that counts.
+fn recent_from(ticks: &[Tick], now: u64) -> usize
+    requires { Rises (moments_of ticks.now) }
+    ensures within { result ≤ length ticks.now }
+    ensures rest { drop result ticks.now ≡ filter (λ tick. is_recent now tick.moment) ticks.now }
+{
+    ticks.partition_point(|tick| !is_recent(now, tick.moment))
 }
 
 /// How many addresses had their last passes in milliseconds that no longer count.

@@ -4,7 +4,7 @@ use Rattle.lb_limits.specs.declared.bucket.Bucket.{Bucket}
 use Rattle.lb_limits.specs.Moments.{ends_recent}
 use Rattle.lb_limits.specs.Buckets.{live_count}
 use Rattle.lb_limits.proofs.Places.{room_at, room_found, room_within}
-use Rattle.lb_limits.proofs.Changes.{added_held, added_live}
+use Rattle.lb_limits.proofs.Keeps.{added_held, added_live}
 use Rattle.lb_limits.proofs.Added.{added_passes, first_none, last_drops}
 use Rattle.lb_limits.proofs.Rated.{added_rated}
 use Rattle.lb_limits.proofs.buckets.add_at.Goals as goal

@@ -1,5 +1,5 @@
-use Rattle.std.proofs.Common.{◌≤◌, arith}
-use Rattle.lb_limits.proofs.Left.{left_then}
+use Rattle.std.proofs.Common.{arith}
+use Rattle.lb_limits.proofs.Leaves.{left_then}
 use Rattle.lb_limits.proofs.buckets.give_up.Goals as goal
 
 pub sweep_many-requires-clause-crowd : goal.sweep_many-requires-clause-crowd

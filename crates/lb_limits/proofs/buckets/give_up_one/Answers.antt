@@ -1,7 +1,7 @@
-use Rattle.std.proofs.Common.{List, subst, sym, ap}
+use Rattle.std.proofs.Common.{List, subst, sym}
 use Rattle.lb_limits.specs.declared.bucket.Bucket.{Bucket}
 use Rattle.lb_limits.specs.Buckets.{IsIdleAt, Leaves}
-use Rattle.lb_limits.proofs.Left.{left_removed}
+use Rattle.lb_limits.proofs.Leaves.{left_removed}
 use Rattle.lb_limits.proofs.buckets.give_up_one.Goals as goal
 
 pub returns-in-Some : goal.returns-in-Some

@@ -2,7 +2,7 @@ use Rattle.std.proofs.Common.{List, ◌<◌, subst, sym}
 use Rattle.std.specs.List.{All}
 use Rattle.lb_limits.specs.declared.bucket.Bucket.{Bucket}
 use Rattle.lb_limits.specs.Buckets.{IsRated, Keeps, free_of}
-use Rattle.lb_limits.proofs.Changes.{opened, opened_room, empty_bucket}
+use Rattle.lb_limits.proofs.Keeps.{opened, opened_room, empty_bucket}
 use Rattle.lb_limits.proofs.Rated.{opened_rated}
 use Rattle.lb_limits.proofs.buckets.open.Goals as goal
 

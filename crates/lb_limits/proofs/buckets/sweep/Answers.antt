@@ -4,7 +4,7 @@ use Rattle.std.proofs.lemmas.Fn.{filter_same}
 use Rattle.lb_limits.specs.declared.bucket.Bucket.{Bucket}
 use Rattle.lb_limits.specs.Window.{max_live}
 use Rattle.lb_limits.specs.Buckets.{Leaves, stays}
-use Rattle.lb_limits.proofs.Left.{left_swept, swept_few}
+use Rattle.lb_limits.proofs.Leaves.{left_swept, swept_few}
 use Rattle.lb_limits.proofs.buckets.sweep.Goals as goal
 
 pub returns-clause-left : goal.returns-clause-left

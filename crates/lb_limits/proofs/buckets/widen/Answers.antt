@@ -1,7 +1,7 @@
 use Rattle.std.proofs.Common.{ap, ◌∙◌}
 use Rattle.lb_limits.specs.declared.bucket.Bucket.{Bucket}
 use Rattle.lb_limits.specs.Moments.{recent_of}
-use Rattle.lb_limits.proofs.Changes.{widened}
+use Rattle.lb_limits.proofs.Keeps.{widened}
 use Rattle.lb_limits.proofs.buckets.widen.Goals as goal
 
 pub returns-clause-keeps : goal.returns-clause-keeps

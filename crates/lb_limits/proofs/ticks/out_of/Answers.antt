@@ -1,6 +1,6 @@
-use Rattle.std.proofs.Common.{◌∙◌, sym, ap, arith}
+use Rattle.std.proofs.Common.{◌∙◌, sym, arith}
 use Rattle.std.proofs.lemmas.List.Sums.{sum_by_more}
-use Rattle.lb_limits.specs.Ticks.{address_count, addresses_in, live_at}
+use Rattle.lb_limits.specs.Ticks.{addresses_in}
 use Rattle.lb_limits.proofs.Tallies.{out_split, out_more, out_all}
 use Rattle.lb_limits.proofs.ticks.out_of.Goals as goal
 

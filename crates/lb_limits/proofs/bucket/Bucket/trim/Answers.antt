@@ -1,4 +1,4 @@
-use Rattle.lb_limits.proofs.Changes.{forgot, forgot_same, forgot_more}
+use Rattle.lb_limits.proofs.Keeps.{forgot, forgot_same, forgot_more}
 use Rattle.std.proofs.Common.{arith}
 use Rattle.lb_limits.proofs.Rated.{kept_rated}
 use Rattle.lb_limits.proofs.bucket.Bucket.trim.Goals as goal

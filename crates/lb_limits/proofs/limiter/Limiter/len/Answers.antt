@@ -1,7 +1,7 @@
-use Rattle.std.proofs.Common.{◌<◌, List, length, subst, sym, arith}
+use Rattle.std.proofs.Common.{◌<◌, List, length, subst, sym}
 use Rattle.lb_limits.specs.declared.bucket.Bucket.{Bucket}
 use Rattle.lb_limits.specs.Buckets.{held_at}
-use Rattle.lb_limits.proofs.Limits.{passes_few}
+use Rattle.lb_limits.proofs.Limiters.{passes_few}
 use Rattle.lb_limits.proofs.limiter.Limiter.len.Goals as goal
 
 pub count-requires-clause-fits : goal.count-requires-clause-fits

@@ -4,9 +4,9 @@ use Rattle.lb_limits.specs.declared.bucket.Bucket.{Bucket}
 use Rattle.lb_limits.specs.Window.{Limits, passed_at}
 use Rattle.lb_limits.specs.Buckets.{Leaves, held_at, many}
 use Rattle.lb_limits.specs.Limiter.{IsLatest}
-use Rattle.lb_limits.proofs.Limits.{view_of, crowd_few, latest_pass, live_few, passed_is, passed_limiter}
+use Rattle.lb_limits.proofs.Limiters.{view_of, crowd_few, latest_pass, live_few, passed_is, passed_limiter}
 use Rattle.lb_limits.proofs.Rated.{rated_later}
-use Rattle.lb_limits.proofs.Tested.{allowed}
+use Rattle.lb_limits.proofs.Matches.{allowed}
 use Rattle.lb_limits.proofs.limiter.Limiter.pass.Goals as goal
 
 pub pass-requires-clause-crowd : goal.pass-requires-clause-crowd

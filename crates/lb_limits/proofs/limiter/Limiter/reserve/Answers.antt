@@ -1,11 +1,11 @@
-use Rattle.std.proofs.Common.{◌≡◌, List, ℕ, ◌+◌, ◌<◌, ◌≤◌, Contains, length, subst, sym, ◌∙◌, arith}
+use Rattle.std.proofs.Common.{◌≡◌, List, ◌+◌, ◌≤◌, Contains, length, subst, sym, arith}
 use Rattle.lb_wire.specs.declared.addr.Addr.{Addr}
 use Rattle.lb_limits.specs.declared.bucket.Bucket.{Bucket}
 use Rattle.lb_limits.specs.Window.{Limits, reserved_at}
 use Rattle.lb_limits.specs.Buckets.{Keeps, Leaves, held_at, many}
 use Rattle.lb_limits.specs.Limiter.{IsLimiter}
 use Rattle.lb_limits.proofs.Keys.{put_contains}
-use Rattle.lb_limits.proofs.Limits.{view_of, live_few, left_limiter, early_limiter, refused_limiter, reserved_limiter, reserved_is, keeps_then}
+use Rattle.lb_limits.proofs.Limiters.{view_of, live_few, left_limiter, early_limiter, refused_limiter, reserved_limiter, reserved_is, keeps_then}
 use Rattle.lb_limits.proofs.limiter.Limiter.reserve.Goals as goal
 
 pub give_up-self-inside-requires-clause-crowd : goal.give_up-self-inside-requires-clause-crowd

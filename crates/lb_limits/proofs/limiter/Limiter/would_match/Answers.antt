@@ -2,8 +2,8 @@ use Rattle.std.proofs.Common.{ℕ, List, refl, sym, ap, ◌∙◌}
 use Rattle.lb_limits.specs.declared.bucket.Bucket.{Bucket}
 use Rattle.lb_limits.specs.Window.{Limits}
 use Rattle.lb_limits.specs.Buckets.{held_at, window_count}
-use Rattle.lb_limits.proofs.Limits.{view_of}
-use Rattle.lb_limits.proofs.Tested.{tested_by}
+use Rattle.lb_limits.proofs.Limiters.{view_of}
+use Rattle.lb_limits.proofs.Matches.{tested_by}
 use Rattle.lb_limits.proofs.limiter.Limiter.would_match.Goals as goal
 
 pub returns : goal.returns

@@ -1,4 +1,4 @@
-use Rattle.std.proofs.Common.{◌≡◌, ◌<◌, ◌≤◌, ◌+◌, List, length, subst, sym, ap, refl, arith, rules, ◌∙◌}
+use Rattle.std.proofs.Common.{◌≡◌, ◌<◌, ◌+◌, List, length, ap, refl, arith, rules, ◌∙◌}
 use Rattle.lb_limits.specs.declared.ticks.Tick.{Tick}
 use Rattle.lb_limits.specs.declared.ticks.Ticks.{Ticks}
 use Rattle.lb_limits.proofs.Tallies.{Raised, raised_tally, raised_set, raised_push, place_now, place_end}

@@ -14,15 +14,15 @@ use Rattle.lb_limits.specs.declared.bucket.Bucket.{Bucket}
 use Rattle.lb_limits.specs.Order.{same_addr}
 use Rattle.lb_limits.specs.Window.{Limits, max_live, recent_passes, put_pass, put_key, reserved_at, passed_at}
 use Rattle.lb_limits.specs.Moments.{is_recent, ends_recent}
-use Rattle.lb_limits.specs.Buckets.{IsHeld, IsRated, Keeps, Leaves, free_of, held_at, live_count, many, pass_of}
+use Rattle.lb_limits.specs.Buckets.{IsRated, Keeps, Leaves, free_of, held_at, live_count, many, pass_of}
 use Rattle.lb_limits.specs.Limiter.{IsLatest, IsRoom, IsLimiter}
 use Rattle.lb_limits.specs.Ticks.{HasRoom, IsTally, Rises, address_count, live_at, moments_of}
 use Rattle.lb_limits.specs.declared.ticks.Tick.{Tick}
 use Rattle.lb_limits.specs.declared.ticks.Ticks.{Ticks}
-use Rattle.lb_limits.proofs.Changes.{held_later}
+use Rattle.lb_limits.proofs.Keeps.{held_later}
 use Rattle.lb_limits.proofs.Rated.{held_few, rated_later}
 use Rattle.lb_limits.proofs.Tallies.{live_most}
-use Rattle.lb_limits.proofs.Held.{late_held}
+use Rattle.lb_limits.proofs.Held.{recent_held}
 
 abbrev pub view_of : ℕ → ℕ → ℕ → ℕ → List Pass → List Addr → Limits
 view_of qps v4 v6 moment passes reserved = record { qps = qps; v4 = v4; v6 = v6; moment = moment; passes = passes; reserved = reserved }
@@ -141,14 +141,14 @@ module _ (qps v4 v6 m : ℕ) (bs cs : List Bucket) (ticks wider : Ticks) (reserv
 -- what a reservation leaves is seen as it should be
 pub reserved_is : (qps v4 v6 m now : ℕ) (bs cs : List Bucket) (addr key : Addr) (reserved keys : List Addr) → m ≤ now → key ≡ masked_of v4 v6 addr → Keeps m bs cs → keys ≡ put_key key reserved → view_of qps v4 v6 now (held_at now cs) keys ≡ reserved_at (view_of qps v4 v6 m (held_at m bs) reserved) addr now
 reserved_is qps v4 v6 m now bs cs addr key reserved keys le masked keeps put =
-    let passes : held_at now cs ≡ recent_passes now (held_at m bs) = keeps.passes now le ∙ sym (late_held m now bs le) in
+    let passes : held_at now cs ≡ recent_passes now (held_at m bs) = keeps.passes now le ∙ sym (recent_held m now bs le) in
     let set : keys ≡ put_key (masked_of v4 v6 addr) reserved = put ∙ ap (λ (a : Addr). put_key a reserved) masked in
     ap (λ (ps : List Pass). view_of qps v4 v6 now ps keys) passes ∙ ap (λ (keys : List Addr). view_of qps v4 v6 now (recent_passes now (held_at m bs)) keys) set
 
 pub passed_is : (qps v4 v6 m now : ℕ) (bs cs : List Bucket) (addr key : Addr) (reserved keys : List Addr) → m ≤ now → key ≡ masked_of v4 v6 addr → held_at now cs ≡ put_pass (pass_of key now) (held_at now bs) → keys ≡ [] → view_of qps v4 v6 now (held_at now cs) keys ≡ passed_at (view_of qps v4 v6 m (held_at m bs) reserved) addr now
 passed_is qps v4 v6 m now bs cs addr key reserved keys le masked put none =
     let passes : held_at now cs ≡ put_pass (pass_of (masked_of v4 v6 addr) now) (recent_passes now (held_at m bs)) =
-    put ∙ ap (λ (a : Addr). put_pass (pass_of a now) (held_at now bs)) masked ∙ ap (put_pass (pass_of (masked_of v4 v6 addr) now)) (sym (late_held m now bs le)) in
+    put ∙ ap (λ (a : Addr). put_pass (pass_of a now) (held_at now bs)) masked ∙ ap (put_pass (pass_of (masked_of v4 v6 addr) now)) (sym (recent_held m now bs le)) in
     ap (λ (ps : List Pass). view_of qps v4 v6 now ps keys) passes ∙ ap (λ (keys : List Addr). view_of qps v4 v6 now (put_pass (pass_of (masked_of v4 v6 addr) now) (recent_passes now (held_at m bs))) keys) none
 
 -- a pass

@@ -1,25 +1,25 @@
 -- Buckets that are given up, and what is left.
-use Rattle.std.proofs.Common.{◌≡◌, Bool, true, false, ◌||◌, ℕ, ◌+◌, ◌<◌, ◌≤◌, List, [], ◌∷◌, ◌++◌, length, get_or, map, take, drop, cond, inl, inr, refl, sym, ◌∙◌, ap, arith, subst, nat_lt, Contains, add-one, length-append}
+use Rattle.std.proofs.Common.{◌≡◌, Bool, true, false, ◌||◌, ℕ, ◌+◌, ◌<◌, ◌≤◌, List, [], ◌∷◌, ◌++◌, length, get_or, map, take, drop, cond, inl, inr, refl, sym, ◌∙◌, ap, arith, subst, nat_lt, add-one, length-append}
 use Rattle.std.specs.List.{filter, remove, list_any, count_by, All}
 use Rattle.std.proofs.lemmas.Bool.{cases_Bool}
 use Rattle.std.proofs.lemmas.List.Concat.{flat_map-append}
-use Rattle.std.proofs.lemmas.List.Elements.{All-append, All-head, All-tail, All-filter, All-get_or, Contains-get_or}
+use Rattle.std.proofs.lemmas.List.Elements.{All-append, All-head, All-tail, All-filter, Contains-get_or}
 use Rattle.std.proofs.lemmas.List.Sums.{sum_by-cons, sum_by-append, length-filter}
 use Rattle.circular_buffer.specs.Buffer.{last_item}
 use Rattle.lb_wire.specs.declared.addr.Addr.{Addr}
 use Rattle.lb_limits.specs.declared.pass.Pass.{Pass}
 use Rattle.lb_limits.specs.declared.bucket.Bucket.{Bucket}
 use Rattle.lb_limits.specs.Order.{same_addr}
-use Rattle.lb_limits.specs.Moments.{recent_of, ends_recent}
+use Rattle.lb_limits.specs.Moments.{ends_recent}
 use Rattle.lb_limits.specs.Window.{max_live}
-use Rattle.lb_limits.specs.Buckets.{Ascends, IsBucket, IsHeld, IsIdleAt, IsRated, Keeps, Leaves, is_below, pass_of, late_passes, held_at, is_live, live_count, free_in, free_of, stays}
+use Rattle.lb_limits.specs.Buckets.{Ascends, IsBucket, IsHeld, IsIdleAt, IsRated, Keeps, Leaves, is_below, pass_of, bucket_passes, held_at, is_live, live_count, free_in, free_of, stays}
 use Rattle.lb_limits.proofs.Addresses.{less_differs_back}
 use Rattle.lb_limits.proofs.Keys.{same_decides}
 use Rattle.lb_limits.proofs.Recent.{filter_fewer, ends_tell}
 use Rattle.lb_limits.proofs.Pairs.{all_front, all_back, pairs_head, pairs_tail, pairs_remove}
 use Rattle.lb_limits.proofs.Sums.{sum_none, sum_round}
 use Rattle.lb_limits.proofs.Places.{parts_of}
-use Rattle.lb_limits.proofs.Changes.{gone, reserved_stays, swept, swept_rooms}
+use Rattle.lb_limits.proofs.Keeps.{gone, reserved_stays, swept, swept_rooms}
 
 abbrev one_if : Bool → ℕ
 one_if b = cond b 1 0
@@ -70,10 +70,10 @@ module _ (reserved : List Addr) (moment : ℕ) (front : List Bucket) (b : Bucket
       each = all_without (IsBucket moment) front b back held.each;
     };
     passes = λ now le.
-        let none : late_passes now b ≡ [] = ap (λ (ms : List ℕ). map (pass_of b.source) ms) (gone reserved moment now b le here idle) in
-        flat_map-append (late_passes now) front back
+        let none : bucket_passes now b ≡ [] = ap (λ (ms : List ℕ). map (pass_of b.source) ms) (gone reserved moment now b le here idle) in
+        flat_map-append (bucket_passes now) front back
         ∙ ap (λ (ps : List Pass). held_at now front ++ (ps ++ held_at now back)) (sym none)
-        ∙ sym (flat_map-append (late_passes now) front (b ∷ back));
+        ∙ sym (flat_map-append (bucket_passes now) front (b ∷ back));
     live = λ now le.
         let none : one_if (is_live now b) ≡ 0 = ap (λ (ms : List ℕ). one_if (nat_lt 0 (length ms))) (gone reserved moment now b le here idle) in
         omega (arith, none, sum_by-append (λ c. cond (is_live now c) 1 0) front back, sum_round (λ c. cond (is_live now c) 1 0) front b back);

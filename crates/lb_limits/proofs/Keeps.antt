@@ -1,5 +1,5 @@
 -- Edits of buckets in order, and what they keep.
-use Rattle.std.proofs.Common.{◌≡◌, Bool, true, false, ◌||◌, ℕ, suc, ◌+◌, ◌-◌, ◌<◌, ◌≤◌, List, [], ◌∷◌, ◌++◌, length, get_or, set, map, take, drop, inl, inr, refl, sym, ◌∙◌, ap, arith, subst, cond, nat_lt, Contains, length-append, length-set}
+use Rattle.std.proofs.Common.{◌≡◌, Bool, true, false, ◌||◌, ℕ, suc, ◌+◌, ◌-◌, ◌<◌, ◌≤◌, List, [], ◌∷◌, ◌++◌, length, get_or, set, map, take, drop, inl, inr, refl, sym, ◌∙◌, ap, arith, subst, cond, nat_lt, Contains, length-append}
 use Rattle.std.specs.List.{filter, insert, list_any, All}
 use Rattle.std.specs.List.Sorted.{IsNonDecreasing}
 use Rattle.std.specs.declared.option.Option.TheVariants.{Some}
@@ -7,7 +7,6 @@ use Rattle.std.proofs.lemmas.Bool.{cases_Bool}
 use Rattle.std.proofs.lemmas.Bool.Decides.{nat_tests}
 use Rattle.std.proofs.lemmas.List.{take-append-drop}
 use Rattle.std.proofs.lemmas.List.Concat.{flat_map-append}
-use Rattle.std.proofs.lemmas.List.Edits.{length-insert}
 use Rattle.std.proofs.lemmas.List.Elements.{All-append, All-cons, All-take, All-drop, All-set, All-filter, All-get_or, All-push, Contains-get_or}
 use Rattle.std.proofs.lemmas.List.Kept.{AllPairs-filter, IsNonDecreasingBy-filter}
 use Rattle.std.proofs.lemmas.List.Sorted.{IsNonDecreasingBy-push}
@@ -19,7 +18,7 @@ use Rattle.lb_limits.specs.declared.pass.Pass.{Pass}
 use Rattle.lb_limits.specs.declared.bucket.Bucket.{Bucket}
 use Rattle.lb_limits.specs.Order.{same_addr}
 use Rattle.lb_limits.specs.Moments.{is_recent, recent_of, ends_recent}
-use Rattle.lb_limits.specs.Buckets.{Ascends, IsBucket, IsHeld, IsPlace, Keeps, is_below, begins, pass_of, late_passes, held_at, is_live, live_count, free_in, free_of, stays}
+use Rattle.lb_limits.specs.Buckets.{Ascends, IsBucket, IsHeld, IsPlace, Keeps, is_below, begins, pass_of, bucket_passes, held_at, is_live, live_count, free_in, free_of, stays}
 use Rattle.lb_limits.proofs.Keys.{same_decides}
 use Rattle.lb_limits.proofs.Recent.{filter_fewer, recent_twice, ends_tell, last_push, positive}
 use Rattle.lb_limits.proofs.Pairs.{pairs_insert}
@@ -47,10 +46,10 @@ module _ (moment : ℕ) (key : Addr) (place : ℕ) (bs : List Bucket) (b : Bucke
 
   opened_passes : (now : ℕ) → held_at now (insert bs place b) ≡ held_at now bs
   opened_passes now =
-      let none : late_passes now b ≡ [] = rw empty refl in
-      flat_map-append (late_passes now) (take place bs) (b ∷ drop place bs)
+      let none : bucket_passes now b ≡ [] = rw empty refl in
+      flat_map-append (bucket_passes now) (take place bs) (b ∷ drop place bs)
       ∙ ap (λ (ps : List Pass). held_at now (take place bs) ++ (ps ++ held_at now (drop place bs))) none
-      ∙ sym (flat_map-append (late_passes now) (take place bs) (drop place bs))
+      ∙ sym (flat_map-append (bucket_passes now) (take place bs) (drop place bs))
       ∙ ap (held_at now) (take-append-drop place bs)
 
   opened_live : (now : ℕ) → live_count now (insert bs place b) ≡ live_count now bs
@@ -91,11 +90,11 @@ widened moment place bs b d held lt source is same =
         each = All-set (IsBucket moment) bs place b is held.each;
       };
       passes = λ now le.
-          let late : late_passes now b ≡ late_passes now old = ap (λ (s : Addr). map (pass_of s) (recent_of now b.moments.items)) source ∙ ap (λ (ms : List ℕ). map (pass_of old.source) ms) (same now le) in
+          let late : bucket_passes now b ≡ bucket_passes now old = ap (λ (s : Addr). map (pass_of s) (recent_of now b.moments.items)) source ∙ ap (λ (ms : List ℕ). map (pass_of old.source) ms) (same now le) in
           ap (held_at now) (set_parts bs place b lt)
-          ∙ flat_map-append (late_passes now) (take place bs) (b ∷ drop (place + 1) bs)
+          ∙ flat_map-append (bucket_passes now) (take place bs) (b ∷ drop (place + 1) bs)
           ∙ ap (λ (ps : List Pass). held_at now (take place bs) ++ (ps ++ held_at now (drop (place + 1) bs))) late
-          ∙ sym (flat_map-append (late_passes now) (take place bs) (old ∷ drop (place + 1) bs))
+          ∙ sym (flat_map-append (bucket_passes now) (take place bs) (old ∷ drop (place + 1) bs))
           ∙ ap (held_at now) (sym (parts_of bs place d lt));
       live = λ now le.
           let here : one_if (is_live now b) ≡ one_if (is_live now old) = ap (λ (ms : List ℕ). one_if (nat_lt 0 (length ms))) (same now le) in
@@ -129,7 +128,7 @@ swept reserved moment bs held = record {
     order = AllPairs-filter (λ a c. is_below c.source a ≡ true) (stays reserved moment) bs held.order;
     each = All-filter (stays reserved moment) (IsBucket moment) bs held.each;
   };
-  passes = λ now le. flat_filter (IsBucket moment) (stays reserved moment) (late_passes now)
+  passes = λ now le. flat_filter (IsBucket moment) (stays reserved moment) (bucket_passes now)
       (λ b is goes. ap (λ (ms : List ℕ). map (pass_of b.source) ms) (gone reserved moment now b le is goes)) bs held.each;
   live = λ now le. sum_filter (IsBucket moment) (stays reserved moment) (λ b. cond (is_live now b) 1 0)
       (λ b is goes. ap (λ (ms : List ℕ). cond (nat_lt 0 (length ms)) 1 0) (gone reserved moment now b le is goes)) bs held.each;

@@ -18,7 +18,7 @@ use Rattle.lb_limits.specs.declared.bucket.Bucket.{Bucket}
 use Rattle.lb_limits.specs.Order.{cmp_addr, cmp_pass, is_before}
 use Rattle.lb_limits.specs.Window.{put_pass}
 use Rattle.lb_limits.specs.Moments.{is_recent, recent_of}
-use Rattle.lb_limits.specs.Buckets.{Ascends, IsBucket, IsHeld, is_below, pass_of, late_passes, held_at}
+use Rattle.lb_limits.specs.Buckets.{Ascends, IsBucket, IsHeld, is_below, pass_of, bucket_passes, held_at}
 use Rattle.lb_limits.proofs.Addresses.{less_exact, more_exact, equal_exact}
 use Rattle.lb_limits.proofs.Keys.{same_decides}
 use Rattle.lb_limits.proofs.Pairs.{pairs_head, pairs_tail, pairs_append, pairs_map, pairs_rise}
@@ -50,7 +50,7 @@ put_between p front back below above =
 all_held : (P : Pass → Type 0) (now : ℕ) (bs : List Bucket) → All (λ b. (m : ℕ) → P (pass_of b.source m)) bs → All P (held_at now bs)
 all_held P now [] all = All-nil P
 all_held P now (b ∷ bs) all =
-    All-append P (late_passes now b) (held_at now bs)
+    All-append P (bucket_passes now b) (held_at now bs)
     (All-map P (pass_of b.source) (recent_of now b.moments.items) (λ k d lt. All-head (λ (c : Bucket). (m : ℕ) → P (pass_of c.source m)) b bs all (get_or (recent_of now b.moments.items) k d)))
     (all_held P now bs (All-tail (λ (c : Bucket). (m : ℕ) → P (pass_of c.source m)) b bs all))
 
@@ -81,26 +81,26 @@ own_not_before a m n le =
 pub put_held : (now : ℕ) (front : List Bucket) (b c : Bucket) (back : List Bucket) → All (λ m. m ≤ now) b.moments.items → c.source ≡ b.source → c.moments.items ≡ b.moments.items ++ now ∷ [] → is_recent now now ≡ true → All (λ a. is_lt (cmp_addr a.source b.source) ≡ true) front → All (λ a. is_lt (cmp_addr b.source a.source) ≡ true) back → held_at now (front ++ c ∷ back) ≡ put_pass (pass_of b.source now) (held_at now (front ++ b ∷ back))
 put_held now front b c back past source items here below above =
     let p : Pass = pass_of b.source now in
-    let own : late_passes now c ≡ late_passes now b ++ p ∷ [] =
+    let own : bucket_passes now c ≡ bucket_passes now b ++ p ∷ [] =
     ap (λ (s : Addr). map (pass_of s) (recent_of now c.moments.items)) source
     ∙ ap (λ (ms : List ℕ). map (pass_of b.source) (recent_of now ms)) items
     ∙ ap (map (pass_of b.source)) (filter-append (is_recent now) b.moments.items (now ∷ []))
     ∙ map-append (pass_of b.source) (recent_of now b.moments.items) (recent_of now (now ∷ []))
-    ∙ ap (λ (t : Bool). late_passes now b ++ map (pass_of b.source) (cond t (now ∷ []) [])) here in
-    let before : held_at now (front ++ b ∷ back) ≡ (held_at now front ++ late_passes now b) ++ held_at now back =
-    flat_map-append (late_passes now) front (b ∷ back) ∙ sym (append_assoc (held_at now front) (late_passes now b) (held_at now back)) in
-    let after : held_at now (front ++ c ∷ back) ≡ (held_at now front ++ late_passes now b) ++ p ∷ held_at now back =
-    flat_map-append (late_passes now) front (c ∷ back)
+    ∙ ap (λ (t : Bool). bucket_passes now b ++ map (pass_of b.source) (cond t (now ∷ []) [])) here in
+    let before : held_at now (front ++ b ∷ back) ≡ (held_at now front ++ bucket_passes now b) ++ held_at now back =
+    flat_map-append (bucket_passes now) front (b ∷ back) ∙ sym (append_assoc (held_at now front) (bucket_passes now b) (held_at now back)) in
+    let after : held_at now (front ++ c ∷ back) ≡ (held_at now front ++ bucket_passes now b) ++ p ∷ held_at now back =
+    flat_map-append (bucket_passes now) front (c ∷ back)
     ∙ ap (λ (ps : List Pass). held_at now front ++ (ps ++ held_at now back)) own
-    ∙ ap (λ (ps : List Pass). held_at now front ++ ps) (append_assoc (late_passes now b) (p ∷ []) (held_at now back))
-    ∙ sym (append_assoc (held_at now front) (late_passes now b) (p ∷ held_at now back)) in
-    let low : All (λ q. is_before p q ≡ false) (held_at now front ++ late_passes now b) =
-    All-append (λ q. is_before p q ≡ false) (held_at now front) (late_passes now b)
+    ∙ ap (λ (ps : List Pass). held_at now front ++ ps) (append_assoc (bucket_passes now b) (p ∷ []) (held_at now back))
+    ∙ sym (append_assoc (held_at now front) (bucket_passes now b) (p ∷ held_at now back)) in
+    let low : All (λ q. is_before p q ≡ false) (held_at now front ++ bucket_passes now b) =
+    All-append (λ q. is_before p q ≡ false) (held_at now front) (bucket_passes now b)
     (all_held (λ q. is_before p q ≡ false) now front (λ k d lt m. more_not_before (get_or front k d).source b.source now m (below k d lt)))
     (All-map (λ q. is_before p q ≡ false) (pass_of b.source) (recent_of now b.moments.items)
     (λ k d lt. own_not_before b.source now (get_or (recent_of now b.moments.items) k d) (All-filter (is_recent now) (λ m. m ≤ now) b.moments.items past k d lt))) in
     let high : All (λ q. is_before p q ≡ true) (held_at now back) = all_held (λ q. is_before p q ≡ true) now back (λ k d lt m. less_before b.source (get_or back k d).source now m (above k d lt)) in
-    after ∙ sym (put_between p (held_at now front ++ late_passes now b) (held_at now back) low high) ∙ ap (put_pass p) (sym before)
+    after ∙ sym (put_between p (held_at now front ++ bucket_passes now b) (held_at now back) low high) ∙ ap (put_pass p) (sym before)
 
 -- the passes of buckets in order are in order
 ordered : (m now : ℕ) (bs : List Bucket) → Ascends bs → All (IsBucket m) bs → AllPairs (λ p q. is_before q p ≡ false) (held_at now bs)
@@ -108,7 +108,7 @@ ordered m now [] ascends each = λ i j d lt within. absurd (omega arith)
 ordered m now (b ∷ bs) ascends each =
     let is : IsBucket m b = All-head (IsBucket m) b bs each in
     let recent : List ℕ = recent_of now b.moments.items in
-    pairs_append (λ p q. is_before q p ≡ false) (late_passes now b) (held_at now bs)
+    pairs_append (λ p q. is_before q p ≡ false) (bucket_passes now b) (held_at now bs)
     (pairs_map (λ x y. x ≤ y) (λ p q. is_before q p ≡ false) (pass_of b.source) (λ x y le. own_not_before b.source y x le) recent
     (AllPairs-filter (λ x y. x ≤ y) (is_recent now) b.moments.items (pairs_rise b.moments.items is.order)))
     (ordered m now bs (pairs_tail (λ a c. is_below c.source a ≡ true) b bs ascends) (All-tail (IsBucket m) b bs each))

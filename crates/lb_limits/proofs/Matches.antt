@@ -1,18 +1,15 @@
 -- What a limiter tests, by what its buckets hold.
-use Rattle.std.proofs.Common.{◌≡◌, Bool, true, false, ◌||◌, ◌&&◌, ◌==◌, ℕ, ◌<◌, ◌≤◌, List, length, inl, inr, refl, sym, ◌∙◌, ap, arith, nat_le, subst}
+use Rattle.std.proofs.Common.{◌≡◌, Bool, true, false, ◌||◌, ◌&&◌, ◌==◌, ℕ, ◌<◌, ◌≤◌, List, inl, inr, refl, sym, ◌∙◌, ap, arith, nat_le, subst}
 use Rattle.std.proofs.lemmas.Bool.{cases_eq}
 use Rattle.std.proofs.lemmas.Bool.Decides.{nat_tests}
-use Rattle.std.proofs.lemmas.List.Sums.{length-filter}
 use Rattle.lb_wire.specs.declared.addr.Addr.{Addr}
 use Rattle.lb_limits.specs.declared.bucket.Bucket.{Bucket}
 use Rattle.lb_limits.specs.Window.{Limits, source_of, matches, in_window, live_of}
-use Rattle.lb_limits.specs.Moments.{is_recent, recent_of}
 use Rattle.lb_limits.specs.Buckets.{IsHeld, held_at, window_count}
 use Rattle.lb_limits.specs.Limiter.{IsLatest}
 use Rattle.lb_limits.specs.Ticks.{live_at}
-use Rattle.lb_limits.specs.declared.ticks.Tick.{Tick}
 use Rattle.lb_limits.specs.declared.ticks.Ticks.{Ticks}
-use Rattle.lb_limits.proofs.Changes.{left_or, right_or}
+use Rattle.lb_limits.proofs.Keeps.{left_or, right_or}
 use Rattle.lb_limits.proofs.Held.{window_held, live_held}
 
 -- where an address has passes that count, nobody asks how many others have
