@@ -17,7 +17,7 @@ use Rattle.lb_chain.specs.Listed.{as_new}
 use Rattle.lb_chain.specs.declared.rule.Rule.{Rule}
 use Rattle.lb_chain.specs.declared.numbered.Numbered.{Numbered}
 use Rattle.lb_chain.specs.Edits.{limiters_in, numbered_of, put_again}
-use Rattle.lb_chain.specs.Chain.{IsKept, IsChain, with_id}
+use Rattle.lb_chain.specs.Chain.{IsChainRule, IsChain, with_id}
 use Rattle.lb_chain.proofs.Sums.{all_insert, all_remove, sum_moved, limiters_at, limiters_sum}
 
 -- the limiters that are made for a term have its rates
@@ -42,11 +42,11 @@ abbrev pub has_id : ℕ → Numbered → ℕ
 has_id id n = cond (n.id.0 == id) 1 0
 
 -- a rule with the next number is put in
-pub kept_added : (last moment limiters : ℕ) (rules : List Numbered) (place : ℕ) (n : Numbered) → IsChain last moment limiters rules → place ≤ length rules → length rules < 4096 → limiters + length n.limits ≤ 16 → n.id.0 ≡ last + 1 → IsKept moment n → IsChain (last + 1) moment (limiters + length n.limits) (insert rules place n)
+pub kept_added : (last moment limiters : ℕ) (rules : List Numbered) (place : ℕ) (n : Numbered) → IsChain last moment limiters rules → place ≤ length rules → length rules < 4096 → limiters + length n.limits ≤ 16 → n.id.0 ≡ last + 1 → IsChainRule moment n → IsChain (last + 1) moment (limiters + length n.limits) (insert rules place n)
 kept_added last moment limiters rules place n chain at short few is kept =
     let counts : (id : ℕ) → with_id id (insert rules place n) ≡ with_id id rules + has_id id n = λ id. sum_by-insert (has_id id) rules place n in
     record {
-      each = all_insert (IsKept moment) rules place n chain.each kept;
+      each = all_insert (IsChainRule moment) rules place n chain.each kept;
       count = omega (arith, limiters_sum (insert rules place n), limiters_sum rules, sum_by-insert limiters_at rules place n, chain.count);
       few = few;
       once = λ id. elim (cases_Bool (n.id.0 == id)) [
@@ -83,7 +83,7 @@ kept_removed last moment limiters rules at n chain lt is =
     let counts : (id : ℕ) → with_id id (remove rules at) + has_id id (get_or rules at n) ≡ with_id id rules = λ id. sum_by-remove (has_id id) rules at n lt in
     let own : length n.limits ≡ limiters_at (get_or rules at n) = ap limiters_at is in
     record {
-      each = all_remove (IsKept moment) rules at chain.each;
+      each = all_remove (IsChainRule moment) rules at chain.each;
       count = omega (arith, limiters_sum (remove rules at), limiters_sum rules, sum_by-remove limiters_at rules at n lt, chain.count);
       few = omega (arith, chain.few);
       once = λ id. omega (arith, counts id, chain.once id);
@@ -98,7 +98,7 @@ kept_moved last moment limiters rules at place d chain lt to =
     let fits : place ≤ length (remove rules at) = omega (arith, length-remove rules at lt) in
     let counts : (id : ℕ) → with_id id (insert (remove rules at) place n) ≡ with_id id rules = λ id. sum_moved (has_id id) rules at place d lt in
     record {
-      each = all_insert (IsKept moment) (remove rules at) place n (all_remove (IsKept moment) rules at chain.each) (All-get_or (IsKept moment) rules at d lt chain.each);
+      each = all_insert (IsChainRule moment) (remove rules at) place n (all_remove (IsChainRule moment) rules at chain.each) (All-get_or (IsChainRule moment) rules at d lt chain.each);
       count = omega (arith, limiters_sum (insert (remove rules at) place n), limiters_sum rules, sum_moved limiters_at rules at place d lt, chain.count);
       few = chain.few;
       once = λ id. omega (arith, counts id, chain.once id);
@@ -106,7 +106,7 @@ kept_moved last moment limiters rules at place d chain lt to =
       short = omega (arith, length-insert (remove rules at) place n fits, length-remove rules at lt, chain.short);
     }
 
-later : (moment now : ℕ) → moment ≤ now → (n : Numbered) → IsKept moment n → IsKept now n
+later : (moment now : ℕ) → moment ≤ now → (n : Numbered) → IsChainRule moment n → IsChainRule now n
 later moment now le n kept = record {
   number = kept.number;
   own = kept.own;
@@ -117,7 +117,7 @@ later moment now le n kept = record {
 -- time goes on
 pub kept_later : (last moment now limiters : ℕ) (rules : List Numbered) → moment ≤ now → IsChain last moment limiters rules → IsChain last now limiters rules
 kept_later last moment now limiters rules le chain = record {
-  each = All-weaker (IsKept moment) (IsKept now) (later moment now le) rules chain.each;
+  each = All-weaker (IsChainRule moment) (IsChainRule now) (later moment now le) rules chain.each;
   count = chain.count;
   few = chain.few;
   once = chain.once;
@@ -133,17 +133,17 @@ pub record IsLike (now : ℕ) (a b : Numbered) : Type 0 where
   pub rates : map as_new b.limits ≡ map as_new a.limits
   pub moments : All (λ l. l.moment ≤ now) b.limits
 
-like_each : (moment now : ℕ) (old new : List Numbered) → All (IsKept moment) old → AllZip (IsLike now) old new → All (IsKept now) new
-like_each moment now [] [] each zip = All-nil (IsKept now)
+like_each : (moment now : ℕ) (old new : List Numbered) → All (IsChainRule moment) old → AllZip (IsLike now) old new → All (IsChainRule now) new
+like_each moment now [] [] each zip = All-nil (IsChainRule now)
 like_each moment now (a ∷ old) (b ∷ new) each zip =
-    let kept : IsKept moment a = All-head (IsKept moment) a old each in
-    let here : IsKept now b = record {
+    let kept : IsChainRule moment a = All-head (IsChainRule moment) a old each in
+    let here : IsChainRule now b = record {
       number = omega (arith, kept.number, ap (λ (id : RuleId). id.0) zip.0.id);
       own = zip.0.rates ∙ kept.own ∙ ap (λ (rule : Rule). new_limiters rule.term) (sym zip.0.rule);
       limiters = zip.0.limiters ∙ kept.limiters ∙ ap (λ (rule : Rule). limiters_of rule.term) (sym zip.0.rule);
       moments = zip.0.moments;
     } in
-    All-cons (IsKept now) b new here (like_each moment now old new (All-tail (IsKept moment) a old each) zip.1)
+    All-cons (IsChainRule now) b new here (like_each moment now old new (All-tail (IsChainRule moment) a old each) zip.1)
 like_each moment now [] (b ∷ new) each zip = absurd zip
 like_each moment now (a ∷ old) [] each zip = absurd zip
 
@@ -184,7 +184,7 @@ ArePast now n = All (λ l. l.moment ≤ now) n.limits
 -- no limiter is ahead of a later moment
 pub past_of : (last moment now limiters : ℕ) (rules : List Numbered) → moment ≤ now → IsChain last moment limiters rules → All (ArePast now) rules
 past_of last moment now limiters rules le chain =
-    All-weaker (IsKept now) (ArePast now) (λ n kept. kept.moments) rules (kept_later last moment now limiters rules le chain).each
+    All-weaker (IsChainRule now) (ArePast now) (λ n kept. kept.moments) rules (kept_later last moment now limiters rules le chain).each
 
 -- a rule is added, with new limiters
 pub kept_inserted : (last moment limiters count place : ℕ) (rules new : List Numbered) (rule : Rule) → IsChain last moment limiters rules → place ≤ length rules → length rules < 4096 → limiters + count ≤ 16 → count ≡ limiters_of rule.term → length (new_limiters rule.term) ≡ limiters_of rule.term → All (λ l. l.moment ≡ 0) (new_limiters rule.term) → new ≡ insert rules place (numbered_of (last + 1) rule) → IsChain (last + 1) moment (limiters + count) new
@@ -193,6 +193,6 @@ kept_inserted last moment limiters count place rules new rule chain at short few
     let sum : limiters + length n.limits ≡ limiters + count = omega arith in
     let past : All (λ l. l.moment ≤ moment) (new_limiters rule.term) =
     All-weaker (λ (l : Limits). l.moment ≡ 0) (λ (l : Limits). l.moment ≤ moment) (λ l zero. omega arith) (new_limiters rule.term) fresh in
-    let kept : IsKept moment n = record { number = omega arith; own = own_new rule.term; limiters = made; moments = past } in
+    let kept : IsChainRule moment n = record { number = omega arith; own = own_new rule.term; limiters = made; moments = past } in
     let whole : IsChain (last + 1) moment (limiters + length n.limits) (insert rules place n) = kept_added last moment limiters rules place n chain at short (omega arith) refl kept in
     subst (IsChain (last + 1) moment (limiters + count)) (sym is) (subst (λ (k : ℕ). IsChain (last + 1) moment k (insert rules place n)) sum whole)

@@ -8,7 +8,7 @@ use Rattle.lb_chain.specs.Listed.{HasOwnLimiters}
 
 -- a rule of a chain: it has a number from 1 on and a limiter for each rate of its term, with that rate, and none of them
 -- is ahead of the chain
-pub record IsKept (moment : ℕ) (n : Numbered) : Type 0 where
+pub record IsChainRule (moment : ℕ) (n : Numbered) : Type 0 where
   pub number : 1 ≤ n.id.0
   pub own : HasOwnLimiters n
   pub limiters : length n.limits ≡ limiters_of n.rule.term
@@ -18,9 +18,9 @@ pub record IsKept (moment : ℕ) (n : Numbered) : Type 0 where
 abbrev pub with_id : ℕ → List Numbered → ℕ
 with_id id rules = count_by (λ n. n.id.0 == id) rules
 
--- no number is there twice, and none is over the last one given
+-- a chain: each rule is as above, no number is there twice, and none is over the last one given
 pub record IsChain (last moment limiters : ℕ) (rules : List Numbered) : Type 0 where
-  pub each : All (IsKept moment) rules
+  pub each : All (IsChainRule moment) rules
   pub count : limiters_in rules ≡ limiters
   pub few : limiters ≤ 16
   pub once : (id : ℕ) → with_id id rules ≤ 1

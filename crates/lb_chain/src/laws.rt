@@ -1,4 +1,4 @@
-//! What holds of chains as they are seen at a moment.
+//! What holds of every walk, and of rules as they are listed and seen at a moment.
 
 ghost use Rattle.lb_chain.specs.Seen.{SeenWalks, SeenTwice};
 ghost use Rattle.lb_chain.specs.Listed.{ListedAlikeSeenAlike, SeenHaveOwnLimiters};
