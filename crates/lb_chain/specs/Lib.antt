@@ -1,3 +1,4 @@
+-- shared by several files: Seen
 pub use Rattle.lb_limits.specs.Window
 pub use Rattle.lb_terms.specs.Truth
 pub use Rattle.lb_terms.specs.Limiters

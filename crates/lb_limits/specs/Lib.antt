@@ -1,3 +1,4 @@
+-- shared by several files: Window
 pub use Rattle.lb_masks.specs.Mask
 pub mod Order
 pub mod Window

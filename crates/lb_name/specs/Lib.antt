@@ -1,3 +1,4 @@
+-- shared by several files: Reading
 pub mod Name
 pub mod Fault
 pub mod Reading

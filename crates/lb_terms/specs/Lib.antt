@@ -1,3 +1,4 @@
+-- shared by several files: Codes, Selector, Sets
 pub use Rattle.lb_name.specs.Name
 pub use Rattle.lb_masks.specs.Bits
 pub use Rattle.lb_masks.specs.Mask

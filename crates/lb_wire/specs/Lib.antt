@@ -1,3 +1,4 @@
+-- shared by several files: Message, Numbers
 pub use Rattle.lb_name.specs.Name
 pub use Rattle.lb_name.specs.Reading
 pub mod BigEndian
