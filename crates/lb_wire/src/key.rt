@@ -19,6 +19,18 @@ pub struct Key {
     pub octets: Octets,
 }
 
+impl Key {
+    /// An equal key. The one error is want of memory.
+    pub fn copy(&self, alloc: Global) -> Result<Key, AllocError>
+        ensures { IfOk result (λ copy. copy ≡ self.now) }
+    {
+        Ok(Key {
+            kind: self.kind,
+            octets: self.octets.copy(alloc)?,
+        })
+    }
+}
+
 /// Where the question name stands in a key: behind the header without its ID.
 const NAME_AT: usize = 10;
 

@@ -1,0 +1,2 @@
+pub mod FirstFree
+pub mod EntryAt

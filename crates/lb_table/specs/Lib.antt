@@ -1,0 +1,4 @@
+pub mod Fault
+pub mod Place
+pub mod Entry
+pub mod Table
