@@ -1,6 +1,6 @@
 //! Reading a query.
 
-ghost use Rattle.std.specs.Prelude.{◌≡◌, ◌≤◌, ◌++◌, length, drop, IfSome, IfNone};
+ghost use Rattle.std.specs.Prelude.{◌≡◌, ◌≤◌, ◌++◌, length, drop, IfOk, IfErr};
 ghost use Rattle.lb_wire.specs.Numbers.{query_fault_number};
 
 use crate::flags::Flags;
@@ -57,6 +57,7 @@ pub struct QueryView {
 ghost use Rattle.lb_wire.specs.Message.{Message, Lays, IsHeader, header_octets};
 ghost use Rattle.lb_wire.specs.Opt.{opts};
 ghost use Rattle.lb_wire.specs.Query.{Reads, view_of};
+ghost use Rattle.lb_wire.specs.declared.query.QueryFault.TheVariants.{Malformed};
 
 /// Reads a query. The faults are tested in their order: fewer than 12 octets are `Short`, QR 1 is `NotQuery`, and
 /// bytes without the layout of a query are `Malformed`: QDCOUNT 1, one question whose name has no pointer, as many
@@ -72,31 +73,32 @@ pub fn read_query(bytes: &[u8]) -> Result<QueryView, QueryFault>
     if header.flags.is_response() {
         return Err(QueryFault::NotQuery);
     }
-    match read_parts(bytes, header) {
-        Some(view) => Ok(view),
-        None => Err(QueryFault::Malformed),
-    }
+    read_parts(bytes, header)
 }
 
 /// Reads what stands behind the header of a query.
-fn read_parts(bytes: &[u8], header: Header) -> Option<QueryView>
+fn read_parts(bytes: &[u8], header: Header) -> Result<QueryView, QueryFault>
     requires fits { IsHeader header }
     requires parts { bytes.now ≡ header_octets header ++ drop 12 bytes.now }
     requires within { 12 ≤ length bytes.now }
-    ensures found { IfSome result (λ view. (m : Message) × Lays bytes.now m × (length (opts m.records) ≤ 1) × (m.header ≡ header) × (view ≡ view_of m)) }
-    ensures none { IfNone result ((m : Message) → Lays bytes.now m → length (opts m.records) ≤ 1 → ⊥) }
+    ensures found { IfOk result (λ view. (m : Message) × Lays bytes.now m × (length (opts m.records) ≤ 1) × (m.header ≡ header) × (view ≡ view_of m)) }
+    ensures none { IfErr result (λ fault. (fault ≡ Malformed) × ((m : Message) → Lays bytes.now m → length (opts m.records) ≤ 1 → ⊥)) }
 {
     // a law: the call does nothing
     labels_go_on();
     if header.questions != 1 {
-        return None;
+        return Err(QueryFault::Malformed);
     }
-    let (question, question_end) = read_question(bytes, HEADER_LEN)?;
-    let laid = lay(bytes, question_end, header)?;
+    let Some((question, question_end)) = read_question(bytes, HEADER_LEN) else {
+        return Err(QueryFault::Malformed);
+    };
+    let Some(laid) = lay(bytes, question_end, header) else {
+        return Err(QueryFault::Malformed);
+    };
     if laid.all.twice {
-        return None;
+        return Err(QueryFault::Malformed);
     }
-    Some(QueryView {
+    Ok(QueryView {
         id: header.id,
         flags: header.flags,
         name: question.name,

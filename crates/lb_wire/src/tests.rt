@@ -141,9 +141,10 @@ fn keys(rt: HostRuntime) -> Result<(), Fail> {
         let view = read_query(bytes.as_slice())?;
         let made = key_of(alloc, bytes.as_slice(), &view, kind)?;
         assert_eq!(rt; made.kind, kind);
-        let copy = made.octets.copy(alloc)?;
-        assert_eq!(rt; hex::encode(alloc, copy.as_slice())?.as_str(), key);
-        assert_eq!(rt; made.octets.into_vec().as_slice(), copy.as_slice());
+        let copy = made.copy(alloc)?;
+        assert_eq!(rt; copy.kind, kind);
+        assert_eq!(rt; hex::encode(alloc, copy.octets.as_slice())?.as_str(), key);
+        assert_eq!(rt; made.octets.into_vec().as_slice(), copy.octets.as_slice());
     }
     Ok(())
 }

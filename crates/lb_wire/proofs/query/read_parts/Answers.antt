@@ -11,32 +11,32 @@ use Rattle.lb_wire.proofs.Made.{not_twice}
 use Rattle.lb_wire.proofs.Tallies.{not_two}
 use Rattle.lb_wire.proofs.query.read_parts.Goals as goal
 
-pub returns-in_err-question-clause-none : goal.returns-in_err-question-clause-none
-returns-in_err-question-clause-none c = rw c.from_residual.ensures (λ m lays few. no_lays _ c.in_err-question.ensures.none m lays)
+pub returns-in_default-clause-none : goal.returns-in_default-clause-none
+returns-in_default-clause-none c = (refl, λ m lays few. no_lays _ c.in_default.ensures.none m lays)
 
-pub returns-in_err-laid-clause-none : goal.returns-in_err-laid-clause-none
-returns-in_err-laid-clause-none c =
-    let opens : Opens c.args.bytes.now c.args.header c.in_ok-question.question c.in_ok-question.question_end =
-    record { fits = c.requires.fits; front = c.requires.parts; asks = c.in_ok-question.ensures.found.0 } in
-    rw c.from_residual-in_err-laid.ensures (λ m lays few. c.in_err-laid.ensures.none m.records m.rest (opened c.labels_go_on.ensures _ _ _ _ m opens lays))
+pub returns-in_default-lay-clause-none : goal.returns-in_default-lay-clause-none
+returns-in_default-lay-clause-none c =
+    let opens : Opens c.args.bytes.now c.args.header c.in-Some.question c.in-Some.question_end =
+    record { fits = c.requires.fits; front = c.requires.parts; asks = c.in-Some.ensures.found.0 } in
+    (refl, λ m lays few. c.in_default-lay.ensures.none m.records m.rest (opened c.labels_go_on.ensures _ _ _ _ m opens lays))
 
 pub returns-then-laid-clause-none : goal.returns-then-laid-clause-none
-returns-then-laid-clause-none c = λ m lays few.
-    let opens : Opens c.args.bytes.now c.args.header c.in_ok-question.question c.in_ok-question.question_end =
-    record { fits = c.requires.fits; front = c.requires.parts; asks = c.in_ok-question.ensures.found.0 } in
-    let found = c.in_ok-laid.ensures.found in
+returns-then-laid-clause-none c =
+    let opens : Opens c.args.bytes.now c.args.header c.in-Some.question c.in-Some.question_end =
+    record { fits = c.requires.fits; front = c.requires.parts; asks = c.in-Some.ensures.found.0 } in
+    let found = c.in-Some-lay.ensures.found in
     let two : is_two (opts found.0) ≡ true = ap (λ (t : Tally). t.twice) (sym found.4) ∙ c.if-laid.true in
-    not_twice c.labels_go_on.ensures _ _ m (lays_there _ _ _ _ _ found.0 opens c.if-header-ne1.false found.2) two lays few
+    (refl, λ m lays few. not_twice c.labels_go_on.ensures _ _ m (lays_there _ _ _ _ _ found.0 opens c.if-header-ne1.false found.2) two lays few)
 
 pub returns-clause-found : goal.returns-clause-found
 returns-clause-found c =
-    let opens : Opens c.args.bytes.now c.args.header c.in_ok-question.question c.in_ok-question.question_end =
-    record { fits = c.requires.fits; front = c.requires.parts; asks = c.in_ok-question.ensures.found.0 } in
-    let q = c.in_ok-question.question in
-    let found = c.in_ok-laid.ensures.found in
+    let opens : Opens c.args.bytes.now c.args.header c.in-Some.question c.in-Some.question_end =
+    record { fits = c.requires.fits; front = c.requires.parts; asks = c.in-Some.ensures.found.0 } in
+    let q = c.in-Some.question in
+    let found = c.in-Some-lay.ensures.found in
     let m : Message = record { header = c.args.header; name = q.name; qtype = q.qtype; qclass = q.qclass; records = found.0; rest = found.1 } in
     let v : QueryView = view_of m in
     let one : is_two (opts found.0) ≡ false = ap (λ (t : Tally). t.twice) (sym found.4) ∙ c.if-laid.false in
     let opt = ap (λ (t : Tally). t.opt) found.4 in
-    let same = ap (λ (n : ℕ). record v { question_end = n; opt = c.in_ok-laid.laid.all.opt }) c.in_ok-question.ensures.found.1 ∙ ap (λ (o : Option Opt). record v { opt = o }) opt in
+    let same = ap (λ (n : ℕ). record v { question_end = n; opt = c.in-Some-lay.laid.all.opt }) c.in-Some.ensures.found.1 ∙ ap (λ (o : Option Opt). record v { opt = o }) opt in
     (m, lays_there _ _ _ _ _ found.0 opens c.if-header-ne1.false found.2, not_two (opts found.0) one, refl, same)
