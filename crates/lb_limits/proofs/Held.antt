@@ -14,7 +14,7 @@ use Rattle.lb_limits.specs.Window.{recent_passes, in_window, live_of}
 use Rattle.lb_limits.specs.Moments.{is_recent, recent_of}
 use Rattle.lb_limits.specs.Buckets.{pass_of, bucket_passes, held_at, window_in, window_count, is_live, live_count, Ascends, is_below}
 use Rattle.lb_limits.proofs.Addresses.{less_differs}
-use Rattle.lb_limits.proofs.Keys.{same_decides}
+use Rattle.lb_limits.proofs.PutKey.{same_decides}
 use Rattle.lb_limits.proofs.Recent.{recent_twice, positive}
 use Rattle.lb_limits.proofs.Pairs.{pairs_head, pairs_tail}
 

@@ -19,7 +19,7 @@ use Rattle.lb_limits.specs.declared.bucket.Bucket.{Bucket}
 use Rattle.lb_limits.specs.Order.{same_addr}
 use Rattle.lb_limits.specs.Moments.{is_recent, recent_of, ends_recent}
 use Rattle.lb_limits.specs.Buckets.{Ascends, IsBucket, IsHeld, IsPlace, Keeps, is_below, begins, pass_of, bucket_passes, held_at, is_live, live_count, free_in, free_of, stays}
-use Rattle.lb_limits.proofs.Keys.{same_decides}
+use Rattle.lb_limits.proofs.PutKey.{same_decides}
 use Rattle.lb_limits.proofs.Recent.{filter_fewer, recent_twice, ends_tell, last_push, positive}
 use Rattle.lb_limits.proofs.Pairs.{pairs_insert}
 use Rattle.lb_limits.proofs.Sums.{sum_filter, flat_filter, sum_round}

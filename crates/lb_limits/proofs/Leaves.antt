@@ -14,7 +14,7 @@ use Rattle.lb_limits.specs.Moments.{ends_recent}
 use Rattle.lb_limits.specs.Window.{max_live}
 use Rattle.lb_limits.specs.Buckets.{Ascends, IsBucket, IsHeld, IsIdleAt, IsRated, Keeps, Leaves, is_below, pass_of, bucket_passes, held_at, is_live, live_count, free_in, free_of, stays}
 use Rattle.lb_limits.proofs.Addresses.{less_differs_back}
-use Rattle.lb_limits.proofs.Keys.{same_decides}
+use Rattle.lb_limits.proofs.PutKey.{same_decides}
 use Rattle.lb_limits.proofs.Recent.{filter_fewer, ends_tell}
 use Rattle.lb_limits.proofs.Pairs.{all_front, all_back, pairs_head, pairs_tail, pairs_remove}
 use Rattle.lb_limits.proofs.Sums.{sum_none, sum_round}

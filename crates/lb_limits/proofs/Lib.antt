@@ -1,6 +1,6 @@
 pub mod Addresses
-pub mod Keys
-pub mod Late
+pub mod PutKey
+pub mod RecentPasses
 pub mod Pairs
 pub mod Recent
 pub mod Sums

@@ -13,7 +13,7 @@ use Rattle.lb_limits.specs.Order.{same_addr, cmp_addr}
 use Rattle.lb_limits.specs.Moments.{recent_of}
 use Rattle.lb_limits.specs.Buckets.{Ascends, IsPlace, is_below, begins, free_in, free_of, window_in, window_count}
 use Rattle.lb_limits.proofs.Addresses.{less_differs, less_differs_back, less_trans, behind}
-use Rattle.lb_limits.proofs.Keys.{same_decides}
+use Rattle.lb_limits.proofs.PutKey.{same_decides}
 use Rattle.lb_limits.proofs.Recent.{all_taken, all_dropped}
 use Rattle.lb_limits.proofs.Pairs.{pairs_head, pairs_back, pairs_cross, pairs_remove, pairs_insert}
 use Rattle.lb_limits.proofs.Sums.{sum_none, sum_round}

@@ -20,7 +20,7 @@ use Rattle.lb_limits.specs.Window.{put_pass}
 use Rattle.lb_limits.specs.Moments.{is_recent, recent_of}
 use Rattle.lb_limits.specs.Buckets.{Ascends, IsBucket, IsHeld, is_below, pass_of, bucket_passes, held_at}
 use Rattle.lb_limits.proofs.Addresses.{less_exact, more_exact, equal_exact}
-use Rattle.lb_limits.proofs.Keys.{same_decides}
+use Rattle.lb_limits.proofs.PutKey.{same_decides}
 use Rattle.lb_limits.proofs.Pairs.{pairs_head, pairs_tail, pairs_append, pairs_map, pairs_rise}
 
 -- the place of a pass is the first of those that it stands before, or the end

@@ -1,4 +1,4 @@
-use Rattle.lb_limits.proofs.Keys.{put_contains}
+use Rattle.lb_limits.proofs.PutKey.{put_contains}
 use Rattle.lb_limits.proofs.laws.put_is_there.Goals as goal
 
 pub returns : goal.returns

@@ -1,4 +1,4 @@
-use Rattle.lb_limits.proofs.Late.{recent_twice}
+use Rattle.lb_limits.proofs.RecentPasses.{recent_twice}
 use Rattle.lb_limits.proofs.laws.recent_twice.Goals as goal
 
 pub returns : goal.returns

@@ -1,4 +1,4 @@
-use Rattle.lb_limits.proofs.Late.{same_matches}
+use Rattle.lb_limits.proofs.RecentPasses.{same_matches}
 use Rattle.lb_limits.proofs.laws.reserving_keeps_matches.Goals as goal
 
 pub returns : goal.returns

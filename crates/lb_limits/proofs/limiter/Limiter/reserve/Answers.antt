@@ -4,7 +4,7 @@ use Rattle.lb_limits.specs.declared.bucket.Bucket.{Bucket}
 use Rattle.lb_limits.specs.Window.{Limits, reserved_at}
 use Rattle.lb_limits.specs.Buckets.{Keeps, Leaves, held_at, many}
 use Rattle.lb_limits.specs.Limiter.{IsLimiter}
-use Rattle.lb_limits.proofs.Keys.{put_contains}
+use Rattle.lb_limits.proofs.PutKey.{put_contains}
 use Rattle.lb_limits.proofs.Limiters.{view_of, live_few, left_limiter, early_limiter, refused_limiter, reserved_limiter, reserved_is, keeps_then}
 use Rattle.lb_limits.proofs.limiter.Limiter.reserve.Goals as goal
 
