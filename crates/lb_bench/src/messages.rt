@@ -5,9 +5,7 @@ ghost use Rattle.std.specs.List.{AllByRecursion};
 ghost use Rattle.lb_wire.specs.Message.{Message, Lays};
 ghost use Rattle.lb_wire.specs.Aging.{Outlives};
 
-use lb_wire::{
-    Kind, Rcode, age, answer_in_place, key_of, least_is_outlived, read_query, survey,
-};
+use lb_wire::{Kind, Rcode, age, answer_in_place, key_of, least_is_outlived, read_query, survey};
 use std::alloc::{AllocError, Global};
 use std::io;
 use std::time::Instant;
