@@ -1,5 +1,5 @@
 -- The flags of a message (RFC 1035 section 4.1.1; CD by RFC 4035 section 3.2.2).
-use Rattle.std.specs.Prelude.{ℕ, ◌+◌, ◌*◌, ◌/◌, ◌%◌, ◌^◌}
+use Rattle.std.specs.Prelude.{ℕ, ◌+◌, ◌-◌, ◌*◌, ◌/◌, ◌%◌, ◌^◌}
 
 -- what each field counts for: the value of its last bit
 abbrev pub qr : ℕ
@@ -44,3 +44,7 @@ cd_of flags = flags / cd % 2
 -- stated RCODE
 abbrev pub answer_flags : ℕ → ℕ → ℕ → ℕ
 answer_flags flags truncated rcode = qr + opcode_of flags * opcode_unit + truncated * tc + rd_of flags * (rd + ra) + cd_of flags * cd + rcode
+
+-- the flags with RD 0, and every other bit as it is
+abbrev pub without_rd : ℕ → ℕ
+without_rd flags = flags - rd_of flags * rd

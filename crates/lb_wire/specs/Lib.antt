@@ -16,3 +16,4 @@ pub mod Answer
 pub mod Reply
 pub mod Aging
 pub mod Key
+pub mod Belongs

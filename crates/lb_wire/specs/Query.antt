@@ -1,6 +1,7 @@
 -- The layout of a query (RFC 1035 section 4.1, RFC 6891 section 6.1.1), and what bytes read as.
-use Rattle.std.specs.Prelude.{◌≡◌, ℕ, ◌+◌, ◌<◌, ◌≤◌, ◌^◌, List, length, Result, Ok, Err}
-use Rattle.lb_wire.specs.BigEndian.{number_at}
+use Rattle.std.specs.Prelude.{◌≡◌, ℕ, ◌+◌, ◌<◌, ◌≤◌, ◌^◌, List, ◌++◌, length, take, drop, Result, Ok, Err}
+use Rattle.lb_wire.specs.BigEndian.{number_at, two_octets}
+use Rattle.lb_wire.specs.Flags.{without_rd}
 use Rattle.lb_wire.specs.Message.{Message, Lays, question_octets}
 use Rattle.lb_wire.specs.Opt.{opts, first_opt}
 use Rattle.lb_wire.specs.declared.query.QueryView.{QueryView}
@@ -31,6 +32,10 @@ Reads bytes (Ok view) = (m : Message) × Lays bytes m × IsQuery m × (view ≡ 
 Reads bytes (Err faults.Short) = length bytes < 12
 Reads bytes (Err faults.NotQuery) = (12 ≤ length bytes) × (2 ^ 15 ≤ number_at bytes 2)
 Reads bytes (Err faults.Malformed) = (12 ≤ length bytes) × (number_at bytes 2 < 2 ^ 15) × ((m : Message) → Lays bytes m → IsQuery m → ⊥)
+
+-- the octets of a message with RD 0, and every other bit as it is
+abbrev pub without_recursion : List ℕ → List ℕ
+without_recursion bytes = take 2 bytes ++ (two_octets (without_rd (number_at bytes 2)) ++ drop 4 bytes)
 
 -- bytes read in at most one way
 abbrev pub OneReading : Type 0

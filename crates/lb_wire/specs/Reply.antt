@@ -1,5 +1,6 @@
 -- Replies (RFC 1035 section 4.1): their header and question, and how long their records live.
-use Rattle.std.specs.Prelude.{◌≡◌, ℕ, ◌<◌, ◌≤◌, ◌^◌, List, length, take, drop, Option, None, Some, Result, Ok, Err, ◌==◌}
+use Rattle.std.specs.Prelude.{◌≡◌, ℕ, ◌+◌, ◌<◌, ◌≤◌, ◌^◌, List, ◌++◌, length, take, drop, Option, None, Some, Result, Ok, Err, ◌==◌}
+use Rattle.lb_name.specs.Name.{wire_of}
 use Rattle.lb_wire.specs.BigEndian.{number_at}
 use Rattle.lb_wire.specs.Flags.{opcode_of, tc_of, rcode_of}
 use Rattle.lb_wire.specs.Numbers.{opcode_number, rcode_number}
@@ -42,3 +43,15 @@ survey_of m = record { least_all = least_ttl m.records; least_answer = least_ttl
 abbrev pub Surveys : List ℕ → Option Survey → Type 0
 Surveys bytes (Some survey) = (m : Message) × Lays bytes m × (survey ≡ survey_of m)
 Surveys bytes None = (m : Message) → Lays bytes m → ⊥
+
+-- the octets with another spelling of the question name, of the same length, in place of the one behind the header
+abbrev pub respelled : List (List ℕ) → List ℕ → List ℕ
+respelled name bytes = take 12 bytes ++ (wire_of name ++ drop (12 + length (wire_of name)) bytes)
+
+-- bytes read as a reply in at most one way
+abbrev pub OneReplyReading : Type 0
+OneReplyReading = (bytes : List ℕ) (a b : Result ReplyView ReplyFault) → ReadsReply bytes a → ReadsReply bytes b → a ≡ b
+
+-- bytes have at most one survey
+abbrev pub OneSurvey : Type 0
+OneSurvey = (bytes : List ℕ) (a b : Option Survey) → Surveys bytes a → Surveys bytes b → a ≡ b

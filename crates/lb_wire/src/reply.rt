@@ -54,7 +54,7 @@ pub struct ReplyView {
     pub question: Option<Question>,
 }
 
-ghost use Rattle.lb_wire.specs.Reply.{ReadsReply, Surveys};
+ghost use Rattle.lb_wire.specs.Reply.{ReadsReply, Surveys, respelled};
 ghost use Rattle.lb_wire.specs.Question.{Asks};
 
 /// Reads the header and the question of a reply. The faults are tested in their order: fewer than 12 octets are
@@ -120,7 +120,8 @@ pub fn restore_id(bytes: &mut [u8], id: u16)
 /// to case. No more is asked for: what stands behind the question may be cut off or miscounted, and stays as it is.
 pub fn respell(bytes: &mut [u8], name: &Name)
     requires { (q : Question) × (rest : List ℕ) × Asks (drop 12 bytes.old) q rest × IsSame q.name name.now }
-    ensures { (q : Question) (rest : List ℕ) → Asks (drop 12 bytes.old) q rest → IsSame q.name name.now → bytes.new ≡ take 12 bytes.old ++ (question_octets name.now q.qtype q.qclass ++ rest) }
+    ensures parts { (q : Question) (rest : List ℕ) → Asks (drop 12 bytes.old) q rest → IsSame q.name name.now → bytes.new ≡ take 12 bytes.old ++ (question_octets name.now q.qtype q.qclass ++ rest) }
+    ensures octets { bytes.new ≡ respelled name.now bytes.old }
 {
     overwrite(bytes, HEADER_LEN, name.as_wire());
 }

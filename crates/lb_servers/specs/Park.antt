@@ -1,0 +1,81 @@
+-- The table of servers and pools, and its edits.
+use Rattle.std.specs.Prelude.{ℕ, ◌+◌, ◌^◌, Bool, true, false, not, ◌==◌, nat_le, List, [], ◌∷◌, ◌++◌, length, Option, None, Some, is_some, Result, Ok, Err, slice_get, if◌then◌else◌}
+use Rattle.std.specs.List.{filter, list_any}
+use Rattle.lb_wire.specs.declared.ids.PoolId.{PoolId}
+use Rattle.lb_wire.specs.declared.ids.ServerId.{ServerId}
+use Rattle.lb_servers.specs.declared.fault.ParkFault.{ParkFault}
+use Rattle.lb_servers.specs.declared.fault.ParkFault.TheVariants as faults
+use Rattle.lb_servers.specs.declared.pool.PoolName.{PoolName}
+use Rattle.lb_servers.specs.declared.pool.PoolName.TheVariants as names
+use Rattle.lb_servers.specs.declared.pool.Pool.{Pool}
+use Rattle.lb_servers.specs.declared.server.Loaded.{Loaded}
+use Rattle.lb_servers.specs.declared.spec.ServerSpec.{ServerSpec}
+use Rattle.lb_servers.specs.Pool.{change_at, is_named, new_pool}
+use Rattle.lb_servers.specs.Server.{change_server, is_server, server_named}
+use Rattle.lb_servers.specs.Spec.{lacks_pool, new_server, stated_pools}
+
+-- the next server number (2^64 once all are given), the servers by number, each with how many queries it has
+-- outstanding, and the pools by number, which is their place: the default pool is the first
+pub record Backends : Type 0 where
+  pub next : ℕ
+  pub servers : List Loaded
+  pub pools : List Pool
+
+-- at first: no server, and the default pool
+abbrev pub no_backends : Backends
+no_backends = record { next = 1; servers = []; pools = new_pool names.Default ∷ [] }
+
+-- the most servers, and the most pools, the default one counted
+abbrev pub max_servers : ℕ
+max_servers = 256
+
+abbrev pub max_pools : ℕ
+max_pools = 64
+
+-- a pool added behind the others: the refusals in their order, and else the table with it and its number
+abbrev pub added_pool : Bool → Backends → PoolName → Backends × Result PoolId ParkFault
+added_pool lacking park name =
+    if list_any (is_named name) park.pools then (park, Err faults.NameTaken)
+    else (if nat_le max_pools (length park.pools) then (park, Err faults.TooMany)
+    else (if lacking then (park, Err faults.NoMemory)
+    else (record park { pools = park.pools ++ new_pool name ∷ [] }, Ok (record { 0 = length park.pools }))))
+
+-- a server added behind the others: the refusals in their order, and else the table with it and its number
+abbrev pub added_server : Bool → Backends → ServerSpec → Backends × Result ServerId ParkFault
+added_server lacking park spec =
+    if lacks_pool park.pools (stated_pools spec.pools) then (park, Err faults.NoSuchPool)
+    else (if is_some (server_named park.servers spec.name) then (park, Err faults.NameTaken)
+    else (if nat_le max_servers (length park.servers) then (park, Err faults.TooMany)
+    else (if park.next == 2 ^ 64 then (park, Err faults.NoMoreIds)
+    else (if lacking then (park, Err faults.NoMemory)
+    else (record park { next = park.next + 1; servers = park.servers ++ new_server park.next park.pools spec ∷ [] }, Ok (record { 0 = park.next }))))))
+
+-- the table without the server of a number
+abbrev pub removed_server : Backends → ServerId → Backends × Result (Unit {0}) ParkFault
+removed_server park id =
+    if list_any (is_server id) park.servers then (record park { servers = filter (λ l. not (is_server id l)) park.servers }, Ok tt)
+    else (park, Err faults.NoSuchServer)
+
+-- the table with the server of a number changed
+abbrev pub changed_server : (Loaded → Loaded) → Backends → ServerId → Backends × Result (Unit {0}) ParkFault
+changed_server change park id =
+    if list_any (is_server id) park.servers then (record park { servers = change_server id change park.servers }, Ok tt)
+    else (park, Err faults.NoSuchServer)
+
+-- the table with the pool of a number changed
+abbrev pub changed_pool : (Pool → Pool) → Backends → PoolId → Backends × Result (Unit {0}) ParkFault
+changed_pool change park pool =
+    if is_some (slice_get park.pools pool.0) then (record park { pools = change_at change pool.0 park.pools }, Ok tt)
+    else (park, Err faults.NoSuchPool)
+
+-- the table with the server, or the pool, of a number changed, where it is there
+abbrev pub with_server : (Loaded → Loaded) → ServerId → Backends → Backends
+with_server change id park = record park { servers = change_server id change park.servers }
+
+abbrev pub with_pool : (Pool → Pool) → PoolId → Backends → Backends
+with_pool change pool park = record park { pools = change_at change pool.0 park.pools }
+
+-- whether an edit was refused for want of memory
+abbrev pub lacks : {A : Type 0} → Result A ParkFault → Bool
+lacks (Err faults.NoMemory) = true
+lacks _ = false

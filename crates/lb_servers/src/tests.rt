@@ -1,0 +1,1 @@
+//! Servers and pools, by values worked out by hand.
