@@ -1,33 +1,126 @@
 -- What a command does to the plain state, and its answer.
-use Rattle.std.specs.Prelude.{ℕ, Bool, List, length, Option, Some, None, Result, Ok, Err}
-use Rattle.lb_chain.specs.declared.numbered.Numbered.{Numbered}
+use Rattle.std.specs.Prelude.{◌≡◌, ℕ, Bool, false, List, length, Option, Some, None, option_map, Result, Ok, Err}
+use Rattle.lb_wire.specs.declared.ids.PoolId.{PoolId}
+use Rattle.lb_wire.specs.declared.ids.ServerId.{ServerId}
+use Rattle.lb_wire.specs.declared.ids.RuleId.{RuleId}
+use Rattle.lb_chain.specs.declared.action.Action.{Action}
+use Rattle.lb_chain.specs.declared.action.Action.TheVariants as actions
 use Rattle.lb_chain.specs.declared.fault.ChainFault.{ChainFault}
+use Rattle.lb_chain.specs.declared.numbered.Numbered.{Numbered}
+use Rattle.lb_chain.specs.declared.rule.Rule.{Rule}
 use Rattle.lb_chain.specs.Edits.{Rules, added, removed, moved}
-use Rattle.lb_core.specs.declared.event.Command.{Command}
-use Rattle.lb_core.specs.declared.event.Command.TheVariants.{RuleAdd, RuleRemove, RuleMove}
+use Rattle.lb_servers.specs.declared.fault.ParkFault.{ParkFault}
+use Rattle.lb_servers.specs.declared.fault.ParkFault.TheVariants as park_faults
+use Rattle.lb_servers.specs.declared.pool.PoolName.{PoolName}
+use Rattle.lb_servers.specs.Park.{Backends, added_pool, added_server, changed_pool, changed_server, removed_server}
+use Rattle.lb_servers.specs.Pool.{pool_named, with_policy}
+use Rattle.lb_servers.specs.Server.{server_named, with_mode}
+use Rattle.lb_core.specs.declared.command.StatedAction.{StatedAction}
+use Rattle.lb_core.specs.declared.command.StatedAction.TheVariants as stated
+use Rattle.lb_core.specs.declared.command.StatedRule.{StatedRule}
+use Rattle.lb_core.specs.declared.command.Command.{Command}
+use Rattle.lb_core.specs.declared.command.Command.TheVariants.{RuleAdd, RuleRemove, RuleMove, ServerAdd, ServerRemove, ServerMode, PoolAdd, PoolPolicy}
 use Rattle.lb_core.specs.declared.answer.Answer.{Answer}
 use Rattle.lb_core.specs.declared.answer.Answer.TheVariants.{Edited, Refused}
 use Rattle.lb_core.specs.declared.answer.Note.{Note}
-use Rattle.lb_core.specs.declared.answer.Note.TheVariants.{RuleAdded, RuleRemoved, RuleMoved}
-use Rattle.lb_core.specs.declared.answer.EditFault.TheVariants.{Rules as RulesFault}
-use Rattle.lb_core.specs.Plain.{Plain, plain_of, chain_of}
-
--- the answer to an edit of the chain
-abbrev pub told : {A : Type 0} → (A → Note) → Result A ChainFault → Answer
-told note (Ok x) = Edited (note x)
-told note (Err fault) = Refused (RulesFault fault)
-
--- what an edit of the chain leaves and answers
-abbrev pub edited : {A : Type 0} → ℕ → (A → Note) → Rules × Result A ChainFault → Plain × Answer
-edited moment note done = (plain_of moment done.0, told note done.1)
+use Rattle.lb_core.specs.declared.answer.Note.TheVariants as notes
+use Rattle.lb_core.specs.declared.answer.EditFault.TheVariants as faults
+use Rattle.lb_core.specs.Plain.{Plain, chain_of, with_chain, upstreams_of, with_upstreams}
+use Rattle.lb_core.specs.Upstream.{Upstreams, backends_of, with_backends}
 
 -- the place that a rule is added at: where none is stated, behind the others
 abbrev pub place_or_end : Option ℕ → List Numbered → ℕ
 place_or_end None rules = length rules
 place_or_end (Some place) rules = place
 
+-- an action, its pool by the number that its name has; None where the pool is not there
+abbrev pub action_by : (PoolName → Option PoolId) → StatedAction → Option Action
+action_by number stated.Allow = Some actions.Allow
+action_by number stated.Drop = Some actions.Drop
+action_by number (stated.Rcode rcode) = Some (actions.Rcode rcode)
+action_by number (stated.Pool name) = option_map actions.Pool (number name)
+action_by number stated.Tc = Some actions.Tc
+action_by number (stated.Spoof addrs) = Some (actions.Spoof addrs)
+action_by number stated.None = Some actions.None
+action_by number stated.NoRecurse = Some actions.NoRecurse
+action_by number stated.SkipCache = Some actions.SkipCache
+
+abbrev pub rule_by : (PoolName → Option PoolId) → StatedRule → Option Rule
+rule_by number rule = option_map (λ action. record { term = rule.term; action = action }) (action_by number rule.action)
+
+-- the answer to an edit of the chain, and to one of the servers and pools
+abbrev pub rules_told : {A : Type 0} → (A → Note) → Result A ChainFault → Answer
+rules_told note (Ok x) = Edited (note x)
+rules_told note (Err fault) = Refused (faults.Rules fault)
+
+abbrev pub servers_told : {A : Type 0} → (A → Note) → Result A ParkFault → Answer
+servers_told note (Ok x) = Edited (note x)
+servers_told note (Err fault) = Refused (faults.Servers fault)
+
+-- what an edit of the chain leaves and answers
+abbrev pub rules_edited : {A : Type 0} → (A → Note) → Plain → Rules × Result A ChainFault → Plain × Answer
+rules_edited note plain done = (with_chain done.0 plain, rules_told note done.1)
+
+-- what an edit of the servers and pools leaves and answers
+abbrev pub upstream_edited : {A : Type 0} → (A → Note) → Upstreams → Backends × Result A ParkFault → Upstreams × Answer
+upstream_edited note ups done = (with_backends done.0 ups, servers_told note done.1)
+
+-- a pool, or a server, that is named and not there: that comes before every other refusal
+abbrev pub no_such_pool : Answer
+no_such_pool = Refused (faults.Servers park_faults.NoSuchPool)
+
+abbrev pub no_such_server : Answer
+no_such_server = Refused (faults.Servers park_faults.NoSuchServer)
+
+-- a rule added, its pool being there or not
+abbrev pub rule_added : Bool → Plain → Option ℕ → Option Rule → Plain × Answer
+rule_added mark plain place None = (plain, no_such_pool)
+rule_added mark plain place (Some rule) = rules_edited notes.RuleAdded plain (added mark (chain_of plain) (place_or_end place plain.rules) rule)
+
+-- a server removed or put into a mode, and a pool given a policy, by the number that the name has
+abbrev pub server_edited : (ServerId → Note) → (Backends → ServerId → Backends × Result (Unit {0}) ParkFault) → Upstreams → Option ServerId → Upstreams × Answer
+server_edited note edit ups None = (ups, no_such_server)
+server_edited note edit ups (Some id) = upstream_edited (λ _. note id) ups (edit (backends_of ups) id)
+
+abbrev pub pool_edited : Note → (Backends → PoolId → Backends × Result (Unit {0}) ParkFault) → Upstreams → Option PoolId → Upstreams × Answer
+pool_edited note edit ups None = (ups, no_such_pool)
+pool_edited note edit ups (Some pool) = upstream_edited (λ _. note) ups (edit (backends_of ups) pool)
+
+-- the plain state with what stands upstream changed
+abbrev pub upstream_changed : Plain → Upstreams × Answer → Plain × Answer
+upstream_changed plain done = (with_upstreams done.0 plain, done.1)
+
+-- the servers of what stands upstream, by name
+abbrev pub server_by : Upstreams → List ℕ → Option ServerId
+server_by ups name = server_named (backends_of ups).servers name
+
 -- what a command leaves and answers, where memory is wanting or not
 abbrev pub edit_of : Bool → Plain → Command → Plain × Answer
-edit_of mark plain (RuleAdd place rule) = edited plain.moment RuleAdded (added mark (chain_of plain) (place_or_end place plain.rules) rule)
-edit_of mark plain (RuleRemove id) = edited plain.moment (λ _. RuleRemoved id) (removed (chain_of plain) id)
-edit_of mark plain (RuleMove id place) = edited plain.moment (λ _. RuleMoved id) (moved mark (chain_of plain) id place)
+edit_of mark plain (RuleAdd place rule) = rule_added mark plain place (rule_by (pool_named plain.pools) rule)
+edit_of mark plain (RuleRemove id) = rules_edited (λ _. notes.RuleRemoved id) plain (removed (chain_of plain) id)
+edit_of mark plain (RuleMove id place) = rules_edited (λ _. notes.RuleMoved id) plain (moved mark (chain_of plain) id place)
+edit_of mark plain (ServerAdd spec) = upstream_changed plain (upstream_edited notes.ServerAdded (upstreams_of plain) (added_server mark (backends_of (upstreams_of plain)) spec))
+edit_of mark plain (ServerRemove name) = upstream_changed plain (server_edited notes.ServerRemoved removed_server (upstreams_of plain) (server_by (upstreams_of plain) name))
+edit_of mark plain (ServerMode name mode) = upstream_changed plain (server_edited (λ id. notes.ServerMode id mode) (changed_server (with_mode mode)) (upstreams_of plain) (server_by (upstreams_of plain) name))
+edit_of mark plain (PoolAdd name) = upstream_changed plain (upstream_edited (λ _. notes.PoolAdded name) (upstreams_of plain) (added_pool mark (backends_of (upstreams_of plain)) name))
+edit_of mark plain (PoolPolicy name policy) = upstream_changed plain (pool_edited (notes.PoolPolicy name policy) (changed_pool (with_policy policy)) (upstreams_of plain) (pool_named plain.pools name))
+
+-- the command is carried out where no memory is wanting
+abbrev pub Succeeds : Plain → Command → Type 0
+Succeeds plain command = (note : Note) × ((edit_of false plain command).1 ≡ Edited note)
+
+-- an edit of what stands upstream is carried out where no memory is wanting
+abbrev pub Lacks : (Bool → Upstreams × Answer) → Type 0
+Lacks edit = (note : Note) × ((edit false).1 ≡ Edited note)
+
+-- the commands at which memory may be wanting: an added or moved rule, an added server and an added pool that no other
+-- refusal meets
+abbrev pub MayLackAt : Plain → Command → Type 0
+MayLackAt plain (RuleAdd place rule) = Succeeds plain (RuleAdd place rule)
+MayLackAt plain (RuleMove id place) = Succeeds plain (RuleMove id place)
+MayLackAt plain (ServerAdd spec) = Succeeds plain (ServerAdd spec)
+MayLackAt plain (PoolAdd name) = Succeeds plain (PoolAdd name)
+MayLackAt plain (RuleRemove id) = ⊥
+MayLackAt plain (ServerRemove name) = ⊥
+MayLackAt plain (ServerMode name mode) = ⊥
+MayLackAt plain (PoolPolicy name policy) = ⊥

@@ -1,4 +1,4 @@
--- shared by several files: Plain, Step
+-- shared by several files: Plain, Reading, Routes, Step
 pub use Rattle.lb_name.specs.Name
 pub use Rattle.lb_wire.specs.BigEndian
 pub use Rattle.lb_wire.specs.Numbers
@@ -6,12 +6,30 @@ pub use Rattle.lb_wire.specs.Flags
 pub use Rattle.lb_wire.specs.Record
 pub use Rattle.lb_wire.specs.Opt
 pub use Rattle.lb_wire.specs.Message
-pub use Rattle.lb_wire.specs.Query
-pub use Rattle.lb_wire.specs.Answer
+pub use Rattle.lb_wire.specs.Question
+pub use Rattle.lb_wire.specs.Query as WireQuery
+pub use Rattle.lb_wire.specs.Answer as MadeAnswer
+pub use Rattle.lb_wire.specs.Reply as WireReply
+pub use Rattle.lb_wire.specs.Belongs
 pub use Rattle.lb_chain.specs.Walk
 pub use Rattle.lb_chain.specs.Edits
 pub use Rattle.lb_chain.specs.Counting
 pub use Rattle.lb_chain.specs.Seen
+pub use Rattle.lb_servers.specs.Pool
+pub use Rattle.lb_servers.specs.Server
+pub use Rattle.lb_servers.specs.Pick
+pub use Rattle.lb_servers.specs.Park
+pub use Rattle.lb_table.specs.Place
+pub use Rattle.lb_table.specs.Entry
+pub use Rattle.lb_table.specs.Table
+pub mod Answer
+pub mod Upstream
 pub mod Plain
+pub mod Forward
+pub mod Query
+pub mod Reply
 pub mod Edit
+pub mod Reading
+pub mod Routes
 pub mod Step
+pub mod Runs

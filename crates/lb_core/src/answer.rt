@@ -1,7 +1,8 @@
 //! What the balancer answers.
 
 use lb_chain::ChainFault;
-use lb_wire::{Octets, RuleId};
+use lb_servers::{Mode, ParkFault, Policy, PoolName};
+use lb_wire::{Kept, Lane, Octets, Origin, RuleId, ServerId};
 use thiserror::Error;
 
 /// The answer to one event.
@@ -11,6 +12,12 @@ pub enum Answer {
     Dropped(DropReason),
     /// The balancer answers the query by itself, with these octets.
     Local(Octets, LocalReason),
+    /// The query is sent to this server, by this upstream socket, under this ID, in these octets.
+    Forward(ServerId, Lane, u16, Octets),
+    /// The reply goes to the client that asked, in these octets; whether it is kept in a cache.
+    Deliver(Origin, Octets, Kept),
+    /// The reply is of no use, and changes nothing.
+    Ignored(IgnoreReason),
     /// The command was carried out.
     Edited(Note),
     /// The command was refused, and nothing but the moment changed.
@@ -26,8 +33,8 @@ pub enum DropReason {
     Short,
     /// It is a response.
     NotQuery,
-    /// A rule says so.
-    Rule,
+    /// The rule with this number says so.
+    Rule(RuleId),
 }
 
 /// Why the balancer answers a query by itself.
@@ -37,14 +44,29 @@ pub enum LocalReason {
     Malformed,
     /// It asks for a zone transfer.
     Transfer,
-    /// A rule says so.
-    Rule,
-    /// No server is there for it.
+    /// The rule with this number says so.
+    Rule(RuleId),
+    /// No server of its pool is up.
     NoServer,
+    /// Each ID of the server's lane is in use.
+    LaneFull,
+}
+
+/// Why a reply is ignored.
+#[derive(Clone, Copy, Debug, PartialEq, Eq)]
+pub enum IgnoreReason {
+    /// It has fewer than 12 octets.
+    Short,
+    /// It is a query.
+    NotReply,
+    /// No query was sent to this server by this lane with this ID, or it has ended.
+    Unknown,
+    /// It does not belong to the query that was sent so.
+    Mismatch,
 }
 
 /// What a command did.
-#[derive(Clone, Copy, Debug, PartialEq, Eq)]
+#[derive(Debug, Drop)]
 pub enum Note {
     /// The rule was added under this number.
     RuleAdded(RuleId),
@@ -52,6 +74,16 @@ pub enum Note {
     RuleRemoved(RuleId),
     /// The rule with this number was moved.
     RuleMoved(RuleId),
+    /// The server was added under this number.
+    ServerAdded(ServerId),
+    /// The server with this number was removed.
+    ServerRemoved(ServerId),
+    /// The server with this number was put into this mode.
+    ServerMode(ServerId, Mode),
+    /// The pool with this name was added.
+    PoolAdded(PoolName),
+    /// The pool with this name was given this policy.
+    PoolPolicy(PoolName, Policy),
 }
 
 /// Why a command is refused.
@@ -60,4 +92,7 @@ pub enum EditFault {
     /// By the list of rules.
     #[error("rules: {0}")]
     Rules(ChainFault),
+    /// By the table of servers and pools.
+    #[error("servers: {0}")]
+    Servers(ParkFault),
 }

@@ -5,9 +5,12 @@ ghost use Rattle.lb_core.specs.Plain.{empty};
 ghost use Rattle.lb_core.specs.Step.{Answers};
 
 use crate::answer::Answer;
+use crate::asked::Asked;
 use crate::edit::edit;
 use crate::event::Event;
 use crate::query::answer_query;
+use crate::reply::answer_reply;
+use crate::upstream::Upstream;
 use lb_chain::{Chain, seen_twice};
 use std::alloc::{AllocError, Global};
 use std::marker::Model;
@@ -19,6 +22,7 @@ pub struct Balancer {
     /// The latest moment told, in milliseconds.
     moment: u64,
     chain: Chain,
+    upstream: Upstream,
 }
 
 impl Model for Balancer {
@@ -32,13 +36,14 @@ impl Model for Balancer {
 
     ghost coded = { Prim.hlevel (codes, contract.the_row.coded) };
 
-    ghost view = { λ b. plain_of b.moment b.chain };
+    ghost view = { λ b. plain_of b.moment b.chain b.upstream };
 
     ghost invariant = { λ b. b.chain.moment ≤ b.moment };
 }
 
 impl Balancer {
-    /// A balancer at moment 0, without rules, whose first rule is rule 1. The one error is want of memory.
+    /// A balancer at moment 0, without rules and servers, with the default pool; its first rule is rule 1, its first server
+    /// server 1. The one error is want of memory.
     pub fn new(alloc: Global) -> Result<Balancer, AllocError>
         ensures { IfOk result (λ balancer. balancer ≡ empty) }
     {
@@ -46,36 +51,46 @@ impl Balancer {
             alloc,
             moment: 0,
             chain: Chain::new(alloc),
+            upstream: Upstream::new(alloc)?,
         })
     }
 
-    /// Answers one event. It can lack memory at a query with passes or a spoofed answer, and at a rule that is added or
-    /// moved; then nothing but the moment changes.
+    /// Answers one event. It can lack memory at a query with passes, a spoofed answer or a pool to be sent by, at a rule
+    /// that is added or moved, and at a server or a pool that is added; then nothing but the moment changes.
     pub fn step(&mut self, event: Event) -> Answer
         ensures { Answers self.old event result self.new }
     {
+        // A law, which does nothing.
         seen_twice();
         match event {
             Event::Query {
                 now,
                 origin,
                 kind,
-                word: _,
+                word,
                 bytes,
             } => {
                 self.moment = self.moment.max(now);
-                answer_query(
-                    self.alloc,
-                    &mut self.chain,
-                    self.moment,
-                    &origin.source,
+                let asked = Asked {
+                    moment: self.moment,
+                    origin,
                     kind,
-                    bytes,
-                )
+                    word,
+                };
+                answer_query(self.alloc, &mut self.chain, &mut self.upstream, &asked, bytes)
+            }
+            Event::Reply {
+                now,
+                server,
+                lane,
+                bytes,
+            } => {
+                self.moment = self.moment.max(now);
+                answer_reply(&mut self.upstream, server, lane, bytes)
             }
             Event::Edit { now, command } => {
                 self.moment = self.moment.max(now);
-                edit(&mut self.chain, self.moment, command)
+                edit(&mut self.chain, &mut self.upstream, self.moment, command)
             }
         }
     }

@@ -1,44 +1,97 @@
 //! Commands.
 
-ghost use Rattle.std.specs.Prelude.{◌≡◌, ◌≤◌, IsTrue};
-ghost use Rattle.lb_core.specs.Plain.{plain_of};
-ghost use Rattle.lb_core.specs.Edit.{edit_of, place_or_end};
-ghost use Rattle.lb_core.specs.Step.{marked, MayLackAt};
-ghost use Rattle.lb_core.specs.declared.event.Command.TheVariants.{RuleAdd, RuleRemove, RuleMove};
+ghost use Rattle.std.specs.Prelude.{◌≡◌, ◌≤◌, ℕ, IsTrue, Ok, Err, Option, Result, option_map};
+ghost use Rattle.lb_servers.specs.Park.{added_pool, added_server, changed_pool, changed_server, removed_server};
+ghost use Rattle.lb_servers.specs.Pool.{pool_named, with_policy};
+ghost use Rattle.lb_servers.specs.Server.{with_mode};
+ghost use Rattle.lb_core.specs.Plain.{plain_of, upstreams_of};
+ghost use Rattle.lb_core.specs.Upstream.{backends_of};
+ghost use Rattle.lb_core.specs.Edit.{action_by, edit_of, place_or_end, pool_edited, rule_by, server_by, server_edited, upstream_edited, MayLackAt};
+ghost use Rattle.lb_core.specs.Answer.{marked};
+ghost use Rattle.lb_core.specs.declared.command.Command.TheVariants.{RuleAdd, RuleRemove, RuleMove};
 ghost use Rattle.lb_core.specs.declared.answer.Answer.TheVariants.{Refused};
-ghost use Rattle.lb_core.specs.declared.answer.EditFault.TheVariants.{Rules};
+ghost use Rattle.lb_core.specs.declared.answer.EditFault.TheVariants.{Rules, Servers};
+ghost use Rattle.lb_core.specs.declared.answer.Note.TheVariants as notes;
 
 use crate::answer::{Answer, EditFault, Note};
-use crate::event::Command;
-use lb_chain::{Chain, ChainFault, Rule, seen_twice};
+use crate::command::{Command, StatedAction, StatedRule};
+use crate::upstream::Upstream;
+use lb_chain::{Action, Chain, ChainFault, Rule, seen_twice};
+use lb_servers::{Ident, Mode, ParkFault, Policy, PoolName, ServerSpec};
 use lb_wire::RuleId;
 
 /// Carries out a command, or refuses it.
-pub(crate) fn edit(chain: &mut Chain, moment: u64, command: Command) -> Answer
+pub(crate) fn edit(
+    chain: &mut Chain,
+    upstream: &mut Upstream,
+    moment: u64,
+    command: Command,
+) -> Answer
     requires { chain.old.moment ≤ moment }
     ensures moment { chain.new.moment ≤ moment }
-    ensures edit { (plain_of moment chain.new, result) ≡ edit_of (marked result) (plain_of moment chain.old) command }
-    ensures mark { IsTrue (marked result) → MayLackAt (plain_of moment chain.old) command }
+    ensures edit { (plain_of moment chain.new upstream.new, result) ≡ edit_of (marked result) (plain_of moment chain.old upstream.old) command }
+    ensures mark { IsTrue (marked result) → MayLackAt (plain_of moment chain.old upstream.old) command }
 {
     match command {
-        Command::RuleAdd(place, rule) => add_rule(chain, moment, place, rule),
-        Command::RuleRemove(id) => remove_rule(chain, moment, id),
-        Command::RuleMove(id, place) => move_rule(chain, moment, id, place),
+        Command::RuleAdd(place, rule) => add_rule(chain, upstream, moment, place, rule),
+        Command::RuleRemove(id) => remove_rule(chain, upstream, moment, id),
+        Command::RuleMove(id, place) => move_rule(chain, upstream, moment, id, place),
+        Command::ServerAdd(spec) => add_server(upstream, spec),
+        Command::ServerRemove(name) => remove_server(upstream, &name),
+        Command::ServerMode(name, mode) => set_mode(upstream, &name, mode),
+        Command::PoolAdd(name) => add_pool(upstream, name),
+        Command::PoolPolicy(name, policy) => set_policy(upstream, name, policy),
     }
 }
 
-/// Adds a rule at a place, or behind the others.
-fn add_rule(chain: &mut Chain, moment: u64, place: Option<usize>, rule: Rule) -> Answer
+/// Adds a rule at a place, or behind the others, where the pool that it names is there.
+fn add_rule(
+    chain: &mut Chain,
+    upstream: &Upstream,
+    moment: u64,
+    place: Option<usize>,
+    rule: StatedRule,
+) -> Answer
     requires { chain.old.moment ≤ moment }
     ensures moment { chain.new.moment ≤ moment }
-    ensures edit { (plain_of moment chain.new, result) ≡ edit_of (marked result) (plain_of moment chain.old) (RuleAdd place rule) }
-    ensures mark { IsTrue (marked result) → MayLackAt (plain_of moment chain.old) (RuleAdd place rule) }
+    ensures edit { (plain_of moment chain.new upstream.now, result) ≡ edit_of (marked result) (plain_of moment chain.old upstream.now) (RuleAdd place rule) }
+    ensures mark { IsTrue (marked result) → MayLackAt (plain_of moment chain.old upstream.now) (RuleAdd place rule) }
 {
+    let Some(rule) = rule_of(upstream, rule) else {
+        return servers_refused(ParkFault::NoSuchPool);
+    };
     let place = place_or_end(place, chain);
+    // A law, which does nothing.
     seen_twice();
     match chain.add(place, rule) {
         Ok(id) => Answer::Edited(Note::RuleAdded(id)),
-        Err(fault) => refused(fault),
+        Err(fault) => rules_refused(fault),
+    }
+}
+
+/// The rule that a command states, its pool by number; None where the pool is not there.
+fn rule_of(upstream: &Upstream, rule: StatedRule) -> Option<Rule>
+    ensures { result ≡ rule_by (pool_named upstream.now.pools) rule }
+{
+    let StatedRule { term, action } = rule;
+    let action = action_of(upstream, action)?;
+    Some(Rule { term, action })
+}
+
+/// The action that a command states, its pool by number; None where the pool is not there.
+fn action_of(upstream: &Upstream, action: StatedAction) -> Option<Action>
+    ensures { result ≡ action_by (pool_named upstream.now.pools) action }
+{
+    match action {
+        StatedAction::Allow => Some(Action::Allow),
+        StatedAction::Drop => Some(Action::Drop),
+        StatedAction::Rcode(rcode) => Some(Action::Rcode(rcode)),
+        StatedAction::Pool(name) => Some(Action::Pool(upstream.pool_named(&name)?)),
+        StatedAction::Tc => Some(Action::Tc),
+        StatedAction::Spoof(addrs) => Some(Action::Spoof(addrs)),
+        StatedAction::None => Some(Action::None),
+        StatedAction::NoRecurse => Some(Action::NoRecurse),
+        StatedAction::SkipCache => Some(Action::SkipCache),
     }
 }
 
@@ -53,36 +106,117 @@ fn place_or_end(place: Option<usize>, chain: &Chain) -> usize
 }
 
 /// Removes a rule.
-fn remove_rule(chain: &mut Chain, moment: u64, id: RuleId) -> Answer
+fn remove_rule(chain: &mut Chain, upstream: &Upstream, moment: u64, id: RuleId) -> Answer
     requires { chain.old.moment ≤ moment }
     ensures moment { chain.new.moment ≤ moment }
-    ensures edit { (plain_of moment chain.new, result) ≡ edit_of (marked result) (plain_of moment chain.old) (RuleRemove id) }
-    ensures mark { IsTrue (marked result) → MayLackAt (plain_of moment chain.old) (RuleRemove id) }
+    ensures edit { (plain_of moment chain.new upstream.now, result) ≡ edit_of (marked result) (plain_of moment chain.old upstream.now) (RuleRemove id) }
+    ensures mark { IsTrue (marked result) → MayLackAt (plain_of moment chain.old upstream.now) (RuleRemove id) }
 {
+    // A law, which does nothing.
     seen_twice();
     match chain.remove(id) {
         Ok(()) => Answer::Edited(Note::RuleRemoved(id)),
-        Err(fault) => refused(fault),
+        Err(fault) => rules_refused(fault),
     }
 }
 
 /// Moves a rule to a place.
-fn move_rule(chain: &mut Chain, moment: u64, id: RuleId, place: usize) -> Answer
+fn move_rule(
+    chain: &mut Chain,
+    upstream: &Upstream,
+    moment: u64,
+    id: RuleId,
+    place: usize,
+) -> Answer
     requires { chain.old.moment ≤ moment }
     ensures moment { chain.new.moment ≤ moment }
-    ensures edit { (plain_of moment chain.new, result) ≡ edit_of (marked result) (plain_of moment chain.old) (RuleMove id place) }
-    ensures mark { IsTrue (marked result) → MayLackAt (plain_of moment chain.old) (RuleMove id place) }
+    ensures edit { (plain_of moment chain.new upstream.now, result) ≡ edit_of (marked result) (plain_of moment chain.old upstream.now) (RuleMove id place) }
+    ensures mark { IsTrue (marked result) → MayLackAt (plain_of moment chain.old upstream.now) (RuleMove id place) }
 {
+    // A law, which does nothing.
     seen_twice();
     match chain.move_to(id, place) {
         Ok(()) => Answer::Edited(Note::RuleMoved(id)),
-        Err(fault) => refused(fault),
+        Err(fault) => rules_refused(fault),
     }
 }
 
 /// A refusal by the list of rules.
-fn refused(fault: ChainFault) -> Answer
+fn rules_refused(fault: ChainFault) -> Answer
     ensures { result ≡ Refused (Rules fault) }
 {
     Answer::Refused(EditFault::Rules(fault))
+}
+
+/// A refusal by the table of servers and pools.
+fn servers_refused(fault: ParkFault) -> Answer
+    ensures { result ≡ Refused (Servers fault) }
+{
+    Answer::Refused(EditFault::Servers(fault))
+}
+
+ghost use Rattle.lb_core.specs.Upstream.{Upstreams};
+ghost use Rattle.lb_core.specs.declared.answer.Answer.{Answer};
+ghost use Rattle.lb_core.specs.Edit.{Lacks};
+
+/// Adds a server.
+fn add_server(upstream: &mut Upstream, spec: ServerSpec) -> Answer
+    ensures edit { (upstream.new, result) ≡ upstream_edited notes.ServerAdded upstream.old (added_server (marked result) (backends_of upstream.old) spec) }
+    ensures mark { IsTrue (marked result) → Lacks (λ mark. upstream_edited notes.ServerAdded upstream.old (added_server mark (backends_of upstream.old) spec)) }
+{
+    match upstream.add_server(spec) {
+        Ok(id) => Answer::Edited(Note::ServerAdded(id)),
+        Err(fault) => servers_refused(fault),
+    }
+}
+
+/// Removes the server with a name.
+fn remove_server(upstream: &mut Upstream, name: &Ident) -> Answer
+    ensures { (upstream.new, result) ≡ server_edited notes.ServerRemoved removed_server upstream.old (server_by upstream.old name.now) }
+{
+    let Some(id) = upstream.server_named(name) else {
+        return servers_refused(ParkFault::NoSuchServer);
+    };
+    match upstream.remove_server(id) {
+        Ok(()) => Answer::Edited(Note::ServerRemoved(id)),
+        Err(fault) => servers_refused(fault),
+    }
+}
+
+/// Puts the server with a name into a mode.
+fn set_mode(upstream: &mut Upstream, name: &Ident, mode: Mode) -> Answer
+    ensures { (upstream.new, result) ≡ server_edited (λ id. notes.ServerMode id mode) (changed_server (with_mode mode)) upstream.old (server_by upstream.old name.now) }
+{
+    let Some(id) = upstream.server_named(name) else {
+        return servers_refused(ParkFault::NoSuchServer);
+    };
+    match upstream.set_mode(id, mode) {
+        Ok(()) => Answer::Edited(Note::ServerMode(id, mode)),
+        Err(fault) => servers_refused(fault),
+    }
+}
+
+/// Adds a pool.
+fn add_pool(upstream: &mut Upstream, name: PoolName) -> Answer
+    ensures edit { (upstream.new, result) ≡ upstream_edited (λ _. notes.PoolAdded name) upstream.old (added_pool (marked result) (backends_of upstream.old) name) }
+    ensures mark { IsTrue (marked result) → Lacks (λ mark. upstream_edited (λ _. notes.PoolAdded name) upstream.old (added_pool mark (backends_of upstream.old) name)) }
+{
+    let told = name.copy();
+    match upstream.add_pool(name) {
+        Ok(_) => Answer::Edited(Note::PoolAdded(told)),
+        Err(fault) => servers_refused(fault),
+    }
+}
+
+/// Gives the pool with a name a policy.
+fn set_policy(upstream: &mut Upstream, name: PoolName, policy: Policy) -> Answer
+    ensures { (upstream.new, result) ≡ pool_edited (notes.PoolPolicy name policy) (changed_pool (with_policy policy)) upstream.old (pool_named upstream.old.pools name) }
+{
+    let Some(pool) = upstream.pool_named(&name) else {
+        return servers_refused(ParkFault::NoSuchPool);
+    };
+    match upstream.set_policy(pool, policy) {
+        Ok(()) => Answer::Edited(Note::PoolPolicy(name, policy)),
+        Err(fault) => servers_refused(fault),
+    }
 }

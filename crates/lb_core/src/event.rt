@@ -1,7 +1,7 @@
 //! What the balancer is told.
 
-use lb_chain::Rule;
-use lb_wire::{Kind, Octets, Origin, RuleId};
+use crate::command::Command;
+use lb_wire::{Kind, Lane, Octets, Origin, ServerId};
 
 /// One event. Moments are in milliseconds, from any start; the balancer's moment is the latest that it was told.
 #[derive(Debug, Drop)]
@@ -11,8 +11,17 @@ pub enum Event {
         now: u64,
         origin: Origin,
         kind: Kind,
-        /// A random word.
+        /// A random word: the ID that it is sent with is the first free one from there on.
         word: u16,
+        /// The message, at most 65,535 octets.
+        bytes: Octets,
+    },
+    /// A reply came in from a server.
+    Reply {
+        now: u64,
+        server: ServerId,
+        /// The upstream socket that it came by.
+        lane: Lane,
         /// The message, at most 65,535 octets.
         bytes: Octets,
     },
@@ -21,16 +30,4 @@ pub enum Event {
         now: u64,
         command: Command,
     },
-}
-
-/// An operator's command.
-#[derive(Debug, Drop)]
-pub enum Command {
-    /// Adds a rule at this place of the list, counted from 0, or behind the others where none is stated. Until there are
-    /// pools its action is not `Pool`: such a rule is taken, but the queries that it ends meet no server.
-    RuleAdd(Option<usize>, Rule),
-    /// Removes the rule with this number.
-    RuleRemove(RuleId),
-    /// Moves the rule with this number to a place, counted from 0 in the list without it.
-    RuleMove(RuleId, usize),
 }

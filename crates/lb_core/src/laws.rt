@@ -1,20 +1,31 @@
-//! What holds of every step and of every run.
+//! What holds of every step and of every run. Each function is a law: its contract is the statement, and a call does
+//! nothing but bring it to the caller's proof.
 
-ghost use Rattle.lb_core.specs.Step.{OneRunPerMarks, RefusalsChangeNothing};
+ghost use Rattle.lb_core.specs.Runs.{OneRunPerMarks};
+ghost use Rattle.lb_core.specs.Step.{RefusalsChangeNothing, RoutesFollow};
 
 use lb_chain::seen_twice;
-use lb_wire::one_reading;
+use lb_wire::{one_reading, one_reply_reading};
 
 /// Where memory was wanting at the same events, a run has one list of answers and one end.
 pub fn one_run_per_marks()
     ensures { OneRunPerMarks }
 {
     one_reading();
+    one_reply_reading();
 }
 
 /// An event that is refused, or that met want of memory, changes nothing but the moment.
 pub fn refusals_change_nothing()
     ensures { RefusalsChangeNothing }
+{
+    seen_twice();
+}
+
+/// Where queries go after an event follows from where they went before it, the event, what its octets read as, and its
+/// answer: no server and no outstanding query has a part in it.
+pub fn routes_follow()
+    ensures { RoutesFollow }
 {
     seen_twice();
 }

@@ -1,19 +1,25 @@
-//! The balancer: each event is one step of one plain state, and each answer is the one that the plain list of rules
-//! gives when it is searched anew at that event.
+//! The balancer: each event is one step of one plain state, and each answer is the one that the plain lists of rules,
+//! servers, pools and outstanding queries give when they are searched anew at that event.
 #![tactic(auto)]
 
 mod answer;
+mod asked;
 mod balancer;
+mod command;
 mod edit;
 mod event;
+mod forward;
 mod laws;
 mod query;
+mod reply;
 mod runs;
 #[cfg(test)]
 mod tests;
+mod upstream;
 
-pub use answer::{Answer, DropReason, EditFault, LocalReason, Note};
+pub use answer::{Answer, DropReason, EditFault, IgnoreReason, LocalReason, Note};
 pub use balancer::Balancer;
-pub use event::{Command, Event};
-pub use laws::{one_run_per_marks, refusals_change_nothing};
+pub use command::{Command, StatedAction, StatedRule};
+pub use event::Event;
+pub use laws::{one_run_per_marks, refusals_change_nothing, routes_follow};
 pub use runs::run;

@@ -1,41 +1,42 @@
 //! The life of a query.
 
-ghost use Rattle.std.specs.Prelude.{◌≡◌, ◌≤◌, true, IsTrue, IfOk, IfErr, List, ℕ, Result};
-ghost use Rattle.lb_wire.specs.Numbers.{rcode_number};
-ghost use Rattle.lb_wire.specs.Answer.{refusal_of, truncated_of, spoofed_of};
+ghost use Rattle.std.specs.Prelude.{◌≡◌, ◌≤◌, true, IsTrue, IfOk, IfErr, OnErr, List, ℕ, Result};
+ghost use Rattle.lb_wire.specs.Answer.{truncated_of, spoofed_of};
 ghost use Rattle.lb_wire.specs.Message.{Message, Lays};
 ghost use Rattle.lb_wire.specs.Query.{Reads, IsQuery, view_of};
 ghost use Rattle.lb_wire.specs.declared.query.QueryView.{QueryView};
 ghost use Rattle.lb_wire.specs.declared.query.QueryFault.{QueryFault};
-ghost use Rattle.lb_chain.specs.Walk.{walk_of};
-ghost use Rattle.lb_chain.specs.Seen.{seen_rules};
 ghost use Rattle.lb_core.specs.Plain.{plain_of};
-ghost use Rattle.lb_core.specs.Step.{failure_of, is_spoof, is_transfer as is_transfer_of, marked, query_step, takes_memory, verdict_answer as verdict_answer_of, walked_step, MayLack};
+ghost use Rattle.lb_core.specs.Forward.{failure_of};
+ghost use Rattle.lb_core.specs.Query.{is_transfer as is_transfer_of, takes_memory, takes_room, walked_of, Decides, MayLack, QuerySteps, RuleDecides, WalkedSteps};
+ghost use Rattle.lb_core.specs.Answer.{marked};
 ghost use Rattle.lb_core.specs.declared.answer.Answer.TheVariants.{Local, NoMemory};
 ghost use Rattle.lb_core.specs.declared.answer.LocalReason.TheVariants as locals;
 
 use crate::answer::{Answer, DropReason, LocalReason};
-use lb_chain::{Addrs, Chain, Verdict, seen_walks};
+use crate::asked::Asked;
+use crate::forward::{forward, refused};
+use crate::upstream::Upstream;
+use lb_chain::{Addrs, Chain, Verdict, Walked, first_to_end_decides, seen_walks};
 use lb_wire::{
-    Addr, Kind, Octets, QueryFault, QueryView, Rcode, RecordType, answer_in_place,
+    Octets, PoolId, QueryFault, QueryView, Rcode, RecordType, RuleId, answer_in_place,
     formerr_in_place, read_query, spoofed, truncated_in_place,
 };
 use std::alloc::Global;
 
 /// Answers a query, step by step: it is read, transfers are refused, the rules are walked, room is taken for what
-/// follows, the passes are counted, and the verdict answers.
+/// follows, the passes are counted, and the verdict answers or names the pool whose server is to.
 pub(crate) fn answer_query(
     alloc: Global,
     chain: &mut Chain,
-    moment: u64,
-    source: &Addr,
-    kind: Kind,
+    upstream: &mut Upstream,
+    asked: &Asked,
     bytes: Octets,
 ) -> Answer
-    requires { chain.old.moment ≤ moment }
-    ensures moment { chain.new.moment ≤ moment }
-    ensures step { (reading : Result QueryView QueryFault) × Reads bytes reading × ((plain_of moment chain.new, result) ≡ query_step (marked result) (plain_of moment chain.old) source.now kind bytes reading) }
-    ensures mark { IsTrue (marked result) → (view : QueryView) × MayLack (plain_of moment chain.old) source.now kind bytes view }
+    requires { chain.old.moment ≤ asked.now.moment }
+    ensures moment { chain.new.moment ≤ asked.now.moment }
+    ensures step { (reading : Result QueryView QueryFault) × Reads bytes reading × QuerySteps (marked result) (plain_of asked.now.moment chain.old upstream.old) asked.now bytes reading result (plain_of asked.now.moment chain.new upstream.new) }
+    ensures mark { IsTrue (marked result) → (view : QueryView) × MayLack (plain_of asked.now.moment chain.old upstream.old) asked.now bytes view }
 {
     let mut bytes = bytes.into_vec();
     let view = match read_query(bytes.as_slice()) {
@@ -50,7 +51,7 @@ pub(crate) fn answer_query(
     if is_transfer(view.qtype) {
         return refused(bytes, &view, Rcode::Refused, LocalReason::Transfer);
     }
-    answer_by_rules(alloc, chain, moment, source, kind, bytes, &view)
+    answer_by_rules(alloc, chain, upstream, asked, bytes, &view)
 }
 
 /// Whether a type asks for a zone transfer, whatever the class (RFC 5936, RFC 1995).
@@ -60,88 +61,98 @@ fn is_transfer(qtype: RecordType) -> bool
     qtype.0 == RecordType::AXFR.0 || qtype.0 == RecordType::IXFR.0
 }
 
-/// Answers a query by the rules. Room for its passes and its answer is taken before anything is counted.
+/// Answers a query by the rules. Room for its passes and its answer, or its entry, is taken before anything is counted.
 fn answer_by_rules(
     alloc: Global,
     chain: &mut Chain,
-    moment: u64,
-    source: &Addr,
-    kind: Kind,
+    upstream: &mut Upstream,
+    asked: &Asked,
     bytes: Vec<u8>,
     view: &QueryView,
 ) -> Answer
     requires view { (m : Message) × Lays bytes.items m × IsQuery m × (view.now ≡ view_of m) }
-    requires moment { chain.old.moment ≤ moment }
-    ensures moment { chain.new.moment ≤ moment }
-    ensures step { (plain_of moment chain.new, result) ≡ walked_step (marked result) (plain_of moment chain.old) source.now view.now (walk_of (seen_rules moment chain.old.rules) view.now source.now kind moment) }
-    ensures mark { IsTrue (marked result) → takes_memory (walk_of (seen_rules moment chain.old.rules) view.now source.now kind moment) ≡ true }
+    requires moment { chain.old.moment ≤ asked.now.moment }
+    ensures moment { chain.new.moment ≤ asked.now.moment }
+    ensures step { WalkedSteps (marked result) (plain_of asked.now.moment chain.old upstream.old) asked.now bytes.items view.now (walked_of (plain_of asked.now.moment chain.old upstream.old) asked.now view.now) result (plain_of asked.now.moment chain.new upstream.new) }
+    ensures mark { IsTrue (marked result) → takes_memory (walked_of (plain_of asked.now.moment chain.old upstream.old) asked.now view.now) ≡ true }
 {
+    // Laws, which do nothing.
     seen_walks();
-    let walked = chain.walk(view, source, kind, moment);
-    if let Err(_) = chain.reserve(&walked, source, moment) {
+    first_to_end_decides();
+    let (source, now) = (&asked.origin.source, asked.moment);
+    let walked = chain.walk(view, source, asked.kind, now);
+    if let Err(_) = chain.reserve(&walked, source, now) {
         return no_memory(bytes, view);
     }
-    match answer_of(alloc, bytes, view, walked.verdict) {
+    match decide(alloc, upstream, asked, bytes, view, &walked) {
         Ok(answer) => {
-            chain.pass(&walked, source, moment);
+            chain.pass(&walked, source, now);
             answer
         }
         Err(bytes) => no_memory(bytes, view),
     }
 }
 
-/// The answer that a verdict gives. Where the memory for one with addresses is wanting, the query's bytes come back.
-fn answer_of(
+/// The pool of the queries that no rule sends elsewhere.
+const DEFAULT_POOL: PoolId = PoolId(0);
+
+/// Answers a query by the rule that ended its walk, or by the default pool where none did. Where memory is wanting, nothing
+/// changes and the query's bytes come back.
+fn decide(
     alloc: Global,
+    upstream: &mut Upstream,
+    asked: &Asked,
     bytes: Vec<u8>,
     view: &QueryView,
-    verdict: Verdict,
+    walked: &Walked,
 ) -> Result<Answer, Vec<u8>>
     requires view { (m : Message) × Lays bytes.items m × IsQuery m × (view.now ≡ view_of m) }
-    ensures answer { IfOk result (λ answer. answer ≡ verdict_answer_of view.now verdict) }
+    requires allow { walked.now.rule ≡ None → walked.now.verdict ≡ Allow }
+    ensures decides { IfOk result (λ answer. Decides upstream.old asked.now bytes.items view.now walked.now answer upstream.new) }
     ensures back { IfErr result (λ back. back.items ≡ bytes.items) }
-    ensures takes { IfErr result (λ _. is_spoof verdict ≡ true) }
+    ensures takes { IfErr result (λ _. takes_room walked.now.verdict ≡ true) }
+    ensures unchanged { OnErr result (upstream.new ≡ upstream.old) }
 {
-    match verdict {
-        Verdict::Drop => Ok(Answer::Dropped(DropReason::Rule)),
-        Verdict::Rcode(rcode) => Ok(refused(bytes, view, rcode, LocalReason::Rule)),
-        Verdict::Tc => Ok(truncated(bytes, view)),
-        Verdict::Spoof(addrs) => spoof(alloc, bytes, view, &addrs),
-        Verdict::Allow | Verdict::Pool(_) => Ok(refused(
-            bytes,
-            view,
-            Rcode::ServFail,
-            LocalReason::NoServer,
-        )),
+    let no_recurse = walked.no_recurse;
+    let Some(rule) = walked.rule else {
+        return forward(alloc, upstream, asked, bytes, view, no_recurse, DEFAULT_POOL);
+    };
+    match walked.verdict {
+        Verdict::Allow => forward(alloc, upstream, asked, bytes, view, no_recurse, DEFAULT_POOL),
+        Verdict::Pool(pool) => forward(alloc, upstream, asked, bytes, view, no_recurse, pool),
+        Verdict::Drop => Ok(Answer::Dropped(DropReason::Rule(rule))),
+        Verdict::Rcode(rcode) => Ok(refused(bytes, view, rcode, LocalReason::Rule(rule))),
+        Verdict::Tc => Ok(truncated(bytes, view, rule)),
+        Verdict::Spoof(addrs) => spoof(alloc, bytes, view, &addrs, rule),
     }
 }
 
-/// The refusal with this RCODE, in the query's own bytes.
-fn refused(mut bytes: Vec<u8>, view: &QueryView, rcode: Rcode, why: LocalReason) -> Answer
-    requires { (m : Message) × Lays bytes.items m × IsQuery m × (view.now ≡ view_of m) }
-    ensures { result ≡ Local (refusal_of view.now (rcode_number rcode)) why }
-{
-    answer_in_place(&mut bytes, view, rcode);
-    Answer::Local(Octets::from_vec(bytes), why)
-}
+ghost use Rattle.std.specs.Prelude.{None};
+ghost use Rattle.lb_chain.specs.declared.walked.Verdict.TheVariants.{Allow};
 
 /// The truncated answer, in the query's own bytes.
-fn truncated(mut bytes: Vec<u8>, view: &QueryView) -> Answer
+fn truncated(mut bytes: Vec<u8>, view: &QueryView, rule: RuleId) -> Answer
     requires { (m : Message) × Lays bytes.items m × IsQuery m × (view.now ≡ view_of m) }
-    ensures { result ≡ Local (truncated_of view.now) locals.Rule }
+    ensures { result ≡ Local (truncated_of view.now) (locals.Rule rule) }
 {
     truncated_in_place(&mut bytes, view);
-    Answer::Local(Octets::from_vec(bytes), LocalReason::Rule)
+    Answer::Local(Octets::from_vec(bytes), LocalReason::Rule(rule))
 }
 
 /// The answer with addresses; the query's bytes, where the memory for it is wanting.
-fn spoof(alloc: Global, bytes: Vec<u8>, view: &QueryView, addrs: &Addrs) -> Result<Answer, Vec<u8>>
+fn spoof(
+    alloc: Global,
+    bytes: Vec<u8>,
+    view: &QueryView,
+    addrs: &Addrs,
+    rule: RuleId,
+) -> Result<Answer, Vec<u8>>
     requires { (m : Message) × Lays bytes.items m × IsQuery m × (view.now ≡ view_of m) }
-    ensures answer { IfOk result (λ answer. answer ≡ Local (spoofed_of view.now addrs.now) locals.Rule) }
+    ensures answer { IfOk result (λ answer. answer ≡ Local (spoofed_of view.now addrs.now) (locals.Rule rule)) }
     ensures back { IfErr result (λ back. back.items ≡ bytes.items) }
 {
     match spoofed(alloc, bytes.as_slice(), view, addrs.as_slice()) {
-        Ok(answer) => Ok(Answer::Local(Octets::from_vec(answer), LocalReason::Rule)),
+        Ok(answer) => Ok(Answer::Local(Octets::from_vec(answer), LocalReason::Rule(rule))),
         Err(_) => Err(bytes),
     }
 }

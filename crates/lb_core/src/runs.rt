@@ -1,7 +1,7 @@
 //! Runs over lists of events.
 
 ghost use Rattle.std.specs.Prelude.{◌≡◌, IfOk, IfErr, OnErr};
-ghost use Rattle.lb_core.specs.Step.{IsRun};
+ghost use Rattle.lb_core.specs.Runs.{IsRun};
 
 use crate::answer::Answer;
 use crate::balancer::Balancer;

@@ -1,5 +1,0 @@
-use Rattle.lb_core.proofs.OneRunPerMarks.{one_end}
-use Rattle.lb_core.proofs.laws.one_run_per_marks.Goals as goal
-
-pub returns : goal.returns
-returns c = one_end c.one_reading.ensures

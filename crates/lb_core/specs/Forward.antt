@@ -1,0 +1,68 @@
+-- Forwarding: a server is picked for a query, and the query is sent to it under an ID that is free there.
+use Rattle.std.specs.Prelude.{◌≡◌, ℕ, Bool, true, false, List, ◌++◌, drop, Option, None, Some}
+use Rattle.lb_wire.specs.BigEndian.{two_octets}
+use Rattle.lb_wire.specs.Answer.{refusal_of}
+use Rattle.lb_wire.specs.Numbers.{rcode_number}
+use Rattle.lb_wire.specs.Query.{without_recursion}
+use Rattle.lb_wire.specs.declared.ids.PoolId.{PoolId}
+use Rattle.lb_wire.specs.declared.ids.ServerId.{ServerId}
+use Rattle.lb_wire.specs.declared.rcode.Rcode.TheVariants as rcodes
+use Rattle.lb_wire.specs.declared.transport.Kind.{Kind}
+use Rattle.lb_wire.specs.declared.transport.Lane.{Lane}
+use Rattle.lb_wire.specs.declared.query.QueryView.{QueryView}
+use Rattle.lb_table.specs.declared.entry.Entry.{Entry}
+use Rattle.lb_table.specs.Place.{at_place}
+use Rattle.lb_table.specs.Table.{FirstFree}
+use Rattle.lb_core.specs.declared.asked.Asked.{Asked}
+use Rattle.lb_core.specs.declared.answer.Answer.{Answer}
+use Rattle.lb_core.specs.Answer.{Leaves}
+use Rattle.lb_core.specs.declared.answer.Answer.TheVariants.{Forward, Local}
+use Rattle.lb_core.specs.declared.answer.LocalReason.TheVariants as locals
+use Rattle.lb_core.specs.Upstream.{Upstreams, picked_of, with_entry, with_turn}
+
+-- the refusal of a query with ServFail
+abbrev pub failure_of : QueryView → List ℕ
+failure_of view = refusal_of view (rcode_number rcodes.ServFail)
+
+-- the upstream socket for queries that came by a transport
+abbrev pub lane_of : Kind → Lane
+lane_of kind = record { kind = kind; number = 0 }
+
+-- the message to be sent, still with the query's own ID: RD is 0 where a rule says so
+abbrev pub sent_of : Bool → List ℕ → List ℕ
+sent_of true bytes = without_recursion bytes
+sent_of false bytes = bytes
+
+-- a message with another ID
+abbrev pub with_id : ℕ → List ℕ → List ℕ
+with_id id bytes = two_octets id ++ drop 2 bytes
+
+-- what is kept of a query until its reply: the octets as they came in, and its question
+abbrev pub entry_of : Upstreams → Asked → List ℕ → QueryView → Entry
+entry_of ups asked bytes view = record {
+  origin = asked.origin;
+  asked = bytes;
+  name = view.name;
+  qtype = view.qtype;
+  qclass = view.qclass;
+  began = asked.moment;
+  timeout = ups.timeout;
+  cache = None }
+
+-- a query sent to a server under the ID that is free, or refused where none is
+abbrev pub sent : Upstreams → Asked → List ℕ → QueryView → Bool → ServerId → Option ℕ → Upstreams × Answer
+sent ups asked bytes view no_recurse server None = (ups, Local (failure_of view) locals.LaneFull)
+sent ups asked bytes view no_recurse server (Some id) =
+    (with_entry (at_place server (lane_of asked.kind) id) (entry_of ups asked bytes view) ups,
+     Forward server (lane_of asked.kind) id (with_id id (sent_of no_recurse bytes)))
+
+-- a query for which a pool picked this server, or none: the pool's turn is counted whether an ID is free or not
+abbrev pub PickForwards : Upstreams → Asked → List ℕ → QueryView → Bool → PoolId → Option ServerId → Answer → Upstreams → Type 0
+PickForwards ups asked bytes view no_recurse pool None answer new = Leaves new answer (ups, Local (failure_of view) locals.NoServer)
+PickForwards ups asked bytes view no_recurse pool (Some server) answer new =
+    (id : Option ℕ) × FirstFree ups.outstanding server (lane_of asked.kind) asked.word id
+    × (Leaves new answer (sent (with_turn pool ups) asked bytes view no_recurse server id))
+
+-- a query that a pool is to answer
+abbrev pub Forwards : Upstreams → Asked → List ℕ → QueryView → Bool → PoolId → Answer → Upstreams → Type 0
+Forwards ups asked bytes view no_recurse pool answer new = PickForwards ups asked bytes view no_recurse pool (picked_of ups pool) answer new

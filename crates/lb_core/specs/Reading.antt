@@ -1,0 +1,32 @@
+-- What the octets of an event read as.
+use Rattle.std.specs.Prelude.{◌≡◌, ℕ, Result}
+use Rattle.lb_wire.specs.Query.{Reads}
+use Rattle.lb_wire.specs.Reply.{ReadsReply}
+use Rattle.lb_wire.specs.declared.query.QueryView.{QueryView}
+use Rattle.lb_wire.specs.declared.query.QueryFault.{QueryFault}
+use Rattle.lb_wire.specs.declared.reply.ReplyView.{ReplyView}
+use Rattle.lb_wire.specs.declared.reply.ReplyFault.{ReplyFault}
+use Rattle.lb_core.specs.declared.event.Event.{Event}
+use Rattle.lb_core.specs.declared.event.Event.TheVariants.{Query, Reply, Edit}
+
+-- what the octets of an event read as; an edit has none
+pub data Reading : Type 0 where
+  OfQuery : Result QueryView QueryFault → Reading
+  OfReply : Result ReplyView ReplyFault → Reading
+  OfNone : Reading
+
+abbrev pub ReadsEvent : Event → Reading → Type 0
+ReadsEvent (Query now origin kind word bytes) (OfQuery reading) = Reads bytes reading
+ReadsEvent (Reply now server lane bytes) (OfReply reading) = ReadsReply bytes reading
+ReadsEvent (Edit now command) OfNone = Unit {0}
+ReadsEvent _ _ = ⊥
+
+-- events read in exactly one way at most
+abbrev pub OneEventReading : Type 0
+OneEventReading = (event : Event) (a b : Reading) → ReadsEvent event a → ReadsEvent event b → a ≡ b
+
+-- the moment that an event tells
+abbrev pub moment_of : Event → ℕ
+moment_of (Query now origin kind word bytes) = now
+moment_of (Reply now server lane bytes) = now
+moment_of (Edit now command) = now

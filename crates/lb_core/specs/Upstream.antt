@@ -1,0 +1,101 @@
+-- The servers, the pools and the outstanding queries of the plain state: what forwarding reads and changes.
+use Rattle.std.specs.Prelude.{◌≡◌, ℕ, ◌<◌, Bool, List, [], ◌∷◌, map, if◌then◌else◌}
+use Rattle.std.specs.List.{count_by, AllByRecursion}
+use Rattle.lb_wire.specs.Query.{Reads}
+use Rattle.lb_wire.specs.declared.ids.PoolId.{PoolId}
+use Rattle.lb_wire.specs.declared.ids.ServerId.{ServerId}
+use Rattle.lb_wire.specs.declared.transport.Lane.{Lane}
+use Rattle.lb_wire.specs.declared.query.QueryView.{QueryView}
+use Rattle.std.specs.Prelude.{Option, Result, Ok, Err, Some, None}
+use Rattle.lb_servers.specs.declared.pool.Policy.{Policy}
+use Rattle.lb_servers.specs.declared.pool.Policy.TheVariants.{FirstAvailable, LeastOutstanding, RoundRobin}
+use Rattle.lb_servers.specs.declared.pool.Pool.{Pool}
+use Rattle.lb_servers.specs.declared.server.Server.{Server}
+use Rattle.lb_servers.specs.declared.server.Loaded.{Loaded}
+use Rattle.lb_servers.specs.Park.{Backends, no_backends}
+use Rattle.lb_servers.specs.Pick.{picked}
+use Rattle.lb_servers.specs.Pool.{change_at, turned}
+use Rattle.lb_table.specs.declared.place.Place.{Place}
+use Rattle.lb_table.specs.declared.entry.Entry.{Entry}
+use Rattle.lb_table.specs.declared.entry.Waiting.{Waiting}
+use Rattle.lb_table.specs.declared.fault.EnterFault.{EnterFault}
+use Rattle.lb_table.specs.declared.fault.EnterFault.TheVariants.{LaneFull, NoMemory}
+use Rattle.lb_table.specs.Place.{at_place}
+use Rattle.lb_table.specs.Table.{FirstFree, entered, is_for}
+
+-- how long a query waits, in milliseconds; the next server number (2^64 once all are given); the servers and the pools by
+-- number; and the outstanding queries by deadline, those of one deadline in the order in which they were sent
+pub record Upstreams : Type 0 where
+  pub timeout : ℕ
+  pub next_server : ℕ
+  pub servers : List Server
+  pub pools : List Pool
+  pub outstanding : List Waiting
+
+-- how long a query waits at first
+abbrev pub first_timeout : ℕ
+first_timeout = 2000
+
+-- at first: no server, and the default pool
+abbrev pub no_upstreams : Upstreams
+no_upstreams = record { timeout = first_timeout; next_server = no_backends.next; servers = []; pools = no_backends.pools; outstanding = [] }
+
+-- a server with its load: how many of the outstanding queries wait for it, by whatever lane, counted anew
+abbrev pub loaded_by : List Waiting → Server → Loaded
+loaded_by outstanding server = record { server = server; outstanding = count_by (is_for server.id) outstanding }
+
+abbrev pub server_of : Loaded → Server
+server_of l = l.server
+
+-- the table of servers and pools, each server with its load
+abbrev pub backends_of : Upstreams → Backends
+backends_of ups = record { next = ups.next_server; servers = map (loaded_by ups.outstanding) ups.servers; pools = ups.pools }
+
+-- another table of servers and pools in place of the one that is there
+abbrev pub with_backends : Backends → Upstreams → Upstreams
+with_backends park ups = record ups { next_server = park.next; servers = map server_of park.servers; pools = park.pools }
+
+-- what an edit of the table of servers and pools leaves and gives
+abbrev pub on_backends : {A : Type 0} → Upstreams → Backends × A → Upstreams × A
+on_backends ups done = (with_backends done.0 ups, done.1)
+
+-- the server that a pool picks
+abbrev pub picked_of : Upstreams → PoolId → Option ServerId
+picked_of ups pool = picked (backends_of ups).servers ups.pools pool
+
+-- a pool after a query that it sent: the turn of roundrobin goes up
+abbrev pub turned_by : Policy → Pool → Pool
+turned_by FirstAvailable pool = pool
+turned_by LeastOutstanding pool = pool
+turned_by RoundRobin pool = turned pool
+
+abbrev pub turned_if : Pool → Pool
+turned_if pool = turned_by pool.policy pool
+
+abbrev pub with_turn : PoolId → Upstreams → Upstreams
+with_turn pool ups = record ups { pools = change_at turned_if pool.0 ups.pools }
+
+-- a query entered at a place
+abbrev pub with_entry : Place → Entry → Upstreams → Upstreams
+with_entry place entry ups = record ups { outstanding = entered ups.outstanding place entry }
+
+-- a query sent by a pool to a server: its turn is counted, and the query is entered under the first free ID; or no ID is
+-- free, and the turn is counted alone; or memory is wanting, and nothing changes; the entry that is not entered comes back
+abbrev pub SendsBy : Upstreams → PoolId → ServerId → Lane → ℕ → Entry → Result ℕ (EnterFault × Entry) → Upstreams → Type 0
+SendsBy old pool server lane word entry (Ok id) new =
+    FirstFree old.outstanding server lane word (Some id) × (new ≡ with_entry (at_place server lane id) entry (with_turn pool old))
+SendsBy old pool server lane word entry (Err (LaneFull, back)) new =
+    FirstFree old.outstanding server lane word None × (back ≡ entry) × (new ≡ with_turn pool old)
+SendsBy old pool server lane word entry (Err (NoMemory, back)) new = (back ≡ entry) × (new ≡ old)
+
+-- an entry's octets are a query that reads
+abbrev pub IsAsked : Entry → Type 0
+IsAsked entry = (view : QueryView) × Reads entry.asked (Ok view)
+
+-- what ties the table of servers to the outstanding queries: each server's count is that of the queries that wait for it;
+-- each server has a number that was given, and each query waits for such a server; and each is a query that reads
+pub record IsTied (park : Backends) (outstanding : List Waiting) : Type 0 where
+  pub loads : AllByRecursion (λ l. l.outstanding ≡ count_by (is_for l.server.id) outstanding) park.servers
+  pub given : AllByRecursion (λ l. l.server.id.0 < park.next) park.servers
+  pub sent : AllByRecursion (λ w. w.place.server.0 < park.next) outstanding
+  pub asked : AllByRecursion (λ w. IsAsked w.entry) outstanding

@@ -1,0 +1,48 @@
+//! What an operator tells the balancer to do.
+
+use lb_chain::Addrs;
+use lb_servers::{Ident, Mode, Policy, PoolName, ServerSpec};
+use lb_terms::CheckedTerm;
+use lb_wire::{Rcode, RuleId};
+
+/// An operator's command. Servers and pools are named by name; a name that is not there is refused before all else.
+#[derive(Debug, Drop)]
+pub enum Command {
+    /// Adds a rule at this place of the list, counted from 0, or behind the others where none is stated.
+    RuleAdd(Option<usize>, StatedRule),
+    /// Removes the rule with this number.
+    RuleRemove(RuleId),
+    /// Moves the rule with this number to a place, counted from 0 in the list without it.
+    RuleMove(RuleId, usize),
+    /// Adds a server.
+    ServerAdd(ServerSpec),
+    /// Removes the server with this name. Its outstanding queries still get their replies.
+    ServerRemove(Ident),
+    /// Puts the server with this name into a mode.
+    ServerMode(Ident, Mode),
+    /// Adds a pool. The default pool is always there, so its name is taken.
+    PoolAdd(PoolName),
+    /// Gives the pool with this name a policy; its turn stays.
+    PoolPolicy(PoolName, Policy),
+}
+
+/// A rule as a command states it: its pool by name.
+#[derive(Debug, Drop)]
+pub struct StatedRule {
+    pub term: CheckedTerm,
+    pub action: StatedAction,
+}
+
+/// An action as a command states it: `lb_chain::Action`, its pool by name.
+#[derive(Debug, Drop)]
+pub enum StatedAction {
+    Allow,
+    Drop,
+    Rcode(Rcode),
+    Pool(PoolName),
+    Tc,
+    Spoof(Addrs),
+    None,
+    NoRecurse,
+    SkipCache,
+}

@@ -1,0 +1,102 @@
+//! Forwarding: a server is picked for a query, and the query is sent to it under an ID that is free there.
+
+ghost use Rattle.std.specs.Prelude.{◌≡◌, ◌≤◌, IfOk, IfErr, OnErr, OnOk, length, List, ℕ, Result};
+ghost use Rattle.lb_wire.specs.Message.{Message, Lays};
+ghost use Rattle.lb_wire.specs.Numbers.{rcode_number};
+ghost use Rattle.lb_wire.specs.Answer.{refusal_of};
+ghost use Rattle.lb_wire.specs.Query.{IsQuery, view_of};
+ghost use Rattle.lb_core.specs.Forward.{entry_of as entry_of_spec, Forwards, lane_of as lane_of_spec, sent_of, with_id};
+ghost use Rattle.lb_core.specs.declared.answer.Answer.TheVariants.{Local};
+
+use crate::answer::{Answer, LocalReason};
+use crate::asked::Asked;
+use crate::upstream::Upstream;
+use lb_table::{EnterFault, Entry};
+use lb_wire::{
+    Kind, Lane, Octets, PoolId, QueryView, Rcode, answer_in_place, clear_rd, restore_id,
+};
+use std::alloc::{AllocError, Global};
+
+/// Answers a query by a server of a pool. Where memory is wanting for its entry, nothing changes and the query's bytes come
+/// back.
+pub(crate) fn forward(
+    alloc: Global,
+    upstream: &mut Upstream,
+    asked: &Asked,
+    bytes: Vec<u8>,
+    view: &QueryView,
+    no_recurse: bool,
+    pool: PoolId,
+) -> Result<Answer, Vec<u8>>
+    requires view { (m : Message) × Lays bytes.items m × IsQuery m × (view.now ≡ view_of m) }
+    ensures forwards { IfOk result (λ answer. Forwards upstream.old asked.now bytes.items view.now no_recurse pool answer upstream.new) }
+    ensures back { IfErr result (λ back. back.items ≡ bytes.items) }
+    ensures unchanged { OnErr result (upstream.new ≡ upstream.old) }
+{
+    let Some(server) = upstream.pick(pool) else {
+        return Ok(refused(bytes, view, Rcode::ServFail, LocalReason::NoServer));
+    };
+    let Ok(entry) = entry_of(alloc, upstream.timeout(), asked, bytes.as_slice(), view) else {
+        return Err(bytes);
+    };
+    let lane = lane_of(asked.kind);
+    match upstream.send(pool, server, lane, asked.word, entry) {
+        Ok(id) => Ok(Answer::Forward(server, lane, id, message(bytes, no_recurse, id))),
+        Err((EnterFault::LaneFull, _)) => {
+            Ok(refused(bytes, view, Rcode::ServFail, LocalReason::LaneFull))
+        }
+        Err((EnterFault::NoMemory, _)) => Err(bytes),
+    }
+}
+
+/// The upstream socket for queries that came by a transport.
+fn lane_of(kind: Kind) -> Lane
+    ensures { result ≡ lane_of_spec kind }
+{
+    Lane { kind, number: 0 }
+}
+
+ghost use Rattle.lb_core.specs.Upstream.{Upstreams};
+
+/// What is kept of a query until its reply. The one error is want of memory.
+fn entry_of(
+    alloc: Global,
+    timeout: u32,
+    asked: &Asked,
+    bytes: &[u8],
+    view: &QueryView,
+) -> Result<Entry, AllocError>
+    ensures { IfOk result (λ entry. (ups : Upstreams) → ups.timeout ≡ timeout → entry ≡ entry_of_spec ups asked.now bytes.now view.now) }
+{
+    Ok(Entry {
+        origin: asked.origin,
+        asked: Octets::from_vec(Vec::from_slice(alloc, bytes)?),
+        name: view.name.copy(),
+        qtype: view.qtype,
+        qclass: view.qclass,
+        began: asked.moment,
+        timeout,
+        cache: None,
+    })
+}
+
+/// The message to be sent, in the query's own bytes: with this ID, and with RD 0 where a rule says so.
+fn message(mut bytes: Vec<u8>, no_recurse: bool, id: u16) -> Octets
+    requires { 12 ≤ length bytes.items }
+    ensures { result ≡ with_id id (sent_of no_recurse bytes.items) }
+{
+    if no_recurse {
+        clear_rd(&mut bytes);
+    }
+    restore_id(&mut bytes, id);
+    Octets::from_vec(bytes)
+}
+
+/// The refusal with this RCODE, in the query's own bytes.
+pub(crate) fn refused(mut bytes: Vec<u8>, view: &QueryView, rcode: Rcode, why: LocalReason) -> Answer
+    requires { (m : Message) × Lays bytes.items m × IsQuery m × (view.now ≡ view_of m) }
+    ensures { result ≡ Local (refusal_of view.now (rcode_number rcode)) why }
+{
+    answer_in_place(&mut bytes, view, rcode);
+    Answer::Local(Octets::from_vec(bytes), why)
+}

@@ -1,0 +1,177 @@
+//! Servers, pools and outstanding queries, kept together: each server's count is the number of its outstanding queries.
+
+ghost use Rattle.std.specs.Prelude.{◌≡◌, ◌<◌, ℕ, IfOk, IfSome, option_map};
+ghost use Rattle.lb_servers.specs.Park.{added_pool, added_server, changed_pool, changed_server, lacks, removed_server};
+ghost use Rattle.lb_servers.specs.Pool.{pool_named, with_policy};
+ghost use Rattle.lb_servers.specs.Server.{with_mode};
+ghost use Rattle.lb_table.specs.Place.{at_place};
+ghost use Rattle.lb_table.specs.Table.{entry_at};
+ghost use Rattle.lb_core.specs.Upstream.{backends_of, no_upstreams, on_backends, picked_of, IsAsked, SendsBy};
+ghost use Rattle.lb_core.specs.Edit.{server_by};
+ghost use Rattle.lb_core.specs.Reply.{without};
+
+use lb_servers::{Ident, Mode, Park, ParkFault, Policy, PoolName, ServerSpec};
+use lb_table::{EnterFault, Entry, Table};
+use lb_wire::{Lane, PoolId, ServerId};
+use std::alloc::{AllocError, Global};
+use std::marker::Model;
+
+/// How long a query waits for its reply at first, in milliseconds.
+const FIRST_TIMEOUT: u32 = 2000;
+
+/// Servers, pools and outstanding queries. A contract sees them as plain lists, in which no server has a count.
+#[derive(Debug, Drop)]
+pub(crate) struct Upstream {
+    /// How long a query waits for its reply, in milliseconds.
+    timeout: u32,
+    park: Park,
+    table: Table,
+}
+
+impl Model for Upstream {
+    ghost use Rattle.std.specs.Prelude.{map};
+    ghost use Rattle.lb_core.specs.Upstream.{IsTied, Upstreams, server_of};
+
+    ghost Value = { Upstreams };
+
+    ghost view = { λ u. record { timeout = u.timeout; next_server = u.park.next; servers = map server_of u.park.servers; pools = u.park.pools; outstanding = u.table } };
+
+    ghost invariant = { λ u. IsTied u.park u.table };
+}
+
+impl Upstream {
+    /// No server, the default pool, and nothing outstanding. The one error is want of memory.
+    pub(crate) fn new(alloc: Global) -> Result<Upstream, AllocError>
+        ensures { IfOk result (λ upstream. upstream ≡ no_upstreams) }
+    {
+        Ok(Upstream {
+            timeout: FIRST_TIMEOUT,
+            park: Park::new(alloc)?,
+            table: Table::new(alloc),
+        })
+    }
+
+    /// How long a query waits for its reply, in milliseconds.
+    pub(crate) fn timeout(&self) -> u32
+        ensures { result ≡ self.now.timeout }
+    {
+        self.timeout
+    }
+
+    /// The server that a pool picks for a query.
+    pub(crate) fn pick(&self, pool: PoolId) -> Option<ServerId>
+        ensures picked { result ≡ picked_of self.now pool }
+        ensures given { IfSome result (λ server. server.0 < self.now.next_server) }
+    {
+        self.park.pick(pool)
+    }
+
+    /// Enters a query that this pool sends to this server by this lane, and gives the ID that it is sent with; the pool's
+    /// turn is counted, also where no ID is free. Where memory is wanting nothing changes. The entry that is not entered
+    /// comes back.
+    pub(crate) fn send(
+        &mut self,
+        pool: PoolId,
+        server: ServerId,
+        lane: Lane,
+        word: u16,
+        entry: Entry,
+    ) -> Result<u16, (EnterFault, Entry)>
+        requires given { server.0 < self.old.next_server }
+        requires asked { IsAsked entry }
+        ensures { SendsBy self.old pool server lane word entry result self.new }
+    {
+        match self.table.enter(server, lane, word, entry) {
+            Ok(id) => {
+                self.park.began(server);
+                count_turn(&mut self.park, pool);
+                Ok(id)
+            }
+            Err((EnterFault::LaneFull, entry)) => {
+                count_turn(&mut self.park, pool);
+                Err((EnterFault::LaneFull, entry))
+            }
+            Err((EnterFault::NoMemory, entry)) => Err((EnterFault::NoMemory, entry)),
+        }
+    }
+
+    /// The query that waits for a reply of this server, by this lane, with this ID.
+    pub(crate) fn find(&self, server: ServerId, lane: Lane, id: u16) -> Option<&Entry>
+        ensures { option_map (λ entry. entry.now) result ≡ entry_at self.now.outstanding (at_place server lane id) }
+    {
+        self.table.find(server, lane, id)
+    }
+
+    /// Takes the query out that waits for a reply of this server, by this lane, with this ID. The server may have been
+    /// removed.
+    pub(crate) fn take(&mut self, server: ServerId, lane: Lane, id: u16) -> Option<Entry>
+        ensures entry { result ≡ entry_at self.old.outstanding (at_place server lane id) }
+        ensures asked { IfSome result (λ entry. IsAsked entry) }
+        ensures without { self.new ≡ without (at_place server lane id) self.old }
+    {
+        let entry = self.table.take(server, lane, id)?;
+        self.park.ended(server);
+        Some(entry)
+    }
+
+    /// The server with a name.
+    pub(crate) fn server_named(&self, name: &Ident) -> Option<ServerId>
+        ensures { result ≡ server_by self.now name.now }
+    {
+        self.park.server_named(name)
+    }
+
+    /// The pool with a name.
+    pub(crate) fn pool_named(&self, name: &PoolName) -> Option<PoolId>
+        ensures { result ≡ pool_named self.now.pools name.now }
+    {
+        self.park.pool_named(name)
+    }
+
+    /// Adds a server.
+    pub(crate) fn add_server(&mut self, spec: ServerSpec) -> Result<ServerId, ParkFault>
+        ensures { (self.new, result) ≡ on_backends self.old (added_server (lacks result) (backends_of self.old) spec) }
+    {
+        self.park.add_server(spec)
+    }
+
+    /// Removes a server. Its outstanding queries stay.
+    pub(crate) fn remove_server(&mut self, id: ServerId) -> Result<(), ParkFault>
+        ensures { (self.new, result) ≡ on_backends self.old (removed_server (backends_of self.old) id) }
+    {
+        self.park.remove_server(id)
+    }
+
+    /// Puts a server into a mode.
+    pub(crate) fn set_mode(&mut self, id: ServerId, mode: Mode) -> Result<(), ParkFault>
+        ensures { (self.new, result) ≡ on_backends self.old (changed_server (with_mode mode) (backends_of self.old) id) }
+    {
+        self.park.set_mode(id, mode)
+    }
+
+    /// Adds a pool.
+    pub(crate) fn add_pool(&mut self, name: PoolName) -> Result<PoolId, ParkFault>
+        ensures { (self.new, result) ≡ on_backends self.old (added_pool (lacks result) (backends_of self.old) name) }
+    {
+        self.park.add_pool(name)
+    }
+
+    /// Gives a pool a policy.
+    pub(crate) fn set_policy(&mut self, pool: PoolId, policy: Policy) -> Result<(), ParkFault>
+        ensures { (self.new, result) ≡ on_backends self.old (changed_pool (with_policy policy) (backends_of self.old) pool) }
+    {
+        self.park.set_policy(pool, policy)
+    }
+}
+
+ghost use Rattle.lb_core.specs.Upstream.{turned_if};
+ghost use Rattle.lb_servers.specs.Pool.{change_at};
+
+/// Counts a turn of a pool whose policy is roundrobin.
+fn count_turn(park: &mut Park, pool: PoolId)
+    ensures { park.new ≡ record park.old { pools = change_at turned_if pool.0 park.old.pools } }
+{
+    if let Some(Policy::RoundRobin) = park.policy_of(pool) {
+        park.turn(pool);
+    }
+}
