@@ -1,5 +1,5 @@
 -- The servers, the pools and the outstanding queries of the plain state: what forwarding reads and changes.
-use Rattle.std.specs.Prelude.{◌≡◌, ℕ, ◌<◌, Bool, List, [], ◌∷◌, map, if◌then◌else◌}
+use Rattle.std.specs.Prelude.{◌≡◌, ℕ, ◌<◌, Bool, true, false, List, [], ◌∷◌, map, if◌then◌else◌}
 use Rattle.std.specs.List.{count_by, AllByRecursion}
 use Rattle.lb_wire.specs.Query.{Reads}
 use Rattle.lb_wire.specs.declared.ids.PoolId.{PoolId}
@@ -63,14 +63,16 @@ on_backends ups done = (with_backends done.0 ups, done.1)
 abbrev pub picked_of : Upstreams → PoolId → Option ServerId
 picked_of ups pool = picked (backends_of ups).servers ups.pools pool
 
--- a pool after a query that it sent: the turn of roundrobin goes up
-abbrev pub turned_by : Policy → Pool → Pool
-turned_by FirstAvailable pool = pool
-turned_by LeastOutstanding pool = pool
-turned_by RoundRobin pool = turned pool
+-- whether a pool of this policy takes turns
+abbrev pub takes_turns : Option Policy → Bool
+takes_turns None = false
+takes_turns (Some FirstAvailable) = false
+takes_turns (Some LeastOutstanding) = false
+takes_turns (Some RoundRobin) = true
 
+-- a pool after a query that it sent: the turn of roundrobin goes up
 abbrev pub turned_if : Pool → Pool
-turned_if pool = turned_by pool.policy pool
+turned_if pool = if takes_turns (Some pool.policy) then turned pool else pool
 
 abbrev pub with_turn : PoolId → Upstreams → Upstreams
 with_turn pool ups = record ups { pools = change_at turned_if pool.0 ups.pools }

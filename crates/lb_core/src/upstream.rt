@@ -164,14 +164,24 @@ impl Upstream {
     }
 }
 
-ghost use Rattle.lb_core.specs.Upstream.{turned_if};
+ghost use Rattle.lb_core.specs.Upstream.{takes_turns as takes_turns_of, turned_if};
 ghost use Rattle.lb_servers.specs.Pool.{change_at};
 
 /// Counts a turn of a pool whose policy is roundrobin.
 fn count_turn(park: &mut Park, pool: PoolId)
     ensures { park.new ≡ record park.old { pools = change_at turned_if pool.0 park.old.pools } }
 {
-    if let Some(Policy::RoundRobin) = park.policy_of(pool) {
+    if takes_turns(park.policy_of(pool)) {
         park.turn(pool);
+    }
+}
+
+/// Whether a pool of this policy takes turns.
+fn takes_turns(policy: Option<Policy>) -> bool
+    ensures { result ≡ takes_turns_of policy }
+{
+    match policy {
+        Some(Policy::RoundRobin) => true,
+        Some(Policy::FirstAvailable | Policy::LeastOutstanding) | None => false,
     }
 }

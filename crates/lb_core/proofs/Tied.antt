@@ -1,0 +1,266 @@
+-- Each server's count is the number of its outstanding queries, through each change of the table of servers and of the
+-- outstanding list.
+use Rattle.std.proofs.Common.{◌≡◌, ℕ, ◌+◌, ◌-◌, ◌<◌, ◌≤◌, ◌^◌, ◌==◌, ◌&&◌, Bool, true, false, not, IsTrue, List, [], ◌∷◌, ◌++◌, length, map, get_or, Option, Some, None, IfSome, cond, inl, inr, refl, sym, ◌∙◌, ap, subst, arith, nat_le, ltb, Result, Ok, Err}
+use Rattle.std.specs.Prelude.{if◌then◌else◌, is_some, slice_get, option_map}
+use Rattle.std.specs.List.{AllByRecursion, All, count_by, filter, find, insert, list_any, position, position_or_len, remove}
+use Rattle.std.proofs.lemmas.Bool.Decides.{nat_tests}
+use Rattle.std.proofs.lemmas.Bool.{lt-ltb, cond-true, cond-false, cases_Bool}
+use Rattle.std.proofs.lemmas.List.Folds.{find_at}
+use Rattle.std.proofs.lemmas.List.Sums.{sum_by-insert, sum_by-remove, sum_by-cons, count_by-le-length, passes_at_first}
+use Rattle.std.proofs.lemmas.Option.{slice_get_cases}
+use Rattle.lb_wire.specs.declared.ids.ServerId.{ServerId}
+use Rattle.lb_wire.specs.declared.ids.PoolId.{PoolId}
+use Rattle.lb_wire.specs.declared.transport.Lane.{Lane}
+use Rattle.lb_servers.specs.declared.fault.ParkFault.{ParkFault}
+use Rattle.lb_servers.specs.declared.fault.ParkFault.TheVariants as faults
+use Rattle.lb_servers.specs.declared.pool.Pool.{Pool}
+use Rattle.lb_servers.specs.declared.pool.PoolName.{PoolName}
+use Rattle.lb_servers.specs.declared.server.Mode.{Mode}
+use Rattle.lb_servers.specs.declared.server.Server.{Server}
+use Rattle.lb_servers.specs.declared.server.Loaded.{Loaded}
+use Rattle.lb_servers.specs.declared.spec.ServerSpec.{ServerSpec}
+use Rattle.lb_servers.specs.Park.{Backends, added_pool, added_server, changed_pool, changed_server, max_pools, max_servers, removed_server, with_server}
+use Rattle.lb_servers.specs.Pool.{change_at, is_named, new_pool}
+use Rattle.lb_servers.specs.Server.{change_if, change_server, is_server, server_named, with_mode, with_one_less, with_one_more}
+use Rattle.lb_servers.specs.Spec.{lacks_pool, new_server, stated_pools}
+use Rattle.lb_table.specs.declared.place.Place.{Place}
+use Rattle.lb_table.specs.declared.entry.Entry.{Entry}
+use Rattle.lb_table.specs.declared.entry.Waiting.{Waiting}
+use Rattle.lb_table.specs.Place.{same_place, same_lane}
+use Rattle.lb_table.specs.Table.{entered, entry_at, is_at, is_for, taken_at, waits_at}
+use Rattle.lb_core.specs.Upstream.{Upstreams, IsAsked, IsTied, backends_of, loaded_by, on_backends, server_of, with_backends}
+use Rattle.lb_core.proofs.Each.{each_append, each_at, each_filter, each_insert, each_map, each_remove, each_weaker, all_of_each}
+
+-- a server's count is right
+abbrev pub Counts : List Waiting → Loaded → Type 0
+Counts t l = l.outstanding ≡ count_by (is_for l.server.id) t
+
+-- counted anew, the servers are those that the table has
+pub counted_anew : (t : List Waiting) (servers : List Loaded) → AllByRecursion (Counts t) servers → map (loaded_by t) (map server_of servers) ≡ servers
+counted_anew t [] all = refl
+counted_anew t (l ∷ servers) all =
+    ap (λ (n : ℕ). record l { outstanding = n } ∷ map (loaded_by t) (map server_of servers)) (sym all.0)
+    ∙ ap (λ (ls : List Loaded). l ∷ ls) (counted_anew t servers all.1)
+
+-- an edit of the table of servers is that edit of the servers with their loads counted anew
+pub on_tied : {A : Type 0} (ups : Upstreams) (park new : Backends) (given : A) (edit : Backends → Backends × A) →
+    backends_of ups ≡ park → (new, given) ≡ edit park → (with_backends new ups, given) ≡ on_backends ups (edit (backends_of ups))
+on_tied ups park new given edit tied is = ap (on_backends ups) is ∙ ap (λ (p : Backends). on_backends ups (edit p)) (sym tied)
+
+-- the table of servers with their loads counted anew is the table
+pub counted_tied : (timeout : ℕ) (park : Backends) (t : List Waiting) → IsTied park t →
+    backends_of (record { timeout = timeout; next_server = park.next; servers = map server_of park.servers; pools = park.pools; outstanding = t }) ≡ park
+counted_tied timeout park t tied = ap (λ (servers : List Loaded). record park { servers = servers }) (counted_anew t park.servers tied.loads)
+
+-- what an edit leaves
+pub left_by : {A : Type 0} (new : Backends) (given : A) (done : Backends × A) → (new, given) ≡ done → new ≡ done.0
+left_by {A} new given done is = ap (λ (d : Backends × A). d.0) is
+
+-- whether one number is another, asked the other way round
+eq_round : (a b : ℕ) → (a == b) ≡ (b == a)
+eq_round a b = grind (arith, nat_tests)
+
+eq_numbers : (a b : ℕ) → (a == b) ≡ true → a ≡ b
+eq_numbers a b is = grind (arith, nat_tests, is)
+
+-- a count with one more query
+counted_in : (t : List Waiting) (at : ℕ) (w : Waiting) (id : ServerId) (here : Bool) → (w.place.server.0 == id.0) ≡ here → count_by (is_for id) (insert t at w) ≡ count_by (is_for id) t + cond here 1 0
+counted_in t at w id here is = sum_by-insert (λ x. cond (is_for id x) 1 0) t at w ∙ ap (λ (b : Bool). count_by (is_for id) t + cond b 1 0) is
+
+one_more : (t : List Waiting) (at : ℕ) (w : Waiting) (server : ServerId) (l : Loaded) (here : Bool) →
+    w.place.server ≡ server → is_server server l ≡ here → Counts t l → Counts (insert t at w) (change_if here with_one_more l)
+one_more t at w server l true place is counts =
+    ap (λ (n : ℕ). n + 1) counts ∙ sym (counted_in t at w l.server.id true (ap (λ (s : ServerId). s.0 == l.server.id.0) place ∙ eq_round server.0 l.server.id.0 ∙ is))
+one_more t at w server l false place is counts =
+    counts ∙ sym (counted_in t at w l.server.id false (ap (λ (s : ServerId). s.0 == l.server.id.0) place ∙ eq_round server.0 l.server.id.0 ∙ is) ∙ omega (arith))
+
+all_one_more : (t : List Waiting) (at : ℕ) (w : Waiting) (server : ServerId) (servers : List Loaded) →
+    w.place.server ≡ server → AllByRecursion (Counts t) servers → AllByRecursion (Counts (insert t at w)) (change_server server with_one_more servers)
+all_one_more t at w server [] place all = tt
+all_one_more t at w server (l ∷ servers) place all = (one_more t at w server l (is_server server l) place refl all.0, all_one_more t at w server servers place all.1)
+
+-- a changed server keeps its number
+same_number : (change : Loaded → Loaded) (b : Bool) (l : Loaded) → (change l).server.id ≡ l.server.id → (change_if b change l).server.id ≡ l.server.id
+same_number change true l is = is
+same_number change false l is = refl
+
+given_still : (next : ℕ) (change : Loaded → Loaded) (id : ServerId) (servers : List Loaded) → ((l : Loaded) → (change l).server.id ≡ l.server.id) →
+    AllByRecursion (λ l. l.server.id.0 < next) servers → AllByRecursion (λ l. l.server.id.0 < next) (change_server id change servers)
+given_still next change id [] keeps all = tt
+given_still next change id (l ∷ servers) keeps all =
+    (subst (λ (s : ServerId). s.0 < next) (sym (same_number change (is_server id l) l (keeps l))) all.0, given_still next change id servers keeps all.1)
+
+-- a query that is sent to a server, and counted there
+pub tied_in : (park : Backends) (t : List Waiting) (place : Place) (entry : Entry) → IsTied park t → place.server.0 < park.next → IsAsked entry →
+    IsTied (with_server with_one_more place.server park) (entered t place entry)
+tied_in park t place entry tied given asked =
+    record {
+      loads = all_one_more t _ (record { place = place; entry = entry }) place.server park.servers refl tied.loads;
+      given = given_still park.next with_one_more place.server park.servers (λ l. refl) tied.given;
+      sent = each_insert (λ w. w.place.server.0 < park.next) t _ _ tied.sent given;
+      asked = each_insert (λ w. IsAsked w.entry) t _ _ tied.asked asked }
+
+-- no count reaches the end of a number
+pub room_to_count : (park : Backends) (t : List Waiting) (server : ServerId) → IsTied park t → length t + 1 < 2 ^ 64 → All (λ l. IsTrue (is_server server l) → l.outstanding + 1 < 2 ^ 64) park.servers
+room_to_count park t server tied short =
+    let Room : Loaded → Type 0 = λ l. IsTrue (is_server server l) → l.outstanding + 1 < 2 ^ 64 in
+    let room : (l : Loaded) → Counts t l → Room l = λ l counts is. omega (arith, counts, short, count_by-le-length (is_for l.server.id) t) in
+    all_of_each Room park.servers (each_weaker (Counts t) Room park.servers room tied.loads)
+
+-- what is found in a list: where it stands, and that it passes
+pub record FoundAt {X Y : Type 0} (p : X → Bool) (f : X → Y) (xs : List X) (y : Y) : Type 0 where
+  pub at : ℕ
+  pub x : X
+  pub where_is : position p xs ≡ Some at
+  pub within : at < length xs
+  pub here : get_or xs at x ≡ x
+  pub passes : p x ≡ true
+  pub gives : f x ≡ y
+
+none_some : {X : Type 0} (x : X) → None ≡ Some x → ⊥
+none_some x is = cc is
+
+some_same : {X : Type 0} (x y : X) → Some x ≡ Some y → x ≡ y
+some_same x y is = cc is
+
+-- what is found stands at the first place that passes
+pub found_at : {X Y : Type 0} (p : X → Bool) (f : X → Y) (xs : List X) (y : Y) → option_map f (find p xs) ≡ Some y → FoundAt p f xs y
+found_at {X} {Y} p f xs y is =
+    let n = position_or_len p xs in
+    elim ((slice_get_cases xs n).1) [
+      | inl h ↦
+          let x : X = h.0 in
+          let lt : n < length xs = h.1 in
+          let found : find p xs ≡ Some x = find_at p xs ∙ h.2 in
+          record {
+            at = n;
+            x = x;
+            where_is = cond-true _ _ _ (lt-ltb n (length xs) lt);
+            within = lt;
+            here = h.3;
+            passes = subst (λ (z : X). p z ≡ true) h.3 (passes_at_first p xs x lt);
+            gives = some_same (f x) y (sym (ap (option_map f) found) ∙ is) }
+      | inr h ↦ absurd (none_some y (sym (ap (option_map f) (find_at p xs ∙ h.1)) ∙ is))
+    ]
+
+first_true : (a b : Bool) → (a && b) ≡ true → a ≡ true
+first_true true b is = refl
+first_true false b is = absurd (cc is)
+
+-- a count with one query less
+counted_out : (t : List Waiting) (at : ℕ) (w : Waiting) (id : ServerId) (here : Bool) → at < length t → get_or t at w ≡ w → (w.place.server.0 == id.0) ≡ here →
+    count_by (is_for id) (remove t at) + cond here 1 0 ≡ count_by (is_for id) t
+counted_out t at w id here lt there is =
+    sym (ap (λ (b : Bool). count_by (is_for id) (remove t at) + cond b 1 0) is)
+    ∙ sym (ap (λ (x : Waiting). count_by (is_for id) (remove t at) + cond (is_for id x) 1 0) there)
+    ∙ sum_by-remove (λ x. cond (is_for id x) 1 0) t at w lt
+
+one_less : (t : List Waiting) (at : ℕ) (w : Waiting) (server : ServerId) (l : Loaded) (here : Bool) → at < length t → get_or t at w ≡ w →
+    w.place.server.0 ≡ server.0 → is_server server l ≡ here → Counts t l → Counts (remove t at) (change_if here with_one_less l)
+one_less t at w server l true lt there place is counts =
+    let out = counted_out t at w l.server.id true lt there (ap (λ (n : ℕ). n == l.server.id.0) place ∙ eq_round server.0 l.server.id.0 ∙ is) in
+    omega (arith, counts, out)
+one_less t at w server l false lt there place is counts =
+    let out = counted_out t at w l.server.id false lt there (ap (λ (n : ℕ). n == l.server.id.0) place ∙ eq_round server.0 l.server.id.0 ∙ is) in
+    omega (arith, counts, out)
+
+all_one_less : (t : List Waiting) (at : ℕ) (w : Waiting) (server : ServerId) (servers : List Loaded) → at < length t → get_or t at w ≡ w →
+    w.place.server.0 ≡ server.0 → AllByRecursion (Counts t) servers → AllByRecursion (Counts (remove t at)) (change_server server with_one_less servers)
+all_one_less t at w server [] lt there place all = tt
+all_one_less t at w server (l ∷ servers) lt there place all =
+    (one_less t at w server l (is_server server l) lt there place refl all.0, all_one_less t at w server servers lt there place all.1)
+
+-- a query that is taken out, and counted out at its server
+pub tied_out : (park : Backends) (t : List Waiting) (place : Place) (entry : Entry) → IsTied park t → entry_at t place ≡ Some entry →
+    IsTied (with_server with_one_less place.server park) (taken_at t (waits_at place t))
+tied_out park t place entry tied is =
+    let f = found_at (is_at place) (λ w. w.entry) t entry is in
+    let server : f.x.place.server.0 ≡ place.server.0 = eq_numbers f.x.place.server.0 place.server.0 (first_true _ _ f.passes) in
+    let out : IsTied (with_server with_one_less place.server park) (remove t f.at) = record {
+      loads = all_one_less t f.at f.x place.server park.servers f.within f.here server tied.loads;
+      given = given_still park.next with_one_less place.server park.servers (λ l. refl) tied.given;
+      sent = each_remove (λ w. w.place.server.0 < park.next) t f.at tied.sent;
+      asked = each_remove (λ w. IsAsked w.entry) t f.at tied.asked } in
+    subst (λ (at : Option ℕ). IsTied (with_server with_one_less place.server park) (taken_at t at)) (sym f.where_is) out
+
+-- a query that is taken out reads
+pub asked_out : (park : Backends) (t : List Waiting) (place : Place) (entry : Entry) → IsTied park t → entry_at t place ≡ Some entry → IsAsked entry
+asked_out park t place entry tied is =
+    let f = found_at (is_at place) (λ w. w.entry) t entry is in
+    let one : IsAsked f.x.entry = subst (λ (w : Waiting). IsAsked w.entry) f.here (each_at (λ w. IsAsked w.entry) t f.at f.x tied.asked f.within) in
+    subst IsAsked f.gives one
+
+-- edits of the table of servers
+
+
+
+
+ties_if : {A : Type 0} (t : List Waiting) (b : Bool) (x y : Backends × A) → IsTied x.0 t → IsTied y.0 t → IsTied (if b then x else y).0 t
+ties_if t true x y first second = first
+ties_if t false x y first second = second
+
+-- other pools
+same_servers : (t : List Waiting) (park : Backends) (pools : List Pool) → IsTied park t → IsTied (record park { pools = pools }) t
+same_servers t park pools tied = record { loads = tied.loads; given = tied.given; sent = tied.sent; asked = tied.asked }
+
+pub tied_pool : (t : List Waiting) (lacking : Bool) (park : Backends) (name : PoolName) → IsTied park t → IsTied (added_pool lacking park name).0 t
+tied_pool t lacking park name tied =
+    ties_if t (list_any (is_named name) park.pools) (park, Err faults.NameTaken) _ tied
+    (ties_if t (nat_le max_pools (length park.pools)) (park, Err faults.TooMany) _ tied
+    (ties_if t lacking (park, Err faults.NoMemory) (record park { pools = park.pools ++ new_pool name ∷ [] }, Ok (record { 0 = length park.pools })) tied (same_servers t park (park.pools ++ new_pool name ∷ []) tied)))
+
+pub tied_policy : (t : List Waiting) (change : Pool → Pool) (park : Backends) (pool : PoolId) → IsTied park t → IsTied (changed_pool change park pool).0 t
+tied_policy t change park pool tied =
+    ties_if t (is_some (slice_get park.pools pool.0)) (record park { pools = change_at change pool.0 park.pools }, Ok tt) (park, Err faults.NoSuchPool) (same_servers t park (change_at change pool.0 park.pools) tied) tied
+
+-- no query waits for a server whose number was not given
+none_waits : (next : ℕ) (t : List Waiting) → AllByRecursion (λ w. w.place.server.0 < next) t → count_by (is_for (record { 0 = next })) t ≡ 0
+none_waits next [] all = refl
+none_waits next (w ∷ t) all =
+    let other : (w.place.server.0 == next) ≡ false = grind (arith, nat_tests, all.0) in
+    sum_by-cons (λ x. cond (is_for (record { 0 = next }) x) 1 0) w t
+    ∙ ap (λ (b : Bool). cond b 1 0 + count_by (is_for (record { 0 = next })) t) other
+    ∙ ap (λ (n : ℕ). 0 + n) (none_waits next t all.1)
+
+with_new : (t : List Waiting) (park : Backends) (spec : ServerSpec) → IsTied park t →
+    IsTied (record park { next = park.next + 1; servers = park.servers ++ new_server park.next park.pools spec ∷ [] }) t
+with_new t park spec tied = record {
+    loads = each_append (Counts t) park.servers (new_server park.next park.pools spec ∷ []) tied.loads (sym (none_waits park.next t tied.sent), tt);
+    given = each_append (λ l. l.server.id.0 < park.next + 1) park.servers (new_server park.next park.pools spec ∷ []) (each_weaker (λ l. l.server.id.0 < park.next) _ park.servers (λ l lt. omega (arith, lt)) tied.given) (omega (arith), tt);
+    sent = each_weaker (λ w. w.place.server.0 < park.next) _ t (λ w lt. omega (arith, lt)) tied.sent;
+    asked = tied.asked }
+
+pub tied_server : (t : List Waiting) (lacking : Bool) (park : Backends) (spec : ServerSpec) → IsTied park t → IsTied (added_server lacking park spec).0 t
+tied_server t lacking park spec tied =
+    ties_if t (lacks_pool park.pools (stated_pools spec.pools)) (park, Err faults.NoSuchPool) _ tied
+    (ties_if t (is_some (server_named park.servers spec.name)) (park, Err faults.NameTaken) _ tied
+    (ties_if t (nat_le max_servers (length park.servers)) (park, Err faults.TooMany) _ tied
+    (ties_if t (park.next == 2 ^ 64) (park, Err faults.NoMoreIds) _ tied
+    (ties_if t lacking (park, Err faults.NoMemory) (record park { next = park.next + 1; servers = park.servers ++ new_server park.next park.pools spec ∷ [] }, Ok (record { 0 = park.next })) tied (with_new t park spec tied)))))
+
+pub tied_removed : (t : List Waiting) (park : Backends) (id : ServerId) → IsTied park t → IsTied (removed_server park id).0 t
+tied_removed t park id tied =
+    let without : IsTied (record park { servers = filter (λ l. not (is_server id l)) park.servers }) t = record {
+      loads = each_filter (Counts t) _ park.servers tied.loads;
+      given = each_filter (λ l. l.server.id.0 < park.next) _ park.servers tied.given;
+      sent = tied.sent;
+      asked = tied.asked } in
+    ties_if t (list_any (is_server id) park.servers) (record park { servers = filter (λ l. not (is_server id l)) park.servers }, Ok tt) (park, Err faults.NoSuchServer) without tied
+
+-- a server in another mode keeps its count
+counts_still : (t : List Waiting) (mode : Mode) (b : Bool) (l : Loaded) → Counts t l → Counts t (change_if b (with_mode mode) l)
+counts_still t mode true l counts = counts
+counts_still t mode false l counts = counts
+
+all_count_still : (t : List Waiting) (mode : Mode) (id : ServerId) (servers : List Loaded) → AllByRecursion (Counts t) servers → AllByRecursion (Counts t) (change_server id (with_mode mode) servers)
+all_count_still t mode id [] all = tt
+all_count_still t mode id (l ∷ servers) all = (counts_still t mode (is_server id l) l all.0, all_count_still t mode id servers all.1)
+
+pub tied_mode : (t : List Waiting) (mode : Mode) (park : Backends) (id : ServerId) → IsTied park t → IsTied (changed_server (with_mode mode) park id).0 t
+tied_mode t mode park id tied =
+    let put : IsTied (record park { servers = change_server id (with_mode mode) park.servers }) t = record {
+      loads = all_count_still t mode id park.servers tied.loads;
+      given = given_still park.next (with_mode mode) id park.servers (λ l. refl) tied.given;
+      sent = tied.sent;
+      asked = tied.asked } in
+    ties_if t (list_any (is_server id) park.servers) (record park { servers = change_server id (with_mode mode) park.servers }, Ok tt) (park, Err faults.NoSuchServer) put tied
