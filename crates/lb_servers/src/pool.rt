@@ -1,11 +1,15 @@
 //! Pools of servers.
 
-ghost use Rattle.std.specs.Prelude.{◌≡◌, ◌<◌, ◌≤◌, IfSome, is_some, length};
-ghost use Rattle.std.specs.List.{position};
-ghost use Rattle.lb_servers.specs.Pool.{change_at, is_named, pool_named as number_named, same_name, turned, with_policy};
+ghost use Rattle.std.specs.Prelude.{◌≡◌, ◌<◌, ◌≤◌, IfOk, IfSome, is_some, length, slice_get};
+ghost use Rattle.std.specs.List.{list_any, position};
+ghost use Rattle.lb_servers.specs.Pool.{change_at, is_named, new_pool, pool_named as number_named, same_name, turned, with_policy};
 
 use crate::ident::Ident;
 use lb_wire::PoolId;
+use std::alloc::{AllocError, Global};
+
+/// The most pools, the default one counted.
+pub(crate) const MAX_POOLS: usize = 64;
 
 /// The name of a pool. The default pool is a value of its own: texts write it as `-`.
 #[derive(Debug, Drop)]
@@ -58,6 +62,17 @@ pub struct Pool {
 }
 
 impl Pool {
+    /// A new pool: its policy is leastOutstanding.
+    pub(crate) fn new(name: PoolName) -> Pool
+        ensures { result ≡ new_pool name }
+    {
+        Pool {
+            name,
+            policy: Policy::LeastOutstanding,
+            turn: 0,
+        }
+    }
+
     /// An equal pool.
     pub fn copy(&self) -> Pool
         ensures { result ≡ self.now }
@@ -108,6 +123,20 @@ pub(crate) fn has_pool(pools: &[Pool], name: &PoolName) -> bool
     place_named(pools, name).is_some()
 }
 
+/// Whether a pool has a name.
+pub(crate) fn is_taken(pools: &[Pool], name: &PoolName) -> bool
+    ensures { result ≡ list_any (is_named name.now) pools.now }
+{
+    pools.iter().any(|pool| pool.name.is(name))
+}
+
+/// Whether a pool stands at a place.
+pub(crate) fn is_there(pools: &[Pool], at: usize) -> bool
+    ensures { result ≡ is_some (slice_get pools.now at) }
+{
+    pools.get(at).is_some()
+}
+
 /// Counts a turn of the pool at a place, where one stands there.
 pub(crate) fn turn_at(pools: &mut [Pool], at: usize)
     ensures { pools.new ≡ change_at turned at pools.old }
@@ -124,4 +153,15 @@ pub(crate) fn set_policy_at(pools: &mut [Pool], at: usize, policy: Policy)
     if at < pools.len() {
         pools[at].set_policy(policy);
     }
+}
+
+/// Copies of the pools, in order.
+pub(crate) fn list(alloc: Global, pools: &[Pool]) -> Result<Vec<Pool>, AllocError>
+    ensures { IfOk result (λ list. list.items ≡ pools.now) }
+{
+    let mut list = Vec::with_capacity(alloc, pools.len())?;
+    for pool in pools {
+        list.push(pool.copy())?;
+    }
+    Ok(list)
 }

@@ -1,7 +1,7 @@
 //! Servers.
 
-ghost use Rattle.std.specs.Prelude.{◌≡◌, ℕ, ◌+◌, ◌<◌, ◌^◌, IsTrue, [], length, option_map};
-ghost use Rattle.std.specs.List.{All, find, list_any};
+ghost use Rattle.std.specs.Prelude.{◌≡◌, ℕ, ◌+◌, ◌<◌, ◌^◌, IfOk, IsTrue, not, [], length, option_map};
+ghost use Rattle.std.specs.List.{All, filter, find, list_any};
 ghost use Rattle.lb_servers.specs.declared.server.Loaded.{Loaded};
 ghost use Rattle.lb_servers.specs.Pool.{same_pool};
 ghost use Rattle.lb_servers.specs.Server.{change_if, change_server, is_in, is_server, is_up, is_up_by, is_up_in, marked, server_named as number_named, with_mode, with_one_less, with_one_more};
@@ -10,6 +10,7 @@ ghost use Rattle.lb_servers.specs.Spec.{joined};
 use crate::ident::Ident;
 use arrayvec::ArrayVec;
 use lb_wire::{Addr, PoolId, ServerId};
+use std::alloc::{AllocError, Global};
 use std::marker::Model;
 
 /// The most pools that a server stands in.
@@ -262,4 +263,22 @@ pub(crate) fn ended(servers: &mut [Loaded], id: ServerId)
     for server in servers.iter_mut() {
         server.ended(id);
     }
+}
+
+/// Takes the server with a number out.
+pub(crate) fn remove(servers: &mut Vec<Loaded>, id: ServerId)
+    ensures { servers.new.items ≡ filter (λ l. not (is_server id l)) servers.old.items }
+{
+    servers.retain(|l| !l.is(id));
+}
+
+/// Copies of the servers, in order.
+pub(crate) fn list(alloc: Global, servers: &[Loaded]) -> Result<Vec<Loaded>, AllocError>
+    ensures { IfOk result (λ list. list.items ≡ servers.now) }
+{
+    let mut list = Vec::with_capacity(alloc, servers.len())?;
+    for server in servers {
+        list.push(server.copy())?;
+    }
+    Ok(list)
 }
