@@ -1,5 +1,5 @@
 -- The table of servers and pools, and its edits.
-use Rattle.std.specs.Prelude.{ℕ, ◌+◌, ◌^◌, Bool, true, false, not, ◌==◌, nat_le, List, [], ◌∷◌, ◌++◌, length, Option, None, Some, is_some, Result, Ok, Err, slice_get, if◌then◌else◌}
+use Rattle.std.specs.Prelude.{ℕ, ◌+◌, ◌^◌, ◌≤◌, Bool, true, false, not, ◌==◌, nat_le, List, [], ◌∷◌, ◌++◌, length, Option, None, Some, is_some, Result, Ok, Err, slice_get, if◌then◌else◌}
 use Rattle.std.specs.List.{filter, list_any}
 use Rattle.lb_wire.specs.declared.ids.PoolId.{PoolId}
 use Rattle.lb_wire.specs.declared.ids.ServerId.{ServerId}
@@ -11,6 +11,7 @@ use Rattle.lb_servers.specs.declared.pool.Pool.{Pool}
 use Rattle.lb_servers.specs.declared.server.Loaded.{Loaded}
 use Rattle.lb_servers.specs.declared.spec.ServerSpec.{ServerSpec}
 use Rattle.lb_servers.specs.Pool.{change_at, is_named, new_pool}
+use Rattle.lb_servers.specs.Ranks.{StandAt, by_order}
 use Rattle.lb_servers.specs.Server.{change_server, is_server, server_named}
 use Rattle.lb_servers.specs.Spec.{lacks_pool, new_server, stated_pools}
 
@@ -79,3 +80,9 @@ with_pool change pool park = record park { pools = change_at change pool.0 park.
 abbrev pub lacks : {A : Type 0} → Result A ParkFault → Bool
 lacks (Err faults.NoMemory) = true
 lacks _ = false
+
+-- what the table keeps true: no more servers and pools than may be, and the places of the servers by order
+pub record IsPark (servers : List Loaded) (pools : List Pool) (ranks : List ℕ) : Type 0 where
+  pub servers_few : length servers ≤ 256
+  pub pools_few : length pools ≤ 64
+  pub ranked : StandAt servers ranks (by_order servers)

@@ -1,5 +1,5 @@
 -- Servers by order, those of one order by age.
-use Rattle.std.specs.Prelude.{ℕ, nat_lt, Bool, List, [], length}
+use Rattle.std.specs.Prelude.{◌≡◌, ℕ, nat_lt, Bool, false, List, [], length, map, Option, None, Some, slice_get}
 use Rattle.std.specs.List.{fold, insert, position}
 use Rattle.std.specs.Option.{unwrap_or}
 use Rattle.lb_servers.specs.declared.server.Loaded.{Loaded}
@@ -15,3 +15,12 @@ put_by_order servers l = insert servers (unwrap_or (position (is_behind l.server
 -- the servers, which stand by age, sorted by order
 abbrev pub by_order : List Loaded → List Loaded
 by_order servers = fold put_by_order [] servers
+
+-- the same of a server that may not be there
+abbrev pub behind : ℕ → Option Loaded → Bool
+behind order None = false
+behind order (Some l) = is_behind order l
+
+-- at these places of a list stand, one after the other, those servers
+abbrev pub StandAt : List Loaded → List ℕ → List Loaded → Type 0
+StandAt servers places those = map (slice_get servers) places ≡ map Some those

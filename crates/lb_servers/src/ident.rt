@@ -1,7 +1,8 @@
 //! Names of servers and pools.
 
-ghost use Rattle.std.specs.Prelude.{◌≡◌, Some, None, if◌then◌else◌};
-ghost use Rattle.lb_servers.specs.Ident.{is_ident};
+ghost use Rattle.std.specs.Prelude.{◌≡◌, Some, None, bytes_eq, if◌then◌else◌};
+ghost use Rattle.std.specs.List.{list_all};
+ghost use Rattle.lb_servers.specs.Ident.{is_ident, is_ident_byte};
 
 use arrayvec::ArrayString;
 use std::marker::Model;
@@ -27,13 +28,42 @@ impl Model for Ident {
     ghost invariant = { λ i. is_ident i.text.bytes ≡ true };
 }
 
+/// Whether the byte may stand in a name.
+fn is_ident_byte(byte: u8) -> bool
+    ensures { result ≡ is_ident_byte byte }
+{
+    byte.is_ascii_alphanumeric() || byte == b'-' || byte == b'_'
+}
+
+/// Whether each of the bytes may stand in a name.
+fn are_ident_bytes(text: &[u8]) -> bool
+    ensures { result ≡ list_all is_ident_byte text.now }
+{
+    text.iter().all(|byte| is_ident_byte(*byte))
+}
+
+/// Whether the bytes are a name.
+fn is_ident(text: &[u8]) -> bool
+    ensures { result ≡ is_ident text.now }
+{
+    !text.is_empty()
+        && text.len() <= MAX_IDENT
+        && text[0].is_ascii_alphabetic()
+        && are_ident_bytes(text)
+}
+
 impl Ident {
     /// The name that a text is. None where the text is no name. It takes no memory.
     pub fn parse(text: &str) -> Option<Ident>
-        requires never { ⊥ }
         ensures { result ≡ (if is_ident text.now then Some text.now else None) }
     {
-        unreachable!()
+        if !is_ident(text.as_bytes()) {
+            return None;
+        }
+        match ArrayString::from(text) {
+            Ok(text) => Some(Ident { text }),
+            Err(_) => unreachable!(),
+        }
     }
 
     /// The name as a text.
@@ -45,9 +75,15 @@ impl Ident {
 
     /// An equal name.
     pub fn copy(&self) -> Ident
-        requires never { ⊥ }
         ensures { result ≡ self.now }
     {
-        unreachable!()
+        Ident { text: self.text }
+    }
+
+    /// Whether two names are the same.
+    pub(crate) fn is(&self, other: &Ident) -> bool
+        ensures { result ≡ bytes_eq self.now other.now }
+    {
+        self.as_str() == other.as_str()
     }
 }

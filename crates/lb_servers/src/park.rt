@@ -13,9 +13,11 @@ ghost use Rattle.lb_servers.specs.Park.{added_pool, added_server, changed_pool, 
 
 use crate::fault::ParkFault;
 use crate::ident::Ident;
-use crate::pool::{Policy, Pool, PoolName};
-use crate::server::{Loaded, Mode};
-use crate::spec::ServerSpec;
+use crate::pick;
+use crate::pool::{self, MAX_POOLS, Policy, Pool, PoolName};
+use crate::ranks::{MAX_SERVERS, Ranks};
+use crate::server::{self, Loaded, Mode};
+use crate::spec::{self, ServerSpec};
 use lb_wire::{PoolId, ServerId};
 use std::alloc::{AllocError, Global};
 use std::marker::Model;
@@ -28,167 +30,217 @@ pub struct Park {
     last_server: u64,
     servers: Vec<Loaded>,
     pools: Vec<Pool>,
+    /// The places of the servers by order, made anew after each edit that adds or removes one.
+    ranks: Ranks,
 }
 
 impl Model for Park {
     ghost use Rattle.std.specs.Prelude.{◌+◌};
-    ghost use Rattle.lb_servers.specs.Park.{Backends};
+    ghost use Rattle.lb_servers.specs.Park.{Backends, IsPark};
 
     ghost Value = { Backends };
 
     ghost view = { λ p. record { next = p.last_server + 1; servers = p.servers.items; pools = p.pools.items } };
+
+    ghost invariant = { λ p. IsPark p.servers.items p.pools.items p.ranks };
 }
 
 impl Park {
     /// A table without servers, with the default pool. The one error is want of memory.
     pub fn new(alloc: Global) -> Result<Park, AllocError>
-        requires never { ⊥ }
         ensures { IfOk result (λ park. park ≡ no_backends) }
     {
-        unreachable!()
+        let mut pools = Vec::new(alloc);
+        pools.push(Pool::new(PoolName::Default))?;
+        Ok(Park {
+            last_server: 0,
+            servers: Vec::new(alloc),
+            pools,
+            ranks: Ranks::new(),
+        })
     }
 
     /// How many servers there are.
     pub fn len(&self) -> usize
-        requires never { ⊥ }
         ensures { result ≡ length self.now.servers }
     {
-        unreachable!()
+        self.servers.len()
     }
 
     /// The servers by number, each with how many queries it has outstanding. The one error is want of memory.
     pub fn list(&self, alloc: Global) -> Result<Vec<Loaded>, AllocError>
-        requires never { ⊥ }
         ensures { IfOk result (λ list. list.items ≡ self.now.servers) }
     {
-        unreachable!()
+        server::list(alloc, self.servers.as_slice())
     }
 
     /// How many pools there are, the default one counted.
     pub fn pool_len(&self) -> usize
-        requires never { ⊥ }
         ensures { result ≡ length self.now.pools }
     {
-        unreachable!()
+        self.pools.len()
     }
 
     /// The pools by number. The one error is want of memory.
     pub fn pool_list(&self, alloc: Global) -> Result<Vec<Pool>, AllocError>
-        requires never { ⊥ }
         ensures { IfOk result (λ list. list.items ≡ self.now.pools) }
     {
-        unreachable!()
+        pool::list(alloc, self.pools.as_slice())
     }
 
     /// The server with a name. It takes no memory.
     pub fn server_named(&self, name: &Ident) -> Option<ServerId>
-        requires never { ⊥ }
         ensures { result ≡ server_named self.now.servers name.now }
     {
-        unreachable!()
+        server::server_named(self.servers.as_slice(), name)
     }
 
     /// The pool with a name. It takes no memory.
     pub fn pool_named(&self, name: &PoolName) -> Option<PoolId>
-        requires never { ⊥ }
         ensures { result ≡ pool_named self.now.pools name.now }
     {
-        unreachable!()
+        pool::pool_named(self.pools.as_slice(), name)
     }
 
     /// The policy of a pool; None where it is not there.
     pub fn policy_of(&self, pool: PoolId) -> Option<Policy>
-        requires never { ⊥ }
         ensures { result ≡ option_map (λ p. p.policy) (slice_get self.now.pools pool.0) }
     {
-        unreachable!()
+        let pool = self.pools.get(usize::from(pool.0))?;
+        Some(pool.policy)
     }
 
     /// Adds a pool behind the others, with the policy leastOutstanding. The refusals, in their order: `NameTaken`, as the
     /// name of the default pool always is; `TooMany` at 64 pools; `NoMemory`. A refusal changes nothing.
     pub fn add_pool(&mut self, name: PoolName) -> Result<PoolId, ParkFault>
-        requires never { ⊥ }
         ensures { (self.new, result) ≡ added_pool (lacks result) self.old name }
     {
-        unreachable!()
+        if pool::is_taken(self.pools.as_slice(), &name) {
+            return Err(ParkFault::NameTaken);
+        }
+        let at = self.pools.len();
+        if at >= MAX_POOLS {
+            return Err(ParkFault::TooMany);
+        }
+        match self.pools.push(Pool::new(name)) {
+            Ok(()) => Ok(PoolId(at as u8)),
+            Err(_) => Err(ParkFault::NoMemory),
+        }
     }
 
     /// Adds a server, in mode auto and marked up. The refusals, in their order: `NoSuchPool` where a pool that the spec
     /// names is not there; `NameTaken`; `TooMany` at 256 servers; `NoMoreIds` once 2^64-1 was given; `NoMemory`. A refusal
     /// changes nothing.
     pub fn add_server(&mut self, spec: ServerSpec) -> Result<ServerId, ParkFault>
-        requires never { ⊥ }
         ensures { (self.new, result) ≡ added_server (lacks result) self.old spec }
     {
-        unreachable!()
+        if spec::lacks_pool(self.pools.as_slice(), spec.pools.as_slice()) {
+            return Err(ParkFault::NoSuchPool);
+        }
+        if self.server_named(&spec.name).is_some() {
+            return Err(ParkFault::NameTaken);
+        }
+        if self.servers.len() >= MAX_SERVERS {
+            return Err(ParkFault::TooMany);
+        }
+        if self.last_server == u64::MAX {
+            return Err(ParkFault::NoMoreIds);
+        }
+        let id = self.last_server + 1;
+        let server = spec::new_server(id, self.pools.as_slice(), spec);
+        match self.servers.push(server) {
+            Ok(()) => {
+                self.last_server = id;
+                self.ranks = Ranks::of(self.servers.as_slice());
+                Ok(ServerId(id))
+            }
+            Err(_) => Err(ParkFault::NoMemory),
+        }
     }
 
     /// Removes the server with a number; `NoSuchServer` where there is none, and then nothing changes. It takes no memory.
     pub fn remove_server(&mut self, id: ServerId) -> Result<(), ParkFault>
-        requires never { ⊥ }
         ensures { (self.new, result) ≡ removed_server self.old id }
     {
-        unreachable!()
+        if !server::has_server(self.servers.as_slice(), id) {
+            return Err(ParkFault::NoSuchServer);
+        }
+        server::remove(&mut self.servers, id);
+        self.ranks = Ranks::of(self.servers.as_slice());
+        Ok(())
     }
 
     /// Puts a server into a mode; `NoSuchServer` where there is none with this number, and then nothing changes. It takes no
     /// memory.
     pub fn set_mode(&mut self, id: ServerId, mode: Mode) -> Result<(), ParkFault>
-        requires never { ⊥ }
         ensures { (self.new, result) ≡ changed_server (with_mode mode) self.old id }
     {
-        unreachable!()
+        if !server::has_server(self.servers.as_slice(), id) {
+            return Err(ParkFault::NoSuchServer);
+        }
+        server::set_mode(self.servers.as_mut_slice(), id, mode);
+        Ok(())
     }
 
     /// Marks a server up or down; `NoSuchServer` where there is none with this number, and then nothing changes. It takes no
     /// memory.
     pub fn mark(&mut self, id: ServerId, up: bool) -> Result<(), ParkFault>
-        requires never { ⊥ }
         ensures { (self.new, result) ≡ changed_server (marked up) self.old id }
     {
-        unreachable!()
+        if !server::has_server(self.servers.as_slice(), id) {
+            return Err(ParkFault::NoSuchServer);
+        }
+        server::mark(self.servers.as_mut_slice(), id, up);
+        Ok(())
     }
 
     /// Gives a pool a policy; its turn stays. `NoSuchPool` where there is none with this number, and then nothing changes.
     /// It takes no memory.
     pub fn set_policy(&mut self, pool: PoolId, policy: Policy) -> Result<(), ParkFault>
-        requires never { ⊥ }
         ensures { (self.new, result) ≡ changed_pool (with_policy policy) self.old pool }
     {
-        unreachable!()
+        let at = usize::from(pool.0);
+        if !pool::is_there(self.pools.as_slice(), at) {
+            return Err(ParkFault::NoSuchPool);
+        }
+        pool::set_policy_at(self.pools.as_mut_slice(), at, policy);
+        Ok(())
     }
 
     /// The server that a pool picks for a query by its policy, among its servers that are up, by order, then age. None
     /// where none is up, or the pool is not there. It takes no memory.
     pub fn pick(&self, pool: PoolId) -> Option<ServerId>
-        requires never { ⊥ }
         ensures { result ≡ picked self.now.servers self.now.pools pool }
     {
-        unreachable!()
+        let found = self.pools.get(usize::from(pool.0))?;
+        pick::pick(
+            self.servers.as_slice(),
+            self.ranks.as_slice(),
+            pool,
+            found.policy,
+            found.turn,
+        )
     }
 
     /// Counts a turn of a pool, where it is there: 2^64-1 is followed by 0.
     pub fn turn(&mut self, pool: PoolId)
-        requires never { ⊥ }
         ensures { self.new ≡ with_pool turned pool self.old }
     {
-        unreachable!()
+        pool::turn_at(self.pools.as_mut_slice(), usize::from(pool.0));
     }
 
     /// Counts a query that was sent to a server, where it is there.
     pub fn began(&mut self, id: ServerId)
         requires room { All (λ l. IsTrue (is_server id l) → l.outstanding + 1 < 2 ^ 64) self.old.servers }
-        requires never { ⊥ }
         ensures { self.new ≡ with_server with_one_more id self.old }
     {
-        unreachable!()
+        server::began(self.servers.as_mut_slice(), id);
     }
 
     /// Counts a query of a server out, where it is there and has one outstanding.
     pub fn ended(&mut self, id: ServerId)
-        requires never { ⊥ }
         ensures { self.new ≡ with_server with_one_less id self.old }
     {
-        unreachable!()
+        server::ended(self.servers.as_mut_slice(), id);
     }
 }

@@ -1,9 +1,15 @@
 //! Pools of servers.
 
-ghost use Rattle.std.specs.Prelude.{◌≡◌};
-ghost use Rattle.lb_servers.specs.Pool.{same_name};
+ghost use Rattle.std.specs.Prelude.{◌≡◌, ◌<◌, ◌≤◌, IfOk, IfSome, is_some, length, slice_get};
+ghost use Rattle.std.specs.List.{list_any, position};
+ghost use Rattle.lb_servers.specs.Pool.{change_at, is_named, new_pool, pool_named as number_named, same_name, turned, with_policy};
 
 use crate::ident::Ident;
+use lb_wire::PoolId;
+use std::alloc::{AllocError, Global};
+
+/// The most pools, the default one counted.
+pub(crate) const MAX_POOLS: usize = 64;
 
 /// The name of a pool. The default pool is a value of its own: texts write it as `-`.
 #[derive(Debug, Drop)]
@@ -15,10 +21,23 @@ pub enum PoolName {
 impl PoolName {
     /// An equal name.
     pub fn copy(&self) -> PoolName
-        requires never { ⊥ }
         ensures { result ≡ self.now }
     {
-        unreachable!()
+        match self {
+            PoolName::Default => PoolName::Default,
+            PoolName::Named(name) => PoolName::Named(name.copy()),
+        }
+    }
+
+    /// Whether two names are the same.
+    pub(crate) fn is(&self, other: &PoolName) -> bool
+        ensures { result ≡ same_name self.now other.now }
+    {
+        match (self, other) {
+            (PoolName::Default, PoolName::Default) => true,
+            (PoolName::Named(a), PoolName::Named(b)) => a.is(b),
+            _ => false,
+        }
     }
 }
 
@@ -43,11 +62,106 @@ pub struct Pool {
 }
 
 impl Pool {
+    /// A new pool: its policy is leastOutstanding.
+    pub(crate) fn new(name: PoolName) -> Pool
+        ensures { result ≡ new_pool name }
+    {
+        Pool {
+            name,
+            policy: Policy::LeastOutstanding,
+            turn: 0,
+        }
+    }
+
     /// An equal pool.
     pub fn copy(&self) -> Pool
-        requires never { ⊥ }
         ensures { result ≡ self.now }
     {
-        unreachable!()
+        Pool {
+            name: self.name.copy(),
+            policy: self.policy,
+            turn: self.turn,
+        }
     }
+
+    /// Counts a turn.
+    fn count_turn(&mut self)
+        ensures { self.new ≡ turned self.old }
+    {
+        self.turn = self.turn.wrapping_add(1);
+    }
+
+    /// Gives it a policy.
+    fn set_policy(&mut self, policy: Policy)
+        ensures { self.new ≡ with_policy policy self.old }
+    {
+        self.policy = policy;
+    }
+}
+
+/// Where the pool with a name stands.
+fn place_named(pools: &[Pool], name: &PoolName) -> Option<usize>
+    ensures place { result ≡ position (is_named name.now) pools.now }
+    ensures within { IfSome result (λ at. at < length pools.now) }
+{
+    pools.iter().position(|pool| pool.name.is(name))
+}
+
+/// The number of the pool with a name: its place among the pools.
+pub(crate) fn pool_named(pools: &[Pool], name: &PoolName) -> Option<PoolId>
+    requires { length pools.now ≤ 64 }
+    ensures { result ≡ number_named pools.now name.now }
+{
+    let at = place_named(pools, name)?;
+    Some(PoolId(at as u8))
+}
+
+/// Whether there is a pool with a name.
+pub(crate) fn has_pool(pools: &[Pool], name: &PoolName) -> bool
+    ensures { result ≡ is_some (number_named pools.now name.now) }
+{
+    place_named(pools, name).is_some()
+}
+
+/// Whether a pool has a name.
+pub(crate) fn is_taken(pools: &[Pool], name: &PoolName) -> bool
+    ensures { result ≡ list_any (is_named name.now) pools.now }
+{
+    pools.iter().any(|pool| pool.name.is(name))
+}
+
+/// Whether a pool stands at a place.
+pub(crate) fn is_there(pools: &[Pool], at: usize) -> bool
+    ensures { result ≡ is_some (slice_get pools.now at) }
+{
+    pools.get(at).is_some()
+}
+
+/// Counts a turn of the pool at a place, where one stands there.
+pub(crate) fn turn_at(pools: &mut [Pool], at: usize)
+    ensures { pools.new ≡ change_at turned at pools.old }
+{
+    if at < pools.len() {
+        pools[at].count_turn();
+    }
+}
+
+/// Gives the pool at a place a policy, where one stands there.
+pub(crate) fn set_policy_at(pools: &mut [Pool], at: usize, policy: Policy)
+    ensures { pools.new ≡ change_at (with_policy policy) at pools.old }
+{
+    if at < pools.len() {
+        pools[at].set_policy(policy);
+    }
+}
+
+/// Copies of the pools, in order.
+pub(crate) fn list(alloc: Global, pools: &[Pool]) -> Result<Vec<Pool>, AllocError>
+    ensures { IfOk result (λ list. list.items ≡ pools.now) }
+{
+    let mut list = Vec::with_capacity(alloc, pools.len())?;
+    for pool in pools {
+        list.push(pool.copy())?;
+    }
+    Ok(list)
 }

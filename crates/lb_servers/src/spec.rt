@@ -1,10 +1,12 @@
 //! What an operator states of a new server.
 
-ghost use Rattle.std.specs.Prelude.{◌≡◌, [], nat_le, length, Some, None, if◌then◌else◌};
+ghost use Rattle.std.specs.Prelude.{◌≡◌, ◌≤◌, [], nat_le, length, Some, None, if◌then◌else◌};
+ghost use Rattle.lb_servers.specs.Spec.{lacks_pool as lacks, new_server as server_of, pools_named as numbers_named, stated_pools as stated};
 
 use crate::ident::Ident;
-use crate::pool::PoolName;
-use lb_wire::Addr;
+use crate::pool::{Pool, PoolName, has_pool, pool_named};
+use crate::server::{Loaded, MAX_POOLS_OF_SERVER, Mode, PoolIds, Server};
+use lb_wire::{Addr, ServerId};
 use std::alloc::Global;
 use std::marker::Model;
 
@@ -39,7 +41,7 @@ impl PoolNames {
     pub fn from_vec(items: Vec<PoolName>) -> Option<PoolNames>
         ensures { result ≡ (if nat_le (length items.items) 8 then Some items.items else None) }
     {
-        if items.len() > 8 {
+        if items.len() > MAX_POOLS_OF_SERVER {
             return None;
         }
         Some(PoolNames { items })
@@ -78,5 +80,72 @@ impl ServerSpec {
             order: 1,
             pools: PoolNames::none(alloc),
         }
+    }
+}
+
+/// Whether one of the pools is not there.
+fn lacks_named(pools: &[Pool], names: &[PoolName]) -> bool
+    ensures { result ≡ lacks pools.now names.now }
+{
+    names.iter().any(|name| !has_pool(pools, name))
+}
+
+/// Whether one of the pools that a new server is to stand in is not there; where none is stated, it is the default pool.
+pub(crate) fn lacks_pool(pools: &[Pool], names: &[PoolName]) -> bool
+    ensures { result ≡ lacks pools.now (stated names.now) }
+{
+    if names.is_empty() {
+        lacks_named(pools, &[PoolName::Default])
+    } else {
+        lacks_named(pools, names)
+    }
+}
+
+/// The numbers of the pools, each once.
+fn pools_named(pools: &[Pool], names: &[PoolName]) -> PoolIds
+    requires pools { length pools.now ≤ 64 }
+    requires names { length names.now ≤ 8 }
+    ensures { result ≡ numbers_named pools.now names.now }
+{
+    let mut ids = PoolIds::none();
+    for name in names {
+        if let Some(pool) = pool_named(pools, name) {
+            ids.join(pool);
+        }
+    }
+    ids
+}
+
+/// The numbers of the pools that a new server is to stand in; where none is stated, of the default pool.
+fn stated_pools(pools: &[Pool], names: &[PoolName]) -> PoolIds
+    requires pools { length pools.now ≤ 64 }
+    requires names { length names.now ≤ 8 }
+    ensures { result ≡ numbers_named pools.now (stated names.now) }
+{
+    if names.is_empty() {
+        pools_named(pools, &[PoolName::Default])
+    } else {
+        pools_named(pools, names)
+    }
+}
+
+/// A new server with this number: in mode auto, marked up, with nothing outstanding.
+pub(crate) fn new_server(id: u64, pools: &[Pool], spec: ServerSpec) -> Loaded
+    requires { length pools.now ≤ 64 }
+    ensures { result ≡ server_of id pools.now spec }
+{
+    let pools = stated_pools(pools, spec.pools.items.as_slice());
+    Loaded {
+        server: Server {
+            id: ServerId(id),
+            name: spec.name,
+            addr: spec.addr,
+            port: spec.port,
+            order: spec.order,
+            pools,
+            mode: Mode::Auto,
+            marked_up: true,
+        },
+        outstanding: 0,
     }
 }

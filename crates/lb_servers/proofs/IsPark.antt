@@ -1,0 +1,35 @@
+-- What the table keeps true.
+use Rattle.std.proofs.Common.{◌≡◌, ℕ, Bool, true, false, not, ◌||◌, ◌<◌, ◌≤◌, List, length, map, refl, sym, ap, subst, ◌∙◌, arith}
+use Rattle.std.specs.List.{filter}
+use Rattle.std.specs.Vec.{with_items}
+use Rattle.std.specs.declared.vec.Vec.{Vec}
+use Rattle.std.proofs.lemmas.List.{length-map, with_items_is}
+use Rattle.std.proofs.lemmas.List.Filters.{length-filter_both}
+use Rattle.lb_wire.specs.declared.ids.ServerId.{ServerId}
+use Rattle.lb_servers.specs.declared.pool.Pool.{Pool}
+use Rattle.lb_servers.specs.declared.server.Loaded.{Loaded}
+use Rattle.lb_servers.specs.Park.{IsPark}
+use Rattle.lb_servers.specs.Server.{change_if, change_server, is_server}
+use Rattle.lb_servers.proofs.Places.{stand_changed}
+
+-- a change of the servers that leaves their orders
+pub park_changed : (f : Loaded → Loaded) → ((l : Loaded) → (f l).server.order ≡ l.server.order) → (servers : List Loaded) (pools : List Pool) (ranks : List ℕ) → IsPark servers pools ranks → IsPark (map f servers) pools ranks
+park_changed f keeps servers pools ranks is = record {
+  servers_few = omega (arith, length-map servers f, is.servers_few);
+  pools_few = is.pools_few;
+  ranked = stand_changed f keeps servers ranks is.ranked;
+}
+
+keeps_if : (this : Bool) (change : Loaded → Loaded) → ((l : Loaded) → (change l).server.order ≡ l.server.order) → (l : Loaded) → (change_if this change l).server.order ≡ l.server.order
+keeps_if true change keeps l = keeps l
+keeps_if false change keeps l = refl
+
+-- such a change of one server, written back
+pub written_back : (id : ServerId) (change : Loaded → Loaded) → ((l : Loaded) → (change l).server.order ≡ l.server.order) → {Z : Type 0} (servers : Vec Loaded Z) (new : List Loaded) (pools : List Pool) (ranks : List ℕ) → new ≡ change_server id change servers.items → IsPark servers.items pools ranks → IsPark (with_items servers new).items pools ranks
+written_back id change keeps servers new pools ranks is park =
+    let long : length new ≡ servers.len = ap length is ∙ length-map servers.items (λ l. change_if (is_server id l) change l) ∙ sym servers.ok.0 in
+    subst (λ (ls : List Loaded). IsPark ls pools ranks) (sym (with_items_is servers new long ∙ is)) (park_changed (λ l. change_if (is_server id l) change l) (λ l. keeps_if (is_server id l) change keeps l) servers.items pools ranks park)
+
+-- a filter leaves no more than there were
+pub fewer : {X : Type 0} (p : X → Bool) (xs : List X) → length (filter p xs) ≤ length xs
+fewer p xs = omega (arith, length-filter_both p (λ x. not (p x)) (λ x. refl) xs)
