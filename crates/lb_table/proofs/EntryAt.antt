@@ -1,7 +1,7 @@
 -- The query that waits at a place, by the first place in the list.
-use Rattle.std.proofs.Common.{◌≡◌, ℕ, ◌+◌, ◌<◌, ◌≤◌, Bool, ltb, inl, inr, List, length, Option, Some, None, IfSome, IfNone, refl, sym, ap, ◌∙◌, arith}
+use Rattle.std.proofs.Common.{◌≡◌, ℕ, Bool, ltb, inl, inr, List, length, Option, Some, None, IfSome, IfNone, sym, ap, ◌∙◌}
 use Rattle.std.specs.List.{find, position, position_or_len, slice_get}
-use Rattle.std.proofs.lemmas.Bool.{ltb-true, ltb-false, cond-true, cond-false, cases_Bool}
+use Rattle.std.proofs.lemmas.Bool.{ltb-false, cond-true, cond-false, cases_Bool}
 use Rattle.std.proofs.lemmas.List.Folds.{find_at}
 use Rattle.std.proofs.lemmas.Option.{slice_get_past}
 

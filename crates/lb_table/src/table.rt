@@ -1,6 +1,6 @@
 //! The table of outstanding queries.
 
-ghost use Rattle.std.specs.Prelude.{◌≡◌, ◌<◌, ◌≤◌, IfOk, IfSome, IfNone, None, [], length, option_map, Some};
+ghost use Rattle.std.specs.Prelude.{◌≡◌, ◌+◌, ◌^◌, ◌<◌, ◌≤◌, IfOk, IfSome, IfNone, None, [], length, option_map, Some};
 ghost use Rattle.std.specs.List.{count_by, find, position, slice_get};
 ghost use Rattle.lb_table.specs.Place.{at_place};
 ghost use Rattle.lb_table.specs.Table.{Enters, FirstFree, entry_at, is_at, is_for, is_later, is_used, place_by_deadline as place_by, taken_at, waits_at};
@@ -123,7 +123,9 @@ impl Table {
         word: u16,
         entry: Entry,
     ) -> Result<u16, (EnterFault, Entry)>
-        ensures { Enters self.old server lane word entry result self.new }
+        ensures enters { Enters self.old server lane word entry result self.new }
+        // the list fits the machine: whoever counts its entries in a `u64` never goes past it
+        ensures room { length self.new + 1 < 2 ^ 64 }
     {
         let Some(id) = free_id(self.items.as_slice(), server, lane, word) else {
             return Err((EnterFault::LaneFull, entry));

@@ -12,3 +12,5 @@ mod Aged
 mod Outlives
 mod Spoofs
 mod Keys
+mod Replies
+mod Spellings

@@ -1,9 +1,9 @@
 -- Made answers, in the room that their query had.
-use Rattle.std.proofs.Common.{◌≡◌, ℕ, ◌+◌, ◌≤◌, true, List, [], ◌∷◌, ◌++◌, length, take, drop, Option, None, Some, sym, ◌∙◌, ap, arith}
+use Rattle.std.proofs.Common.{◌≡◌, ℕ, ◌+◌, ◌≤◌, true, List, [], ◌∷◌, ◌++◌, length, take, drop, Option, Some, sym, ◌∙◌, ap, arith}
 use Rattle.std.proofs.lemmas.List.{append_assoc, length-append, take_at}
 use Rattle.std.specs.List.{flat_map}
 use Rattle.lb_name.specs.Laws.{LabelsGoOn}
-use Rattle.lb_wire.specs.Record.{end_octets, Record, record_octets}
+use Rattle.lb_wire.specs.Record.{Record, record_octets}
 use Rattle.lb_wire.specs.Opt.{opts, first_opt, opt_record, opt_octets, opt_number}
 use Rattle.lb_wire.specs.Message.{Message, Lays, header_octets, question_octets}
 use Rattle.lb_wire.specs.Tally.{is_two}

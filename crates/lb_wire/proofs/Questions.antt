@@ -1,7 +1,7 @@
 -- Parts of a message at their places.
-use Rattle.std.proofs.Common.{◌≡◌, ℕ, ◌+◌, ◌-◌, ◌<◌, List, ◌++◌, length, drop, refl, sym, ◌∙◌, ap, arith}
+use Rattle.std.proofs.Common.{◌≡◌, ℕ, ◌+◌, ◌-◌, ◌<◌, List, ◌++◌, length, drop, sym, ◌∙◌, ap, arith}
 use Rattle.std.proofs.lemmas.List.{append_assoc, length-append, length-drop}
-use Rattle.lb_name.specs.Name.{wire_of, IsName}
+use Rattle.lb_name.specs.Name.{wire_of}
 use Rattle.lb_name.specs.Reading.{Begins}
 use Rattle.lb_wire.proofs.Lists.{drop_after}
 use Rattle.lb_wire.specs.Question.{Asks}

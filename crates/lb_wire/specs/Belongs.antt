@@ -1,5 +1,5 @@
 -- Which reply belongs to a query (RFC 1035 section 7.3), once its server, lane and ID are those that the query was sent by.
-use Rattle.std.specs.Prelude.{ℕ, Bool, true, false, not, ◌==◌, ◌&&◌, ◌||◌, List, Option, None, Some, bytes_eq}
+use Rattle.std.specs.Prelude.{ℕ, Bool, true, false, ◌==◌, ◌&&◌, ◌||◌, List, Option, None, Some, bytes_eq}
 use Rattle.lb_name.specs.Name.{wire_of, lower_name, IsSame}
 use Rattle.lb_wire.specs.declared.question.Question.{Question}
 use Rattle.lb_wire.specs.declared.record_type.RecordType.{RecordType}

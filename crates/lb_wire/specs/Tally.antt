@@ -1,5 +1,5 @@
 -- What a walk over records gathers.
-use Rattle.std.specs.Prelude.{ℕ, ◌/◌, ◌%◌, ◌^◌, Bool, true, false, List, [], ◌∷◌, None, Some, is_some, ◌==◌, ◌&&◌, ◌||◌, if◌then◌else◌}
+use Rattle.std.specs.Prelude.{ℕ, ◌/◌, ◌%◌, Bool, true, false, List, [], ◌∷◌, None, Some, is_some, ◌==◌, ◌&&◌, ◌||◌, if◌then◌else◌}
 use Rattle.lb_wire.specs.Record.{Record}
 use Rattle.lb_wire.specs.Opt.{opt_type, dnssec_ok, opts, first_opt, least_ttl, ttl_value, lesser}
 use Rattle.lb_wire.specs.declared.tally.Tally.{Tally}

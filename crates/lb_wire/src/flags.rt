@@ -2,9 +2,11 @@
 
 ghost use Rattle.std.specs.Prelude.{◌≡◌, ◌≤◌, ◌==◌, ◌^◌, ◌↔◌, IsTrue, if◌then◌else◌, length};
 ghost use Rattle.lb_wire.specs.Numbers.{rcode_number, opcode_number};
-ghost use Rattle.lb_wire.specs.Flags.{opcode_of, rcode_of, tc_of, answer_flags};
+ghost use Rattle.lb_wire.specs.Flags.{opcode_of, rcode_of, tc_of, answer_flags, without_rd};
 ghost use Rattle.lb_wire.specs.Query.{without_recursion};
 
+use crate::big_endian::read_u16;
+use crate::octets::overwrite;
 use crate::opcode::Opcode;
 use crate::rcode::Rcode;
 
@@ -75,13 +77,23 @@ impl Flags {
         let rcode = u16::from(rcode.number());
         Flags(QR + opcode * OPCODE + cut + recursion * (RD + RA) + checking * CD + rcode)
     }
+
+    /// The flags with RD 0, and every other bit as it is.
+    fn without_recursion(self) -> Flags
+        ensures { result.0 ≡ without_rd self.0 }
+    {
+        Flags(self.0 - self.0 / RD % 2 * RD)
+    }
 }
+
+/// Where the flags of a message stand.
+const FLAGS_AT: usize = 2;
 
 /// Clears RD in a message, and changes nothing else (RFC 1035 section 4.1.1).
 pub fn clear_rd(bytes: &mut [u8])
     requires long { 4 ≤ length bytes.old }
-    requires never { ⊥ }
     ensures { bytes.new ≡ without_recursion bytes.old }
 {
-    unreachable!()
+    let flags = Flags(read_u16(bytes, FLAGS_AT)).without_recursion();
+    overwrite(bytes, FLAGS_AT, &flags.0.to_be_bytes());
 }

@@ -29,12 +29,14 @@ pub fn least_is_outlived()
 
 /// Bytes read as a reply in exactly one way: one view, or one fault.
 pub fn one_reply_reading()
-    requires never { ⊥ }
     ensures { OneReplyReading }
-{}
+{
+    labels_go_on();
+}
 
 /// Bytes have exactly one survey, or none.
 pub fn one_survey()
-    requires never { ⊥ }
     ensures { OneSurvey }
-{}
+{
+    labels_go_on();
+}

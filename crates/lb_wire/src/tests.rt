@@ -4,9 +4,9 @@
 use crate::captured::{CAPTURED, Captured};
 use crate::header::read_header;
 use crate::{
-    Addr, Class, Key, Kind, Octets, Opcode, Opt, QueryFault, Rcode, RecordType, ReplyFault, Survey,
-    age, answer_in_place, fits_type, formerr_in_place, key_of, least_is_outlived, read_query,
-    read_reply, respell, restore_id, spoofed, survey, truncated_in_place,
+    Addr, Class, Key, Kind, Octets, Opcode, Opt, PoolId, QueryFault, Rcode, RecordType, ReplyFault,
+    Survey, age, answer_in_place, clear_rd, fits_type, formerr_in_place, key_of, least_is_outlived,
+    read_query, read_reply, respell, restore_id, spoofed, survey, truncated_in_place,
 };
 use lb_name::Name;
 use std::test::Fail;
@@ -112,6 +112,26 @@ fn answers_in_the_query(rt: HostRuntime) -> Result<(), Fail> {
         hex::encode(alloc, bytes.as_slice())?.as_str(),
         "123481810000000000000000"
     );
+    Ok(())
+}
+
+#[test]
+fn recursion_no_longer_desired(rt: HostRuntime) -> Result<(), Fail> {
+    let alloc = rt.alloc();
+    let cases = [
+        (
+            QUERY,
+            "123400000001000000000000076578616d706c6503636f6d0000010001",
+        ),
+        ("1234ffffffff", "1234feffffff"),
+        ("1234feff", "1234feff"),
+    ];
+    for (text, cleared) in cases {
+        let mut bytes = hex::decode(alloc, text)?;
+        assert!(rt; bytes.len() >= 4);
+        clear_rd(bytes.as_mut_slice());
+        assert_eq!(rt; hex::encode(alloc, bytes.as_slice())?.as_str(), cleared);
+    }
     Ok(())
 }
 
@@ -250,6 +270,50 @@ fn replies(rt: HostRuntime) -> Result<(), Fail> {
         Some(ReplyFault::NotReply)
     );
     assert_eq!(rt; read_reply(b"\x12\x34\x81").err(), Some(ReplyFault::Short));
+    Ok(())
+}
+
+// replies, and whether they belong to a query for example.com A IN
+#[test]
+fn replies_that_belong(rt: HostRuntime) -> Result<(), Fail> {
+    let name = Name::parse_text("eXaMpLe.CoM")?;
+    let cases = [
+        (REPLY, true),
+        // example.con, AAAA, class CH
+        (
+            "001081800001000000000000076578616d706c6503636f6e0000010001",
+            false,
+        ),
+        (
+            "001081800001000000000000076578616d706c6503636f6d00001c0001",
+            false,
+        ),
+        (
+            "001081800001000000000000076578616d706c6503636f6d0000010003",
+            false,
+        ),
+        // QDCOUNT 0: ServFail, Refused, NoError, NXDomain
+        ("001081820000000000000000", true),
+        ("001081850000000000000000", true),
+        ("001081800000000000000000", false),
+        ("001081830000000000000000", false),
+        // QDCOUNT 2, and a question that does not read, of NoError and of ServFail
+        (
+            "001081800002000000000000076578616d706c6503636f6d0000010001c00c00010001",
+            false,
+        ),
+        ("001081800001000000000000c00c00010001", false),
+        ("001081820001000000000000c00c00010001", false),
+    ];
+    for (text, belongs) in cases {
+        let bytes = hex::decode(rt.alloc(), text)?;
+        let view = read_reply(bytes.as_slice())?;
+        assert_eq!(rt;
+            view.belongs_to(&name, RecordType::A, Class::IN),
+            belongs,
+            "at {text}"
+        );
+    }
     Ok(())
 }
 
@@ -490,4 +554,5 @@ fn numbers(rt: HostRuntime) {
         assert_eq!(rt; u16::from(Opcode::from_low_bits(number).number()), number);
     }
     assert!(rt; fits_type(RecordType::A, &Addr::V4([192, 0, 2, 7])));
+    assert_eq!(rt; PoolId::default(), PoolId(0));
 }

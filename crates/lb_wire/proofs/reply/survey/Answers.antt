@@ -1,4 +1,4 @@
-use Rattle.std.proofs.Common.{◌≡◌, ℕ, Option, ◌∙◌, ap}
+use Rattle.std.proofs.Common.{ℕ, Option, ◌∙◌, ap}
 use Rattle.lb_wire.specs.Reply.{survey_of}
 use Rattle.lb_wire.specs.Message.{Message}
 use Rattle.lb_wire.specs.declared.tally.Tally.{Tally}
