@@ -6,6 +6,7 @@ use Rattle.std.proofs.lemmas.List.Concat.{flat_map-cons}
 use Rattle.std.proofs.lemmas.Grind.{flat_map-append}
 use Rattle.std.proofs.lemmas.List.Elements.{All-head, All-tail}
 use Rattle.lb_wire.specs.declared.addr.Addr.{Addr}
+use Rattle.lb_wire.specs.declared.ids.RuleId.{RuleId}
 use Rattle.lb_wire.specs.declared.transport.Kind.{Kind}
 use Rattle.lb_wire.specs.declared.query.QueryView.{QueryView}
 use Rattle.lb_terms.specs.Truth.{asked_of, limiters_of, passes_at}
@@ -151,3 +152,19 @@ none_to_end rules view addr kind now none =
     ∙ none_ends rules [] view addr kind now none
     ∙ with_flags a b ps no_rule refl refl
     ∙ ap (λ (qs : List Passed). record no_rule { no_recurse = a; skip_cache = b; passes = qs }) (append-nil ps)
+
+some_none : (id : RuleId) → Some id ≡ None → ⊥
+some_none id is = cc is
+
+allowed_past : (n : Numbered) (truth : Bool) (ending : Option Verdict) (passes : List Passed) (after : Walked) →
+    (after.rule ≡ None → after.verdict ≡ verdicts.Allow) → (tested_by n truth ending passes after).rule ≡ None → (tested_by n truth ending passes after).verdict ≡ verdicts.Allow
+allowed_past n true (Some verdict) passes after rest is = absurd (some_none n.id is)
+allowed_past n true None passes after rest is = rest is
+allowed_past n false ending passes after rest is = rest is
+
+-- a walk that no rule ended has the verdict Allow
+pub no_rule_allows : (rules : List Numbered) (view : QueryView) (addr : Addr) (kind : Kind) (now : ℕ) →
+    (walk_of rules view addr kind now).rule ≡ None → (walk_of rules view addr kind now).verdict ≡ verdicts.Allow
+no_rule_allows [] view addr kind now is = refl
+no_rule_allows (n ∷ rules) view addr kind now is =
+    allowed_past n (truth_of n view addr now) (ending_of n.rule.action view kind) (passes_of n view addr now) (walk_of rules view addr kind now) (no_rule_allows rules view addr kind now) is

@@ -108,3 +108,8 @@ AllowedWhereNoneEnds = (rules : List Numbered) (view : QueryView) (addr : Addr) 
       skip_cache = one_says is_skip_cache rules view addr now;
       passes = passes_in rules view addr now;
     }
+
+-- a walk that no rule ended has the verdict Allow
+abbrev pub NoRuleAllows : Type 0
+NoRuleAllows = (rules : List Numbered) (view : QueryView) (addr : Addr) (kind : Kind) (now : ℕ) →
+    (walk_of rules view addr kind now).rule ≡ None → (walk_of rules view addr kind now).verdict ≡ verdicts.Allow

@@ -2,7 +2,7 @@
 
 ghost use Rattle.lb_chain.specs.Seen.{SeenWalks, SeenTwice};
 ghost use Rattle.lb_chain.specs.Listed.{ListedAlikeSeenAlike, SeenHaveOwnLimiters};
-ghost use Rattle.lb_chain.specs.Walk.{AllowedWhereNoneEnds, FirstToEndDecides};
+ghost use Rattle.lb_chain.specs.Walk.{AllowedWhereNoneEnds, FirstToEndDecides, NoRuleAllows};
 
 use lb_limits::recent_twice;
 
@@ -36,4 +36,5 @@ pub fn seen_have_own_limiters()
 pub fn first_to_end_decides()
     ensures decides { FirstToEndDecides }
     ensures allows { AllowedWhereNoneEnds }
+    ensures none { NoRuleAllows }
 {}

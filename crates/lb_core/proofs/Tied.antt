@@ -4,7 +4,7 @@ use Rattle.std.proofs.Common.{◌≡◌, ℕ, ◌+◌, ◌-◌, ◌<◌, ◌≤�
 use Rattle.std.specs.Prelude.{if◌then◌else◌, is_some, slice_get, option_map}
 use Rattle.std.specs.List.{AllByRecursion, All, count_by, filter, find, insert, list_any, position, position_or_len, remove}
 use Rattle.std.proofs.lemmas.Bool.Decides.{nat_tests}
-use Rattle.std.proofs.lemmas.Bool.{lt-ltb, cond-true, cond-false, cases_Bool}
+use Rattle.std.proofs.lemmas.Bool.{le-ltb, lt-ltb, cond-true, cond-false, cases_Bool}
 use Rattle.std.proofs.lemmas.List.Folds.{find_at}
 use Rattle.std.proofs.lemmas.List.Sums.{sum_by-insert, sum_by-remove, sum_by-cons, count_by-le-length, passes_at_first}
 use Rattle.std.proofs.lemmas.Option.{slice_get_cases}
@@ -28,7 +28,8 @@ use Rattle.lb_table.specs.declared.entry.Entry.{Entry}
 use Rattle.lb_table.specs.declared.entry.Waiting.{Waiting}
 use Rattle.lb_table.specs.Place.{same_place, same_lane}
 use Rattle.lb_table.specs.Table.{entered, entry_at, is_at, is_for, taken_at, waits_at}
-use Rattle.lb_core.specs.Upstream.{Upstreams, IsAsked, IsTied, backends_of, loaded_by, on_backends, server_of, with_backends}
+use Rattle.lb_core.specs.Upstream.{Upstreams, IsAsked, IsTied, backends_of, loaded_by, on_backends, server_of, turned_if, with_backends, with_entry, with_turn}
+use Rattle.lb_core.specs.Reply.{without}
 use Rattle.lb_core.proofs.Each.{each_append, each_at, each_filter, each_insert, each_map, each_remove, each_weaker, all_of_each}
 
 -- a server's count is right
@@ -143,6 +144,18 @@ found_at {X} {Y} p f xs y is =
       | inr h ↦ absurd (none_some y (sym (ap (option_map f) (find_at p xs ∙ h.1)) ∙ is))
     ]
 
+-- where none is found, none goes
+some_none : {Y : Type 0} (y : Y) → Some y ≡ None → ⊥
+some_none y is = cc is
+
+pub none_goes : (t : List Waiting) (place : Place) → entry_at t place ≡ None → taken_at t (waits_at place t) ≡ t
+none_goes t place is =
+    let n = position_or_len (is_at place) t in
+    elim ((slice_get_cases t n).1) [
+      | inl h ↦ absurd (some_none h.0.entry (sym (ap (option_map (λ w. w.entry)) (find_at (is_at place) t ∙ h.2)) ∙ is))
+      | inr h ↦ ap (taken_at t) (cond-false _ _ _ (le-ltb n (length t) h.0))
+    ]
+
 first_true : (a b : Bool) → (a && b) ≡ true → a ≡ true
 first_true true b is = refl
 first_true false b is = absurd (cc is)
@@ -200,7 +213,7 @@ ties_if t true x y first second = first
 ties_if t false x y first second = second
 
 -- other pools
-same_servers : (t : List Waiting) (park : Backends) (pools : List Pool) → IsTied park t → IsTied (record park { pools = pools }) t
+pub same_servers : (t : List Waiting) (park : Backends) (pools : List Pool) → IsTied park t → IsTied (record park { pools = pools }) t
 same_servers t park pools tied = record { loads = tied.loads; given = tied.given; sent = tied.sent; asked = tied.asked }
 
 pub tied_pool : (t : List Waiting) (lacking : Bool) (park : Backends) (name : PoolName) → IsTied park t → IsTied (added_pool lacking park name).0 t
@@ -264,3 +277,48 @@ tied_mode t mode park id tied =
       sent = tied.sent;
       asked = tied.asked } in
     ties_if t (list_any (is_server id) park.servers) (record park { servers = change_server id (with_mode mode) park.servers }, Ok tt) (park, Err faults.NoSuchServer) put tied
+
+-- what a table of servers and a list of queries are together
+abbrev pub seen_as : ℕ → Backends → List Waiting → Upstreams
+seen_as timeout park t = record { timeout = timeout; next_server = park.next; servers = map server_of park.servers; pools = park.pools; outstanding = t }
+
+-- a server that is changed in its count alone
+one_server : (change : Loaded → Loaded) (b : Bool) (l : Loaded) → (change l).server ≡ l.server → (change_if b change l).server ≡ l.server
+one_server change true l is = is
+one_server change false l is = refl
+
+pub still_servers : (change : Loaded → Loaded) (id : ServerId) (servers : List Loaded) → ((l : Loaded) → (change l).server ≡ l.server) →
+    map server_of (change_server id change servers) ≡ map server_of servers
+still_servers change id [] keeps = refl
+still_servers change id (l ∷ servers) keeps =
+    ap (λ (s : Server). s ∷ map server_of (change_server id change servers)) (one_server change (is_server id l) l (keeps l))
+    ∙ ap (λ (ss : List Server). l.server ∷ ss) (still_servers change id servers keeps)
+
+-- a query that is sent, with the turn of its pool
+pub sent_tied : (park after turned : Backends) (t new : List Waiting) (place : Place) (entry : Entry) (pools : List Pool) → IsTied park t → place.server.0 < park.next → IsAsked entry →
+    after ≡ with_server with_one_more place.server park → turned ≡ record after { pools = pools } → new ≡ entered t place entry → IsTied turned new
+sent_tied park after turned t new place entry pools tied given asked began turn is =
+    let one : IsTied after new = subst (λ (n : List Waiting). IsTied after n) (sym is) (subst (λ (p : Backends). IsTied p (entered t place entry)) (sym began) (tied_in park t place entry tied given asked)) in
+    subst (λ (p : Backends). IsTied p new) (sym turn) (same_servers new after pools one)
+
+pub sent_seen : (timeout : ℕ) (park after turned : Backends) (t new : List Waiting) (place : Place) (entry : Entry) (pool : PoolId) →
+    after ≡ with_server with_one_more place.server park → turned ≡ record after { pools = change_at turned_if pool.0 after.pools } → new ≡ entered t place entry →
+    seen_as timeout turned new ≡ with_entry place entry (with_turn pool (seen_as timeout park t))
+sent_seen timeout park after turned t new place entry pool began turn is =
+    let whole : turned ≡ record (with_server with_one_more place.server park) { pools = change_at turned_if pool.0 park.pools } = turn ∙ ap (λ (p : Backends). record p { pools = change_at turned_if pool.0 p.pools }) began in
+    ap (λ (p : Backends). seen_as timeout p new) whole
+    ∙ ap (λ (n : List Waiting). seen_as timeout (record (with_server with_one_more place.server park) { pools = change_at turned_if pool.0 park.pools }) n) is
+    ∙ ap (λ (ss : List Server). record (with_entry place entry (with_turn pool (seen_as timeout park t))) { servers = ss }) (still_servers with_one_more place.server park.servers (λ l. refl))
+
+-- a query that goes
+pub taken_tied : (park after : Backends) (t new : List Waiting) (place : Place) (entry : Entry) → IsTied park t → entry_at t place ≡ Some entry →
+    after ≡ with_server with_one_less place.server park → new ≡ taken_at t (waits_at place t) → IsTied after new
+taken_tied park after t new place entry tied found ended is =
+    subst (λ (n : List Waiting). IsTied after n) (sym is) (subst (λ (p : Backends). IsTied p (taken_at t (waits_at place t))) (sym ended) (tied_out park t place entry tied found))
+
+pub taken_seen : (timeout : ℕ) (park after : Backends) (t new : List Waiting) (place : Place) →
+    after ≡ with_server with_one_less place.server park → new ≡ taken_at t (waits_at place t) → seen_as timeout after new ≡ without place (seen_as timeout park t)
+taken_seen timeout park after t new place ended is =
+    ap (λ (p : Backends). seen_as timeout p new) ended
+    ∙ ap (λ (n : List Waiting). seen_as timeout (with_server with_one_less place.server park) n) is
+    ∙ ap (λ (ss : List Server). record (without place (seen_as timeout park t)) { servers = ss }) (still_servers with_one_less place.server park.servers (λ l. refl))
