@@ -1,20 +1,19 @@
-use Rattle.std.proofs.Common.{rules, ◌≡◌, ◌≤◌, IfOk, IfErr, OnErr, OnOk, length, List, ℕ, Result, ◌+◌, ◌-◌, ◌*◌, ◌<◌, ◌/◌, ◌%◌, Bool, true, false, nat_eq, nat_lt, [], ◌∷◌, ◌++◌, slice_index_or, slice_set, bit_and, bit_or, Fits, w8, w32, w64, Bor, MutBor}
-use Rattle.lb_wire.specs.Message.{Message, Lays}
-use Rattle.lb_wire.specs.Numbers.{rcode_number}
-use Rattle.lb_wire.specs.Answer.{refusal_of}
-use Rattle.lb_wire.specs.Query.{IsQuery, view_of}
-use Rattle.lb_core.specs.Forward.{entry_of as entry_of_spec}
-use Rattle.lb_core.specs.Forward.{Forwards}
-use Rattle.lb_core.specs.Forward.{lane_of as lane_of_spec}
-use Rattle.lb_core.specs.Forward.{sent_of, with_id}
-use Rattle.lb_core.specs.declared.answer.Answer.TheVariants.{Local}
-use Rattle.lb_core.specs.Upstream.{Upstreams}
+use Rattle.std.proofs.Common.{◌≡◌, ℕ, sym, subst, ◌∙◌, ap, List}
+use Rattle.lb_table.specs.declared.entry.Entry.{Entry}
+use Rattle.lb_core.specs.Forward.{entry_of}
+use Rattle.lb_core.specs.Upstream.{IsAsked}
+use Rattle.lb_core.proofs.Forwards.{sent_on}
 use Rattle.lb_core.proofs.forward.forward.Goals as goal
 
--- src/forward.rt:43:11
 pub send-requires-clause-asked : goal.send-requires-clause-asked
-send-requires-clause-asked c = ?
+send-requires-clause-asked c =
+    let entry : c.in-Ok.entry ≡ entry_of c.args.upstream.now c.args.asked.now c.args.bytes.items c.args.view.now =
+        c.in-Ok.ensures c.args.upstream.now (sym c.timeout.ensures) ∙ ap (λ (bytes : List ℕ). entry_of c.args.upstream.now c.args.asked.now bytes c.args.view.now) c.as_slice.ensures.value in
+    subst IsAsked (sym entry) (c.args.view.now, c.requires.view)
 
--- src/forward.rt:35:1
 pub returns-in-Ok-send-clause-forwards : goal.returns-in-Ok-send-clause-forwards
-returns-in-Ok-send-clause-forwards c = ?
+returns-in-Ok-send-clause-forwards c =
+    sent_on c.args.upstream.now c.send.new.self c.args.asked.now c.args.bytes.items c.args.view.now c.args.no_recurse c.args.pool c.in-Some.server c.lane_of-lane.result c.in-Ok-send.id c.in-Ok.entry c.message.result
+    c.in-Some.ensures.picked c.lane_of-lane.ensures
+    (c.in-Ok.ensures c.args.upstream.now (sym c.timeout.ensures) ∙ ap (λ (bytes : List ℕ). entry_of c.args.upstream.now c.args.asked.now bytes c.args.view.now) c.as_slice.ensures.value)
+    c.message.ensures c.in-Ok-send.ensures

@@ -1,0 +1,65 @@
+-- A query that was sent is forwarded as the definition says, and shows no want of memory.
+use Rattle.std.proofs.Common.{◌≡◌, ℕ, Bool, true, false, List, Option, Some, None, Ok, refl, sym, ◌∙◌, ap, subst}
+use Rattle.lb_wire.specs.declared.ids.PoolId.{PoolId}
+use Rattle.lb_wire.specs.declared.ids.RuleId.{RuleId}
+use Rattle.lb_wire.specs.declared.ids.ServerId.{ServerId}
+use Rattle.lb_wire.specs.declared.transport.Lane.{Lane}
+use Rattle.lb_wire.specs.declared.query.QueryView.{QueryView}
+use Rattle.lb_chain.specs.declared.walked.Verdict.{Verdict}
+use Rattle.lb_chain.specs.declared.walked.Verdict.TheVariants as verdicts
+use Rattle.lb_chain.specs.declared.walked.Walked.{Walked}
+use Rattle.lb_table.specs.declared.entry.Entry.{Entry}
+use Rattle.lb_table.specs.Place.{at_place}
+use Rattle.lb_core.specs.declared.asked.Asked.{Asked}
+use Rattle.lb_core.specs.declared.answer.Answer.{Answer}
+use Rattle.lb_core.specs.declared.answer.Answer.TheVariants.{Forward}
+use Rattle.lb_core.specs.Answer.{is_refused, marked}
+use Rattle.lb_core.specs.Upstream.{Upstreams, SendsBy, picked_of, with_entry, with_turn}
+use Rattle.lb_core.specs.Forward.{Forwards, PickForwards, entry_of, lane_of, sent, sent_of, with_id}
+use Rattle.lb_core.specs.Query.{Decides, EndDecides, RuleDecides, default_pool}
+
+-- a query that was sent
+pub sent_on : (ups new : Upstreams) (asked : Asked) (bytes : List ℕ) (view : QueryView) (no_recurse : Bool) (pool : PoolId) (server : ServerId) (lane : Lane) (id : ℕ) (entry : Entry) (octets : List ℕ) →
+    Some server ≡ picked_of ups pool → lane ≡ lane_of asked.kind → entry ≡ entry_of ups asked bytes view → octets ≡ with_id id (sent_of no_recurse bytes) →
+    SendsBy ups pool server lane asked.word entry (Ok id) new → Forwards ups asked bytes view no_recurse pool (Forward server lane id octets) new
+sent_on ups new asked bytes view no_recurse pool server lane id entry octets picked is_lane is_entry is_octets sends =
+    let s = subst (λ (l : Lane). SendsBy ups pool server l asked.word entry (Ok id) new) is_lane sends in
+    let place = at_place server (lane_of asked.kind) id in
+    let left : new ≡ with_entry place (entry_of ups asked bytes view) (with_turn pool ups) = s.1 ∙ ap (λ (e : Entry). with_entry place e (with_turn pool ups)) is_entry in
+    let told : Forward server lane id octets ≡ Forward server (lane_of asked.kind) id (with_id id (sent_of no_recurse bytes)) =
+        ap (λ (l : Lane). Forward server l id octets) is_lane ∙ ap (λ (o : List ℕ). Forward server (lane_of asked.kind) id o) is_octets in
+    let done : (new, Forward server lane id octets) ≡ sent (with_turn pool ups) asked bytes view no_recurse server (Some id) =
+        ap (λ (u : Upstreams). (u, Forward server lane id octets)) left ∙ ap (λ (a : Answer). (with_entry place (entry_of ups asked bytes view) (with_turn pool ups), a)) told in
+    subst (λ (p : Option ServerId). PickForwards ups asked bytes view no_recurse pool p (Forward server lane id octets) new) picked (Some id, s.0, done)
+
+-- an answer that is told with a state
+told_by : (new : Upstreams) (answer : Answer) (done : Upstreams × Answer) → (new, answer) ≡ done → answer ≡ done.1
+told_by new answer done is = ap (λ (d : Upstreams × Answer). d.1) is
+
+-- neither a mark nor a refusal
+abbrev IsPlain : Answer → Type 0
+IsPlain answer = (marked answer ≡ false) × (is_refused answer ≡ false)
+
+sent_plain : (ups : Upstreams) (asked : Asked) (bytes : List ℕ) (view : QueryView) (no_recurse : Bool) (server : ServerId) (id : Option ℕ) → IsPlain (sent ups asked bytes view no_recurse server id).1
+sent_plain ups asked bytes view no_recurse server None = (refl, refl)
+sent_plain ups asked bytes view no_recurse server (Some id) = (refl, refl)
+
+picked_plain : (ups new : Upstreams) (asked : Asked) (bytes : List ℕ) (view : QueryView) (no_recurse : Bool) (pool : PoolId) (server : Option ServerId) (answer : Answer) →
+    PickForwards ups asked bytes view no_recurse pool server answer new → IsPlain answer
+picked_plain ups new asked bytes view no_recurse pool None answer is = subst IsPlain (sym (told_by new answer _ is)) (refl, refl)
+picked_plain ups new asked bytes view no_recurse pool (Some server) answer is =
+    subst IsPlain (sym (told_by new answer (sent (with_turn pool ups) asked bytes view no_recurse server is.0) is.2)) (sent_plain (with_turn pool ups) asked bytes view no_recurse server is.0)
+
+ruled_plain : (ups new : Upstreams) (asked : Asked) (bytes : List ℕ) (view : QueryView) (no_recurse : Bool) (rule : RuleId) (verdict : Verdict) (answer : Answer) →
+    RuleDecides ups asked bytes view no_recurse rule verdict answer new → IsPlain answer
+ruled_plain ups new asked bytes view no_recurse rule verdicts.Allow answer is = picked_plain ups new asked bytes view no_recurse default_pool (picked_of ups default_pool) answer is
+ruled_plain ups new asked bytes view no_recurse rule (verdicts.Pool pool) answer is = picked_plain ups new asked bytes view no_recurse pool (picked_of ups pool) answer is
+ruled_plain ups new asked bytes view no_recurse rule verdicts.Drop answer is = subst IsPlain (sym (told_by new answer _ is)) (refl, refl)
+ruled_plain ups new asked bytes view no_recurse rule (verdicts.Rcode rcode) answer is = subst IsPlain (sym (told_by new answer _ is)) (refl, refl)
+ruled_plain ups new asked bytes view no_recurse rule verdicts.Tc answer is = subst IsPlain (sym (told_by new answer _ is)) (refl, refl)
+ruled_plain ups new asked bytes view no_recurse rule (verdicts.Spoof addrs) answer is = subst IsPlain (sym (told_by new answer _ is)) (refl, refl)
+
+pub ended_plain : (ups new : Upstreams) (asked : Asked) (bytes : List ℕ) (view : QueryView) (walked : Walked) (rule : Option RuleId) (answer : Answer) →
+    EndDecides ups asked bytes view walked rule answer new → (marked answer ≡ false) × (is_refused answer ≡ false)
+ended_plain ups new asked bytes view walked None answer is = picked_plain ups new asked bytes view walked.no_recurse default_pool (picked_of ups default_pool) answer is
+ended_plain ups new asked bytes view walked (Some rule) answer is = ruled_plain ups new asked bytes view walked.no_recurse rule walked.verdict answer is

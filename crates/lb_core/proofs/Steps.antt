@@ -1,0 +1,115 @@
+-- Steps of the balancer over its plain state.
+use Rattle.std.proofs.Common.{◌≡◌, ℕ, Bool, true, false, IsTrue, List, Option, Some, None, Result, Ok, Err, max, refl, sym, ◌∙◌, ap, subst, arith}
+use Rattle.std.specs.Prelude.{if◌then◌else◌}
+use Rattle.lb_wire.specs.Belongs.{belongs}
+use Rattle.lb_wire.specs.Query.{Reads}
+use Rattle.lb_wire.specs.Reply.{ReadsReply}
+use Rattle.lb_wire.specs.declared.addr.Origin.{Origin}
+use Rattle.lb_wire.specs.declared.ids.ServerId.{ServerId}
+use Rattle.lb_wire.specs.declared.transport.Kind.{Kind}
+use Rattle.lb_wire.specs.declared.transport.Lane.{Lane}
+use Rattle.lb_wire.specs.declared.query.QueryView.{QueryView}
+use Rattle.lb_wire.specs.declared.query.QueryFault.{QueryFault}
+use Rattle.lb_wire.specs.declared.reply.ReplyView.{ReplyView}
+use Rattle.lb_wire.specs.declared.reply.ReplyFault.{ReplyFault}
+use Rattle.lb_wire.specs.declared.reply.ReplyFault.TheVariants as reply_faults
+use Rattle.lb_chain.specs.declared.numbered.Numbered.{Numbered}
+use Rattle.lb_chain.specs.declared.walked.Walked.{Walked}
+use Rattle.lb_chain.specs.Edits.{Rules}
+use Rattle.lb_chain.specs.Counting.{counted}
+use Rattle.lb_chain.specs.Seen.{seen_rules, SeenTwice}
+use Rattle.lb_table.specs.declared.place.Place.{Place}
+use Rattle.lb_table.specs.declared.entry.Entry.{Entry}
+use Rattle.lb_table.specs.Place.{at_place}
+use Rattle.lb_table.specs.Table.{entry_at}
+use Rattle.lb_core.specs.declared.asked.Asked.{Asked}
+use Rattle.lb_core.specs.declared.answer.Answer.{Answer}
+use Rattle.lb_core.specs.declared.command.Command.{Command}
+use Rattle.lb_core.specs.declared.event.Event.TheVariants.{Query, Reply, Edit}
+use Rattle.lb_core.specs.Answer.{marked}
+use Rattle.lb_core.specs.Edit.{edit_of, upstream_changed, MayLackAt}
+use Rattle.lb_core.specs.Plain.{Plain, at_plain, plain_of, with_upstreams}
+use Rattle.lb_core.specs.Reading.{OfNone, OfQuery, OfReply}
+use Rattle.lb_core.specs.Reply.{held_against, reply_step}
+use Rattle.lb_core.specs.Step.{Answers, MayMarkAt, StepsAt, asked_at}
+use Rattle.lb_core.specs.Upstream.{Upstreams}
+use Rattle.lb_core.specs.Query.{Decides, MayLack, QuerySteps, WalkedSteps, with_passes}
+use Rattle.lb_core.proofs.ChainEdits.{false_true}
+use Rattle.lb_core.proofs.Forwards.{ended_plain}
+
+-- the state of a chain and of what stands upstream, seen later
+pub later : SeenTwice → (m now t : ℕ) (chain : Rules) (ups : Upstreams) → t ≡ max m now → at_plain now (plain_of m chain ups) ≡ plain_of t chain ups
+later twice m now t chain ups is =
+    ap (λ (rules : List Numbered). record (plain_of (max m now) chain ups) { rules = rules }) (twice m (max m now) chain.rules (omega arith))
+    ∙ ap (λ (t : ℕ). plain_of t chain ups) (sym is)
+
+-- a query whose passes were counted
+pub counted_step : (old new : Rules) (ups after : Upstreams) (asked : Asked) (bytes : List ℕ) (view : QueryView) (walked own : Walked) (answer : Answer) →
+    Decides ups asked bytes view own answer after → own ≡ walked → new.next ≡ old.next →
+    seen_rules asked.moment new.rules ≡ counted own.passes asked.origin.source asked.moment (seen_rules asked.moment old.rules) →
+    WalkedSteps (marked answer) (plain_of asked.moment old ups) asked bytes view walked answer (plain_of asked.moment new after)
+counted_step old new ups after asked bytes view walked own answer decides is next rules =
+    let m = asked.moment in
+    let unmarked : marked answer ≡ false = (ended_plain ups after asked bytes view own own.rule answer decides).0 in
+    let state : plain_of m new after ≡ with_upstreams after (with_passes asked own (plain_of m old ups)) =
+        ap (λ (n : ℕ). record (plain_of m new after) { next_rule = n }) next
+        ∙ ap (λ (rs : List Numbered). record (plain_of m old after) { rules = rs }) rules in
+    subst (λ (b : Bool). WalkedSteps b (plain_of m old ups) asked bytes view walked answer (plain_of m new after)) (sym unmarked)
+    (subst (λ (w : Walked). WalkedSteps false (plain_of m old ups) asked bytes view w answer (plain_of m new after)) is (after, decides, state))
+
+-- an event of a query
+pub query_answers : SeenTwice → (m now t : ℕ) (old new : Rules) (ups after : Upstreams) (origin : Origin) (kind : Kind) (word : ℕ) (bytes : List ℕ) (answer : Answer) →
+    t ≡ max m now →
+    ((reading : Result QueryView QueryFault) × Reads bytes reading × QuerySteps (marked answer) (plain_of t old ups) (asked_at t origin kind word) bytes reading answer (plain_of t new after)) →
+    (IsTrue (marked answer) → (view : QueryView) × MayLack (plain_of t old ups) (asked_at t origin kind word) bytes view) →
+    Answers (plain_of m old ups) (Query now origin kind word bytes) answer (plain_of t new after)
+query_answers twice m now t old new ups after origin kind word bytes answer is step mark =
+    let then_old : plain_of t old ups ≡ at_plain now (plain_of m old ups) = sym (later twice m now t old ups is) in
+    record {
+      reading = OfQuery step.0;
+      reads = step.1;
+      step = subst (λ (p : Plain). StepsAt p (Query now origin kind word bytes) (OfQuery step.0) answer (plain_of t new after)) then_old step.2;
+      mark = λ marks. subst (λ (p : Plain). MayMarkAt p (Query now origin kind word bytes)) then_old (mark marks) }
+
+unmarked_if : {State : Type 0} (b : Bool) (x y : State × Answer) → marked x.1 ≡ false → marked y.1 ≡ false → marked (if b then x else y).1 ≡ false
+unmarked_if true x y first second = first
+unmarked_if false x y first second = second
+
+-- a reply is answered without a mark
+unmarked_held : (ups : Upstreams) (place : Place) (bytes : List ℕ) (view : ReplyView) (entry : Option Entry) → marked (held_against ups place bytes view entry).1 ≡ false
+unmarked_held ups place bytes view None = refl
+unmarked_held ups place bytes view (Some entry) = unmarked_if (belongs view entry.name entry.qtype entry.qclass) _ _ refl refl
+
+pub unmarked_reply : (ups : Upstreams) (server : ServerId) (lane : Lane) (bytes : List ℕ) (reading : Result ReplyView ReplyFault) → marked (reply_step ups server lane bytes reading).1 ≡ false
+unmarked_reply ups server lane bytes (Err reply_faults.Short) = refl
+unmarked_reply ups server lane bytes (Err reply_faults.NotReply) = refl
+unmarked_reply ups server lane bytes (Ok view) = unmarked_held ups (at_place server lane view.id) bytes view (entry_at ups.outstanding (at_place server lane view.id))
+
+-- an event of a reply
+pub reply_answers : SeenTwice → (m now t : ℕ) (chain : Rules) (ups after : Upstreams) (server : ServerId) (lane : Lane) (bytes : List ℕ) (answer : Answer) →
+    t ≡ max m now →
+    ((reading : Result ReplyView ReplyFault) × ReadsReply bytes reading × ((after, answer) ≡ reply_step ups server lane bytes reading)) →
+    Answers (plain_of m chain ups) (Reply now server lane bytes) answer (plain_of t chain after)
+reply_answers twice m now t chain ups after server lane bytes answer is step =
+    let then_old : plain_of t chain ups ≡ at_plain now (plain_of m chain ups) = sym (later twice m now t chain ups is) in
+    let told : answer ≡ (reply_step ups server lane bytes step.0).1 = ap (λ (d : Upstreams × Answer). d.1) step.2 in
+    record {
+      reading = OfReply step.0;
+      reads = step.1;
+      step = subst (λ (p : Plain). StepsAt p (Reply now server lane bytes) (OfReply step.0) answer (plain_of t chain after)) then_old
+        (ap (upstream_changed (plain_of t chain ups)) step.2);
+      mark = λ marks. absurd (false_true (sym (ap marked told ∙ unmarked_reply ups server lane bytes step.0) ∙ marks)) }
+
+-- an event of a command
+pub edit_answers : SeenTwice → (m now t : ℕ) (old new : Rules) (ups after : Upstreams) (command : Command) (answer : Answer) →
+    t ≡ max m now →
+    (plain_of t new after, answer) ≡ edit_of (marked answer) (plain_of t old ups) command →
+    (IsTrue (marked answer) → MayLackAt (plain_of t old ups) command) →
+    Answers (plain_of m old ups) (Edit now command) answer (plain_of t new after)
+edit_answers twice m now t old new ups after command answer is step mark =
+    let then_old : plain_of t old ups ≡ at_plain now (plain_of m old ups) = sym (later twice m now t old ups is) in
+    record {
+      reading = OfNone;
+      reads = tt;
+      step = subst (λ (p : Plain). StepsAt p (Edit now command) OfNone answer (plain_of t new after)) then_old step;
+      mark = λ marks. subst (λ (p : Plain). MayMarkAt p (Edit now command)) then_old (mark marks) }

@@ -1,0 +1,10 @@
+use Rattle.std.proofs.Common.{◌≡◌, [], refl, rules}
+use Rattle.std.proofs.lemmas.List.{append-nil, nil_from_length}
+use Rattle.std.specs.Vec.Iter.{into_iter_items}
+use Rattle.lb_core.proofs.runs.run.Goals as goal
+
+pub returns-clause-run : goal.returns-clause-run
+returns-clause-run c =
+    let left : into_iter_items c.loop-event.event-iterator ≡ [] = nil_from_length _ (search rules) in
+    let whole = c.loop-event.invariant.3 [] c.loop-event.balancer (rw left refl) in
+    rw append-nil at whole
