@@ -1,0 +1,363 @@
+//! Servers, pools, queries that are sent to them, and their replies.
+
+use super::messages::{
+    DELIVERED, DELIVERED_SERV_FAIL, IPV6, QUERY, REPLY, REPLY_IPV6, REPLY_NX_DOMAIN,
+    REPLY_SERV_FAIL, REPLY_SHORT, REPLY_UPPER, SENT_0, SENT_16, SENT_17, SENT_18, SENT_65535,
+    SENT_IPV6, SENT_NO_RD, SERV_FAIL,
+};
+use super::{
+    ONE, PLAIN, Query, add_rule, adding, ask, at, done, ident, is_dropped_by, is_no_server,
+    is_park_fault, named, octets, of, origin, tell,
+};
+use crate::{Answer, Balancer, Command, Event, IgnoreReason, Note, StatedAction};
+use lb_servers::{Mode, ParkFault, Policy, PoolName, PoolNames, ServerSpec};
+use lb_terms::Term;
+use lb_wire::{Addr, Kept, Kind, Lane, RecordType, RuleId, ServerId};
+use std::alloc::{AllocError, Global};
+use std::test::Fail;
+
+const HERE: Addr = Addr::V4([127, 0, 0, 1]);
+
+const UDP: Lane = Lane {
+    kind: Kind::Datagram,
+    number: 0,
+};
+
+const TCP: Lane = Lane {
+    kind: Kind::Stream,
+    number: 0,
+};
+
+/// A server as the rows state it: its name, its port and its order; its number is the last.
+type Row = (&'static str, u16, u16, ServerId);
+
+const S1: Row = ("s1", 5301, 1, ServerId(1));
+
+const S2: Row = ("s2", 5302, 1, ServerId(2));
+
+const S3: Row = ("s3", 5303, 1, ServerId(3));
+
+/// The command that adds a server to the default pool.
+fn adding_server(alloc: Global, row: Row) -> Result<Command, Fail> {
+    let mut spec = ServerSpec::new(alloc, ident(row.0)?, HERE, row.1);
+    spec.order = row.2;
+    Ok(Command::ServerAdd(spec))
+}
+
+/// The command that adds a server of this name to a pool alone.
+fn adding_to(alloc: Global, name: &str, pool: &str) -> Result<Command, Fail> {
+    let mut pools = Vec::new(alloc);
+    pools.push(named(pool)?)?;
+    let mut spec = ServerSpec::new(alloc, ident(name)?, HERE, 5302);
+    spec.pools = PoolNames::from_vec(pools).ok_or("too many pools")?;
+    Ok(Command::ServerAdd(spec))
+}
+
+/// Adds a server to the default pool; where memory was wanting, once more.
+fn add_server(balancer: &mut Balancer, alloc: Global, row: Row) -> Result<ServerId, Fail> {
+    let mut answer = tell(balancer, adding_server(alloc, row)?);
+    if is_park_fault(&answer, ParkFault::NoMemory) {
+        answer = tell(balancer, adding_server(alloc, row)?);
+    }
+    match done(answer)? {
+        Note::ServerAdded(id) => Ok(id),
+        _ => Err(Fail::from("no server was added")),
+    }
+}
+
+/// A balancer with these servers in the default pool.
+fn serving(alloc: Global, rows: &[Row]) -> Result<Balancer, Fail> {
+    let mut balancer = Balancer::new(alloc)?;
+    for row in rows {
+        if add_server(&mut balancer, alloc, *row)? != row.3 {
+            return Err(Fail::from("another number"));
+        }
+    }
+    Ok(balancer)
+}
+
+/// Adds a pool, once more where memory was wanting, and tells whether the answer says so.
+fn adds_pool(balancer: &mut Balancer, name: &str) -> Result<bool, Fail> {
+    let mut answer = tell(balancer, Command::PoolAdd(named(name)?));
+    if is_park_fault(&answer, ParkFault::NoMemory) {
+        answer = tell(balancer, Command::PoolAdd(named(name)?));
+    }
+    match done(answer)? {
+        Note::PoolAdded(PoolName::Named(added)) => Ok(added.as_str() == name),
+        _ => Ok(false),
+    }
+}
+
+/// Gives the default pool a policy, and tells whether the answer says so.
+fn sets_policy(balancer: &mut Balancer, policy: Policy) -> bool {
+    match tell(balancer, Command::PoolPolicy(PoolName::Default, policy)) {
+        Answer::Edited(Note::PoolPolicy(PoolName::Default, told)) => told == policy,
+        _ => false,
+    }
+}
+
+/// Puts a server into a mode, and tells whether the answer says so.
+fn sets_mode(balancer: &mut Balancer, row: Row, mode: Mode) -> Result<bool, Fail> {
+    let note = done(tell(balancer, Command::ServerMode(ident(row.0)?, mode)))?;
+    Ok(matches!(note, Note::ServerMode(id, told) if id == row.3 && told == mode))
+}
+
+/// The answer to a reply from a server.
+fn reply(
+    balancer: &mut Balancer,
+    alloc: Global,
+    row: Row,
+    lane: Lane,
+    bytes: &[u8],
+) -> Result<Answer, AllocError> {
+    Ok(balancer.step(Event::Reply {
+        now: 2000,
+        server: row.3,
+        lane,
+        bytes: octets(alloc, bytes)?,
+    }))
+}
+
+/// Whether a query is sent to a server by this lane, under this ID, in these octets.
+fn is_sent_by(answer: &Answer, row: Row, lane: Lane, id: u16, octets: &[u8]) -> bool {
+    match answer {
+        Answer::Forward(server, by, under, bytes) => {
+            *server == row.3 && *by == lane && *under == id && bytes.as_slice() == octets
+        }
+        _ => false,
+    }
+}
+
+/// Whether a query is sent as a datagram.
+fn is_sent(answer: &Answer, row: Row, id: u16, octets: &[u8]) -> bool {
+    is_sent_by(answer, row, UDP, id, octets)
+}
+
+/// Whether a reply goes to the client that asked, in these octets.
+fn is_delivered(answer: &Answer, octets: &[u8]) -> bool {
+    match answer {
+        Answer::Deliver(to, bytes, kept) => {
+            *to == origin(ONE) && bytes.as_slice() == octets && *kept == Kept::No
+        }
+        _ => false,
+    }
+}
+
+fn is_ignored(answer: &Answer, why: IgnoreReason) -> bool {
+    match answer {
+        Answer::Ignored(reason) => *reason == why,
+        _ => false,
+    }
+}
+
+#[test]
+fn the_first_available_server(rt: HostRuntime) -> Result<(), Fail> {
+    let alloc = rt.alloc();
+    let late = ("s1", 5301, 2, ServerId(1));
+    let mut balancer = serving(alloc, &[late, S2])?;
+    assert!(rt; sets_policy(&mut balancer, Policy::FirstAvailable));
+    assert!(rt; is_sent(&ask(&mut balancer, alloc, PLAIN)?, S2, 16, SENT_16));
+    assert!(rt; sets_mode(&mut balancer, S2, Mode::Down)?);
+    assert!(rt; is_sent(&ask(&mut balancer, alloc, PLAIN)?, S1, 16, SENT_16));
+    Ok(())
+}
+
+#[test]
+fn a_free_id_goes_round(rt: HostRuntime) -> Result<(), Fail> {
+    let alloc = rt.alloc();
+    let mut balancer = serving(alloc, &[S1])?;
+    let last = Query {
+        word: 65535,
+        ..PLAIN
+    };
+    assert!(rt; is_sent(&ask(&mut balancer, alloc, last)?, S1, 65535, SENT_65535));
+    assert!(rt; is_sent(&ask(&mut balancer, alloc, last)?, S1, 0, SENT_0));
+    Ok(())
+}
+
+#[test]
+fn the_server_with_the_fewest_outstanding(rt: HostRuntime) -> Result<(), Fail> {
+    let alloc = rt.alloc();
+    let mut balancer = serving(alloc, &[S1, S2, S3])?;
+    for row in [S1, S2, S3] {
+        assert!(rt; is_sent(&ask(&mut balancer, alloc, PLAIN)?, row, 16, SENT_16));
+    }
+    assert!(rt; is_sent(&ask(&mut balancer, alloc, PLAIN)?, S1, 17, SENT_17));
+    Ok(())
+}
+
+#[test]
+fn both_lanes_are_counted(rt: HostRuntime) -> Result<(), Fail> {
+    let alloc = rt.alloc();
+    let mut balancer = serving(alloc, &[S1, S2])?;
+    let stream = Query {
+        kind: Kind::Stream,
+        ..PLAIN
+    };
+    let answer = ask(&mut balancer, alloc, stream)?;
+    assert!(rt; is_sent_by(&answer, S1, TCP, 16, SENT_16));
+    assert!(rt; is_sent(&ask(&mut balancer, alloc, PLAIN)?, S2, 16, SENT_16));
+    // Each lane has IDs of its own.
+    assert!(rt; is_sent(&ask(&mut balancer, alloc, PLAIN)?, S1, 16, SENT_16));
+    Ok(())
+}
+
+#[test]
+fn rd_is_cleared(rt: HostRuntime) -> Result<(), Fail> {
+    let alloc = rt.alloc();
+    let mut balancer = Balancer::new(alloc)?;
+    let id = add_rule(&mut balancer, Term::All, StatedAction::NoRecurse)?;
+    assert_eq!(rt; id, RuleId(1));
+    assert_eq!(rt; add_server(&mut balancer, alloc, S1)?, ServerId(1));
+    assert!(rt; is_sent(&ask(&mut balancer, alloc, PLAIN)?, S1, 16, SENT_NO_RD));
+    Ok(())
+}
+
+#[test]
+fn a_pool_of_its_own(rt: HostRuntime) -> Result<(), Fail> {
+    let alloc = rt.alloc();
+    let mut balancer = Balancer::new(alloc)?;
+    assert!(rt; adds_pool(&mut balancer, "p1")?);
+    let server = done(tell(&mut balancer, adding_to(alloc, "s2", "p1")?))?;
+    assert!(rt; matches!(server, Note::ServerAdded(ServerId(1))));
+    let to_pool = StatedAction::Pool(named("p1")?);
+    let id = add_rule(&mut balancer, Term::Qtype(RecordType::AAAA), to_pool)?;
+    assert_eq!(rt; id, RuleId(1));
+    assert!(rt; is_no_server(&ask(&mut balancer, alloc, PLAIN)?));
+    assert!(rt; is_sent(&ask(&mut balancer, alloc, of(IPV6))?, S1, 16, SENT_IPV6));
+    Ok(())
+}
+
+#[test]
+fn pools_and_servers_that_are_refused(rt: HostRuntime) -> Result<(), Fail> {
+    let alloc = rt.alloc();
+    let mut balancer = Balancer::new(alloc)?;
+    let to_pool = StatedAction::Pool(named("p1")?);
+    let gone = tell(&mut balancer, adding(None, Term::All, to_pool)?);
+    assert!(rt; is_park_fault(&gone, ParkFault::NoSuchPool));
+    let gone = tell(&mut balancer, Command::ServerMode(ident("s9")?, Mode::Up));
+    assert!(rt; is_park_fault(&gone, ParkFault::NoSuchServer));
+    assert!(rt; adds_pool(&mut balancer, "p1")?);
+    let taken = tell(&mut balancer, Command::PoolAdd(named("p1")?));
+    assert!(rt; is_park_fault(&taken, ParkFault::NameTaken));
+    for n in 2..=63u8 {
+        let name = format!(in alloc; "p{n}")?;
+        assert!(rt; adds_pool(&mut balancer, name.as_str())?);
+    }
+    let full = tell(&mut balancer, Command::PoolAdd(named("p64")?));
+    assert!(rt; is_park_fault(&full, ParkFault::TooMany));
+    Ok(())
+}
+
+#[test]
+fn what_is_named_and_not_there_comes_first(rt: HostRuntime) -> Result<(), Fail> {
+    let alloc = rt.alloc();
+    let mut balancer = serving(alloc, &[S1])?;
+    let taken = tell(&mut balancer, Command::PoolAdd(PoolName::Default));
+    assert!(rt; is_park_fault(&taken, ParkFault::NameTaken));
+    for command in [
+        adding(Some(9), Term::All, StatedAction::Pool(named("nosuch")?))?,
+        adding_to(alloc, "s1", "nosuch")?,
+        Command::PoolPolicy(named("nosuch")?, Policy::RoundRobin),
+    ] {
+        assert!(rt; is_park_fault(&tell(&mut balancer, command), ParkFault::NoSuchPool));
+    }
+    for command in [
+        Command::ServerRemove(ident("S1")?),
+        Command::ServerMode(ident("S1")?, Mode::Down),
+    ] {
+        assert!(rt; is_park_fault(&tell(&mut balancer, command), ParkFault::NoSuchServer));
+    }
+    Ok(())
+}
+
+#[test]
+fn servers_in_turn(rt: HostRuntime) -> Result<(), Fail> {
+    let alloc = rt.alloc();
+    let mut balancer = serving(alloc, &[S1, S2, S3])?;
+    assert!(rt; sets_policy(&mut balancer, Policy::RoundRobin));
+    assert!(rt; is_sent(&ask(&mut balancer, alloc, PLAIN)?, S1, 16, SENT_16));
+    assert!(rt; sets_mode(&mut balancer, S2, Mode::Down)?);
+    assert!(rt; is_sent(&ask(&mut balancer, alloc, PLAIN)?, S3, 16, SENT_16));
+    assert!(rt; is_sent(&ask(&mut balancer, alloc, PLAIN)?, S1, 17, SENT_17));
+    assert!(rt; sets_mode(&mut balancer, S2, Mode::Auto)?);
+    assert!(rt; is_sent(&ask(&mut balancer, alloc, PLAIN)?, S1, 18, SENT_18));
+    // Where one is left, each turn is its.
+    assert!(rt; sets_mode(&mut balancer, S1, Mode::Down)?);
+    assert!(rt; sets_mode(&mut balancer, S3, Mode::Down)?);
+    assert!(rt; is_sent(&ask(&mut balancer, alloc, PLAIN)?, S2, 16, SENT_16));
+    assert!(rt; is_sent(&ask(&mut balancer, alloc, PLAIN)?, S2, 17, SENT_17));
+    Ok(())
+}
+
+#[test]
+fn a_removed_server_still_replies(rt: HostRuntime) -> Result<(), Fail> {
+    let alloc = rt.alloc();
+    let mut balancer = serving(alloc, &[S1])?;
+    assert!(rt; is_sent(&ask(&mut balancer, alloc, PLAIN)?, S1, 16, SENT_16));
+    let removed = done(tell(&mut balancer, Command::ServerRemove(ident("s1")?)))?;
+    assert!(rt; matches!(removed, Note::ServerRemoved(ServerId(1))));
+    let answer = reply(&mut balancer, alloc, S1, UDP, REPLY)?;
+    assert!(rt; is_delivered(&answer, DELIVERED));
+    assert!(rt; is_no_server(&ask(&mut balancer, alloc, at(2000))?));
+    Ok(())
+}
+
+#[test]
+fn which_reply_belongs(rt: HostRuntime) -> Result<(), Fail> {
+    let alloc = rt.alloc();
+    let mut balancer = serving(alloc, &[S1, S2])?;
+    assert!(rt; is_sent(&ask(&mut balancer, alloc, PLAIN)?, S1, 16, SENT_16));
+    for (row, lane, bytes, why) in [
+        (S1, UDP, REPLY_IPV6, IgnoreReason::Mismatch),
+        (S2, UDP, REPLY, IgnoreReason::Unknown),
+        (S1, TCP, REPLY, IgnoreReason::Unknown),
+        (S1, UDP, REPLY_NX_DOMAIN, IgnoreReason::Mismatch),
+    ] {
+        assert!(rt; is_ignored(&reply(&mut balancer, alloc, row, lane, bytes)?, why));
+    }
+    let answer = reply(&mut balancer, alloc, S1, UDP, REPLY)?;
+    assert!(rt; is_delivered(&answer, DELIVERED));
+    for (bytes, why) in [
+        (REPLY, IgnoreReason::Unknown),
+        (REPLY_SHORT, IgnoreReason::Short),
+        (QUERY, IgnoreReason::NotReply),
+    ] {
+        assert!(rt; is_ignored(&reply(&mut balancer, alloc, S1, UDP, bytes)?, why));
+    }
+    Ok(())
+}
+
+#[test]
+fn replies_as_their_clients_get_them(rt: HostRuntime) -> Result<(), Fail> {
+    let alloc = rt.alloc();
+    let mut balancer = serving(alloc, &[S1])?;
+    for (bytes, delivered) in [
+        (REPLY_SERV_FAIL, DELIVERED_SERV_FAIL),
+        (REPLY_UPPER, DELIVERED),
+    ] {
+        assert!(rt; is_sent(&ask(&mut balancer, alloc, PLAIN)?, S1, 16, SENT_16));
+        assert!(rt; is_delivered(&reply(&mut balancer, alloc, S1, UDP, bytes)?, delivered));
+    }
+    Ok(())
+}
+
+/// Where memory is wanting for a query, no pass, no turn and no outstanding query is counted: a second pass would have the
+/// same query dropped, a turn would send it to the other server, and an entry would take its ID.
+#[test]
+fn wanting_memory_a_query_counts_nothing(rt: HostRuntime) -> Result<(), Fail> {
+    let alloc = rt.alloc();
+    let mut balancer = serving(alloc, &[S1, S2])?;
+    assert!(rt; sets_policy(&mut balancer, Policy::RoundRobin));
+    add_rule(&mut balancer, Term::MaxQps(2, 32, 64), StatedAction::Drop)?;
+    for row in [S1, S2] {
+        let mut answer = balancer.step(PLAIN.event(alloc)?);
+        if let Answer::NoMemory(bytes) = &answer {
+            assert!(rt; bytes.as_slice() == SERV_FAIL);
+            answer = balancer.step(PLAIN.event(alloc)?);
+        }
+        assert!(rt; is_sent(&answer, row, 16, SENT_16));
+    }
+    assert!(rt; is_dropped_by(&ask(&mut balancer, alloc, PLAIN)?, 1));
+    Ok(())
+}
