@@ -1,8 +1,8 @@
 -- Servers sorted by order.
-use Rattle.std.proofs.Common.{◌≡◌, ℕ, ◌+◌, ◌<◌, ◌≤◌, Bool, true, false, not, cond, ltb, List, [], ◌∷◌, ◌++◌, length, get_or, map, take, drop, Some, None, inl, inr, refl, sym, ap, ◌∙◌, arith}
-use Rattle.std.specs.List.{fold, insert, position, position_or_len, prefix_len}
+use Rattle.std.proofs.Common.{◌≡◌, ℕ, ◌+◌, ◌<◌, ◌≤◌, Bool, ltb, List, [], ◌∷◌, length, map, take, drop, inl, inr, refl, ap, ◌∙◌, arith}
+use Rattle.std.specs.List.{fold, insert, position, position_or_len}
 use Rattle.std.specs.Option.{unwrap_or}
-use Rattle.std.proofs.lemmas.Bool.{ltb-true, cond-true, cond-false, cases_Bool}
+use Rattle.std.proofs.lemmas.Bool.{ltb-true, cases_Bool}
 use Rattle.std.proofs.lemmas.List.{drop-map, length-map, map-append, take-map}
 use Rattle.std.proofs.lemmas.List.Edits.{length-insert}
 use Rattle.std.proofs.lemmas.List.Folds.{fold-map, fold_along}

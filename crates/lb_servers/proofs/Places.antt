@@ -1,13 +1,12 @@
 -- Servers by their places in the list.
-use Rattle.std.proofs.Common.{◌≡◌, ℕ, ◌+◌, ◌<◌, ◌≤◌, Bool, true, false, cond, List, [], ◌∷◌, ◌++◌, length, get_or, map, take, drop, Option, Some, None, option_map, inl, inr, refl, sym, ap, ◌∙◌, arith}
-use Rattle.std.specs.List.{filter, filter_map, insert, slice_get}
-use Rattle.std.proofs.lemmas.Bool.{cases_Bool}
+use Rattle.std.proofs.Common.{◌≡◌, ℕ, ◌+◌, ◌<◌, List, [], ◌∷◌, length, get_or, map, take, Option, Some, option_map, refl, sym, ap, ◌∙◌}
+use Rattle.std.specs.List.{insert, slice_get}
 use Rattle.std.proofs.lemmas.List.{length-map}
 use Rattle.std.proofs.lemmas.List.Sums.{fold_more}
 use Rattle.std.proofs.lemmas.Option.{slice_get-get_or, slice_get-map}
 use Rattle.lb_servers.specs.declared.server.Loaded.{Loaded}
 use Rattle.lb_servers.specs.Ranks.{StandAt, behind, by_order, is_behind, put_by_order}
-use Rattle.lb_servers.proofs.ByOrder.{by_order_long, by_order_map, insert_map, place_map, place_or_end}
+use Rattle.lb_servers.proofs.ByOrder.{by_order_map, insert_map, place_map, place_or_end}
 
 -- there are as many places as servers
 pub stand_long : (servers : List Loaded) (places : List ℕ) (those : List Loaded) → StandAt servers places those → length places ≡ length those

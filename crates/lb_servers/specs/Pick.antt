@@ -1,5 +1,5 @@
 -- The choice of a server in a pool, by the pool's policy.
-use Rattle.std.specs.Prelude.{ℕ, ◌%◌, nat_lt, Bool, List, length, Option, None, Some, option_map, slice_get, if◌then◌else◌}
+use Rattle.std.specs.Prelude.{ℕ, ◌%◌, nat_lt, List, length, Option, None, Some, option_map, slice_get, if◌then◌else◌}
 use Rattle.std.specs.List.{filter, filter_map, reduce}
 use Rattle.std.specs.Option.{option_and_then}
 use Rattle.lb_wire.specs.declared.ids.PoolId.{PoolId}

@@ -1,5 +1,5 @@
 -- What an operator states of a new server, and the server that it makes.
-use Rattle.std.specs.Prelude.{ℕ, Bool, true, List, [], ◌∷◌, ◌++◌, Option, is_none, if◌then◌else◌}
+use Rattle.std.specs.Prelude.{ℕ, Bool, true, List, [], ◌∷◌, ◌++◌, is_none, if◌then◌else◌}
 use Rattle.std.specs.List.{filter_map, fold, list_any}
 use Rattle.lb_wire.specs.declared.ids.PoolId.{PoolId}
 use Rattle.lb_servers.specs.declared.pool.PoolName.{PoolName}

@@ -1,4 +1,4 @@
-use Rattle.std.proofs.Common.{List, set, sym, ap, ◌∙◌, arith}
+use Rattle.std.proofs.Common.{set, sym, ap, ◌∙◌, arith}
 use Rattle.lb_servers.specs.declared.pool.Pool.{Pool}
 use Rattle.lb_servers.specs.Pool.{with_policy}
 use Rattle.lb_servers.proofs.ChangeAt.{changed_past, changed_there}

@@ -16,5 +16,5 @@ pub returns : goal.returns
 returns c =
     let same : c.self.inside.items.items ≡ c.args.self.now = c.self.view_is in
     subst (λ (places : List ℕ). StandAt c.args.servers.now places (by_order (take (c.args.at + 1) c.args.servers.now)))
-      (ap (λ (places : List ℕ). insert places c.place_by_order-place.result c.args.at) (sym same) ∙ sym c.insert.ensures.items)
-      (stand_next c.args.servers.now c.args.self.now c.as_slice.result.now c.args.at c.place_by_order-place.result c.index-servers-at.result c.requires.at (c.as_slice.ensures.value ∙ same) c.place_by_order-place.ensures.place c.requires.ranked)
+    (ap (λ (places : List ℕ). insert places c.place_by_order-place.result c.args.at) (sym same) ∙ sym c.insert.ensures.items)
+    (stand_next c.args.servers.now c.args.self.now c.as_slice.result.now c.args.at c.place_by_order-place.result c.index-servers-at.result c.requires.at (c.as_slice.ensures.value ∙ same) c.place_by_order-place.ensures.place c.requires.ranked)
