@@ -1,0 +1,180 @@
+-- Refused events change nothing but the moment.
+use Rattle.std.proofs.Common.{◌≡◌, ℕ, Bool, true, false, List, [], ◌∷◌, map, max, Option, None, Some, Result, Ok, Err, refl, sym, ◌∙◌, ap, subst, arith}
+use Rattle.std.proofs.lemmas.Bool.{both_ways}
+use Rattle.std.specs.Prelude.{if◌then◌else◌}
+use Rattle.lb_wire.specs.Belongs.{belongs}
+use Rattle.lb_wire.specs.declared.ids.PoolId.{PoolId}
+use Rattle.lb_wire.specs.declared.ids.ServerId.{ServerId}
+use Rattle.lb_wire.specs.declared.transport.Lane.{Lane}
+use Rattle.lb_wire.specs.declared.query.QueryView.{QueryView}
+use Rattle.lb_wire.specs.declared.query.QueryFault.{QueryFault}
+use Rattle.lb_wire.specs.declared.query.QueryFault.TheVariants as query_faults
+use Rattle.lb_wire.specs.declared.reply.ReplyView.{ReplyView}
+use Rattle.lb_wire.specs.declared.reply.ReplyFault.{ReplyFault}
+use Rattle.lb_wire.specs.declared.reply.ReplyFault.TheVariants as reply_faults
+use Rattle.lb_chain.specs.declared.fault.ChainFault.{ChainFault}
+use Rattle.lb_chain.specs.declared.numbered.Numbered.{Numbered}
+use Rattle.lb_chain.specs.declared.rule.Rule.{Rule}
+use Rattle.lb_chain.specs.declared.walked.Walked.{Walked}
+use Rattle.lb_chain.specs.Edits.{Rules, added, moved, removed}
+use Rattle.lb_chain.specs.Seen.{seen_rules, SeenTwice}
+use Rattle.lb_servers.specs.declared.fault.ParkFault.{ParkFault}
+use Rattle.lb_servers.specs.declared.server.Server.{Server}
+use Rattle.lb_servers.specs.Park.{Backends, added_pool, added_server, changed_pool, changed_server, removed_server}
+use Rattle.lb_servers.specs.Pool.{pool_named, with_policy}
+use Rattle.lb_servers.specs.Server.{with_mode}
+use Rattle.lb_table.specs.declared.entry.Entry.{Entry}
+use Rattle.lb_table.specs.declared.entry.Waiting.{Waiting}
+use Rattle.lb_table.specs.declared.place.Place.{Place}
+use Rattle.lb_table.specs.Place.{at_place}
+use Rattle.lb_table.specs.Table.{entry_at}
+use Rattle.lb_core.specs.declared.asked.Asked.{Asked}
+use Rattle.lb_core.specs.declared.event.Event.{Event}
+use Rattle.lb_core.specs.declared.event.Event.TheVariants.{Query, Reply, Edit}
+use Rattle.lb_core.specs.declared.command.Command.{Command}
+use Rattle.lb_core.specs.declared.command.Command.TheVariants.{RuleAdd, RuleRemove, RuleMove, ServerAdd, ServerRemove, ServerMode, PoolAdd, PoolPolicy}
+use Rattle.lb_core.specs.declared.answer.Answer.{Answer}
+use Rattle.lb_core.specs.declared.answer.Note.{Note}
+use Rattle.lb_core.specs.declared.answer.Note.TheVariants as notes
+use Rattle.lb_core.specs.Answer.{is_refused, marked}
+use Rattle.lb_core.specs.Plain.{Plain, at_plain, chain_of, upstreams_of, with_chain, with_upstreams}
+use Rattle.lb_core.specs.Upstream.{Upstreams, backends_of, loaded_by, server_of, with_backends}
+use Rattle.lb_core.specs.Edit.{edit_of, place_or_end, pool_edited, rule_added, rule_by, rules_edited, rules_told, server_by, server_edited, servers_told, upstream_changed, upstream_edited}
+use Rattle.lb_core.specs.Query.{QuerySteps, ReadSteps, WalkedSteps, is_transfer, walked_of}
+use Rattle.lb_core.specs.Reading.{Reading, OfNone, OfQuery, OfReply, moment_of}
+use Rattle.lb_core.specs.Reply.{held_against, reply_step}
+use Rattle.lb_core.specs.Step.{RefusalsChangeNothing, StepsAt, asked_at}
+use Rattle.lb_core.proofs.ChainEdits.{false_true}
+use Rattle.lb_core.proofs.Follows.{Follows, refuses, follows_added, follows_changed_pool, follows_changed_server, follows_moved, follows_pool, follows_removed, follows_removed_server, follows_server}
+use Rattle.lb_core.proofs.Forwards.{ended_plain}
+
+-- a state in which no pass is left that no longer counts
+abbrev pub IsSeen : Plain → Type 0
+IsSeen p = seen_rules p.moment p.rules ≡ p.rules
+
+pub seen_at : SeenTwice → (now : ℕ) (old : Plain) → IsSeen (at_plain now old)
+seen_at twice now old = twice (max old.moment now) (max old.moment now) old.rules (omega (arith))
+
+-- the state with its own chain, and with its own servers and pools
+pub own_chain : (p : Plain) → IsSeen p → with_chain (chain_of p) p ≡ p
+own_chain p seen = ap (λ (rules : List Numbered). record p { rules = rules }) seen
+
+uncounted : (t : List Waiting) (servers : List Server) → map server_of (map (loaded_by t) servers) ≡ servers
+uncounted t [] = refl
+uncounted t (s ∷ servers) = ap (λ (ss : List Server). s ∷ ss) (uncounted t servers)
+
+pub own_backends : (ups : Upstreams) → with_backends (backends_of ups) ups ≡ ups
+own_backends ups = ap (λ (servers : List Server). record ups { servers = servers }) (uncounted ups.outstanding ups.servers)
+
+rules_refuse : {A : Type 0} (note : A → Note) (r : Result A ChainFault) → is_refused (rules_told note r) ≡ refuses r
+rules_refuse note (Ok x) = refl
+rules_refuse note (Err fault) = refl
+
+servers_refuse : {A : Type 0} (note : A → Note) (r : Result A ParkFault) → is_refused (servers_told note r) ≡ refuses r
+servers_refuse note (Ok x) = refl
+servers_refuse note (Err fault) = refl
+
+-- a refused edit of the chain, and one of the servers and pools
+kept_rules : {A : Type 0} (note : A → Note) (p : Plain) (x y : Rules × Result A ChainFault) → IsSeen p → Follows (chain_of p) x y → is_refused (rules_told note x.1) ≡ true → with_chain x.0 p ≡ p
+kept_rules note p x y seen follows is = ap (λ (c : Rules). with_chain c p) (follows.kept (sym (rules_refuse note x.1) ∙ is)) ∙ own_chain p seen
+
+kept_upstream : {A : Type 0} (note : A → Note) (ups : Upstreams) (x y : Backends × Result A ParkFault) → Follows (backends_of ups) x y → is_refused (servers_told note x.1) ≡ true → with_backends x.0 ups ≡ ups
+kept_upstream note ups x y follows is = ap (λ (b : Backends). with_backends b ups) (follows.kept (sym (servers_refuse note x.1) ∙ is)) ∙ own_backends ups
+
+kept_added : (mark : Bool) (p : Plain) (place : Option ℕ) (rule : Option Rule) → IsSeen p → is_refused (rule_added mark p place rule).1 ≡ true → (rule_added mark p place rule).0 ≡ p
+kept_added mark p place None seen is = refl
+kept_added mark p place (Some rule) seen is = kept_rules notes.RuleAdded p _ _ seen (follows_added mark (chain_of p) (place_or_end place p.rules) rule) is
+
+kept_server : (note : ServerId → Note) (edit : Backends → ServerId → Backends × Result (Unit {0}) ParkFault) (ups : Upstreams) (id : Option ServerId) →
+    ((park : Backends) (id : ServerId) → Follows park (edit park id) (edit park id)) → is_refused (server_edited note edit ups id).1 ≡ true → (server_edited note edit ups id).0 ≡ ups
+kept_server note edit ups None follows is = refl
+kept_server note edit ups (Some id) follows is = kept_upstream (λ _. note id) ups (edit (backends_of ups) id) (edit (backends_of ups) id) (follows (backends_of ups) id) is
+
+kept_pool : (note : Note) (edit : Backends → PoolId → Backends × Result (Unit {0}) ParkFault) (ups : Upstreams) (pool : Option PoolId) →
+    ((park : Backends) (pool : PoolId) → Follows park (edit park pool) (edit park pool)) → is_refused (pool_edited note edit ups pool).1 ≡ true → (pool_edited note edit ups pool).0 ≡ ups
+kept_pool note edit ups None follows is = refl
+kept_pool note edit ups (Some pool) follows is = kept_upstream (λ _. note) ups (edit (backends_of ups) pool) (edit (backends_of ups) pool) (follows (backends_of ups) pool) is
+
+-- the state with what stands upstream as it was
+kept_changed : (p : Plain) (done : Upstreams × Answer) → done.0 ≡ upstreams_of p → (upstream_changed p done).0 ≡ p
+kept_changed p done is = ap (λ (u : Upstreams). with_upstreams u p) is
+
+-- a refused command leaves the state
+kept_command : (mark : Bool) (p : Plain) (command : Command) → IsSeen p → is_refused (edit_of mark p command).1 ≡ true → (edit_of mark p command).0 ≡ p
+kept_command mark p (RuleAdd place rule) seen is = kept_added mark p place (rule_by (pool_named p.pools) rule) seen is
+kept_command mark p (RuleRemove id) seen is = kept_rules (λ _. notes.RuleRemoved id) p (removed (chain_of p) id) (removed (chain_of p) id) seen (follows_removed (chain_of p) id) is
+kept_command mark p (RuleMove id place) seen is = kept_rules (λ _. notes.RuleMoved id) p (moved mark (chain_of p) id place) (moved false (chain_of p) id place) seen (follows_moved mark (chain_of p) id place) is
+kept_command mark p (ServerAdd spec) seen is =
+    let ups = upstreams_of p in
+    kept_changed p (upstream_edited notes.ServerAdded ups (added_server mark (backends_of ups) spec)) (kept_upstream notes.ServerAdded ups _ _ (follows_server mark (backends_of ups) spec) is)
+kept_command mark p (ServerRemove name) seen is =
+    let ups = upstreams_of p in
+    kept_changed p (server_edited notes.ServerRemoved removed_server ups (server_by ups name)) (kept_server notes.ServerRemoved removed_server ups (server_by ups name) follows_removed_server is)
+kept_command mark p (ServerMode name mode) seen is =
+    let ups = upstreams_of p in
+    let note : ServerId → Note = λ id. notes.ServerMode id mode in
+    kept_changed p (server_edited note (changed_server (with_mode mode)) ups (server_by ups name)) (kept_server note (changed_server (with_mode mode)) ups (server_by ups name) (follows_changed_server (with_mode mode)) is)
+kept_command mark p (PoolAdd name) seen is =
+    let ups = upstreams_of p in
+    let note : PoolId → Note = λ _. notes.PoolAdded name in
+    kept_changed p (upstream_edited note ups (added_pool mark (backends_of ups) name)) (kept_upstream note ups _ _ (follows_pool mark (backends_of ups) name) is)
+kept_command mark p (PoolPolicy name policy) seen is =
+    let ups = upstreams_of p in
+    kept_changed p (pool_edited (notes.PoolPolicy name policy) (changed_pool (with_policy policy)) ups (pool_named p.pools name)) (kept_pool (notes.PoolPolicy name policy) (changed_pool (with_policy policy)) ups (pool_named p.pools name) (follows_changed_pool (with_policy policy)) is)
+
+
+left_of : {State : Type 0} (new : State) (answer : Answer) (done : State × Answer) → (new, answer) ≡ done → new ≡ done.0
+left_of {State} new answer done is = ap (λ (d : State × Answer). d.0) is
+
+told_of : {State : Type 0} (new : State) (answer : Answer) (done : State × Answer) → (new, answer) ≡ done → answer ≡ done.1
+told_of {State} new answer done is = ap (λ (d : State × Answer). d.1) is
+
+-- a query that is refused met want of memory
+kept_walk : (mark : Bool) (p new : Plain) (asked : Asked) (bytes : List ℕ) (view : QueryView) (walked : Walked) (answer : Answer) →
+    WalkedSteps mark p asked bytes view walked answer new → is_refused answer ≡ true → new ≡ p
+kept_walk true p new asked bytes view walked answer step is = left_of new answer _ step
+kept_walk false p new asked bytes view walked answer step is =
+    absurd (both_ways (is_refused answer) (ended_plain (upstreams_of p) step.0 asked bytes view walked walked.rule answer step.1).1 is)
+
+kept_read : (transfer mark : Bool) (p new : Plain) (asked : Asked) (bytes : List ℕ) (view : QueryView) (answer : Answer) →
+    ReadSteps transfer mark p asked bytes view answer new → is_refused answer ≡ true → new ≡ p
+kept_read true mark p new asked bytes view answer step is = left_of new answer _ step
+kept_read false mark p new asked bytes view answer step is = kept_walk mark p new asked bytes view (walked_of p asked view) answer step is
+
+kept_query : (mark : Bool) (p new : Plain) (asked : Asked) (bytes : List ℕ) (reading : Result QueryView QueryFault) (answer : Answer) →
+    QuerySteps mark p asked bytes reading answer new → is_refused answer ≡ true → new ≡ p
+kept_query mark p new asked bytes (Err query_faults.Short) answer step is = left_of new answer _ step
+kept_query mark p new asked bytes (Err query_faults.NotQuery) answer step is = left_of new answer _ step
+kept_query mark p new asked bytes (Err query_faults.Malformed) answer step is = left_of new answer _ step
+kept_query mark p new asked bytes (Ok view) answer step is = kept_read (is_transfer view.qtype.0) mark p new asked bytes view answer step is
+
+-- no reply is refused
+taken_if : {State : Type 0} (b : Bool) (x y : State × Answer) → is_refused x.1 ≡ false → is_refused y.1 ≡ false → is_refused (if b then x else y).1 ≡ false
+taken_if true x y first second = first
+taken_if false x y first second = second
+
+taken_held : (ups : Upstreams) (place : Place) (bytes : List ℕ) (view : ReplyView) (entry : Option Entry) → is_refused (held_against ups place bytes view entry).1 ≡ false
+taken_held ups place bytes view None = refl
+taken_held ups place bytes view (Some entry) = taken_if (belongs view entry.name entry.qtype entry.qclass) _ _ refl refl
+
+taken_reply : (ups : Upstreams) (server : ServerId) (lane : Lane) (bytes : List ℕ) (reading : Result ReplyView ReplyFault) → is_refused (reply_step ups server lane bytes reading).1 ≡ false
+taken_reply ups server lane bytes (Err reply_faults.Short) = refl
+taken_reply ups server lane bytes (Err reply_faults.NotReply) = refl
+taken_reply ups server lane bytes (Ok view) = taken_held ups (at_place server lane view.id) bytes view (entry_at ups.outstanding (at_place server lane view.id))
+
+kept_step : (p new : Plain) (event : Event) (reading : Reading) (answer : Answer) → IsSeen p → StepsAt p event reading answer new → is_refused answer ≡ true → new ≡ p
+kept_step p new (Query now origin kind word bytes) (OfQuery reading) answer seen step is = kept_query (marked answer) p new (asked_at p.moment origin kind word) bytes reading answer step is
+kept_step p new (Query now origin kind word bytes) (OfReply reading) answer seen step is = absurd step
+kept_step p new (Query now origin kind word bytes) OfNone answer seen step is = absurd step
+kept_step p new (Reply now server lane bytes) (OfReply reading) answer seen step is =
+    absurd (both_ways (is_refused answer) (ap is_refused (told_of new answer (upstream_changed p (reply_step (upstreams_of p) server lane bytes reading)) step) ∙ taken_reply (upstreams_of p) server lane bytes reading) is)
+kept_step p new (Reply now server lane bytes) (OfQuery reading) answer seen step is = absurd step
+kept_step p new (Reply now server lane bytes) OfNone answer seen step is = absurd step
+kept_step p new (Edit now command) OfNone answer seen step is =
+    left_of new answer (edit_of (marked answer) p command) step
+    ∙ kept_command (marked answer) p command seen (sym (ap is_refused (told_of new answer (edit_of (marked answer) p command) step)) ∙ is)
+kept_step p new (Edit now command) (OfQuery reading) answer seen step is = absurd step
+kept_step p new (Edit now command) (OfReply reading) answer seen step is = absurd step
+
+pub refusals : SeenTwice → RefusalsChangeNothing
+refusals twice old new event reading answer step is = kept_step (at_plain (moment_of event) old) new event reading answer (seen_at twice (moment_of event) old) step is
