@@ -123,10 +123,10 @@ kept_command mark p (PoolPolicy name policy) seen is =
     kept_changed p (pool_edited (notes.PoolPolicy name policy) (changed_pool (with_policy policy)) ups (pool_named p.pools name)) (kept_pool (notes.PoolPolicy name policy) (changed_pool (with_policy policy)) ups (pool_named p.pools name) (follows_changed_pool (with_policy policy)) is)
 
 
-left_of : {State : Type 0} (new : State) (answer : Answer) (done : State × Answer) → (new, answer) ≡ done → new ≡ done.0
+pub left_of : {State : Type 0} (new : State) (answer : Answer) (done : State × Answer) → (new, answer) ≡ done → new ≡ done.0
 left_of {State} new answer done is = ap (λ (d : State × Answer). d.0) is
 
-told_of : {State : Type 0} (new : State) (answer : Answer) (done : State × Answer) → (new, answer) ≡ done → answer ≡ done.1
+pub told_of : {State : Type 0} (new : State) (answer : Answer) (done : State × Answer) → (new, answer) ≡ done → answer ≡ done.1
 told_of {State} new answer done is = ap (λ (d : State × Answer). d.1) is
 
 -- a query that is refused met want of memory

@@ -1,0 +1,300 @@
+-- The routes after an event follow from the routes before it, the event, its reading and its answer.
+use Rattle.std.proofs.Common.{◌≡◌, ℕ, zero, suc, ◌+◌, ◌^◌, ◌==◌, ◌||◌, Bool, true, false, not, List, [], ◌∷◌, ◌++◌, length, map, max, nat_le, Option, None, Some, Result, Ok, Err, refl, sym, ◌∙◌, ap, subst, arith}
+use Rattle.std.proofs.lemmas.Bool.{both_ways}
+use Rattle.std.specs.Prelude.{if◌then◌else◌, is_some, option_map, slice_get}
+use Rattle.lb_wire.specs.Belongs.{belongs}
+use Rattle.lb_wire.specs.declared.ids.PoolId.{PoolId}
+use Rattle.lb_wire.specs.declared.ids.ServerId.{ServerId}
+use Rattle.lb_wire.specs.declared.transport.Lane.{Lane}
+use Rattle.lb_wire.specs.declared.query.QueryView.{QueryView}
+use Rattle.lb_wire.specs.declared.query.QueryFault.{QueryFault}
+use Rattle.lb_wire.specs.declared.query.QueryFault.TheVariants as query_faults
+use Rattle.lb_wire.specs.declared.reply.ReplyView.{ReplyView}
+use Rattle.lb_wire.specs.declared.reply.ReplyFault.{ReplyFault}
+use Rattle.lb_wire.specs.declared.reply.ReplyFault.TheVariants as reply_faults
+use Rattle.lb_chain.specs.declared.fault.ChainFault.{ChainFault}
+use Rattle.lb_chain.specs.declared.numbered.Numbered.{Numbered}
+use Rattle.lb_chain.specs.declared.rule.Rule.{Rule}
+use Rattle.lb_chain.specs.declared.walked.Walked.{Walked}
+use Rattle.lb_chain.specs.Edits.{Rules, added, moved, removed}
+use Rattle.lb_chain.specs.Seen.{seen_rules, SeenTwice}
+use Rattle.lb_servers.specs.declared.fault.ParkFault.{ParkFault}
+use Rattle.lb_servers.specs.declared.server.Server.{Server}
+use Rattle.lb_servers.specs.Park.{Backends, added_pool, added_server, changed_pool, changed_server, max_pools, max_servers, removed_server}
+use Rattle.lb_servers.specs.Pool.{pool_named, with_policy}
+use Rattle.lb_servers.specs.Server.{change_server, is_server, server_named, with_mode}
+use Rattle.lb_table.specs.declared.entry.Entry.{Entry}
+use Rattle.lb_table.specs.declared.entry.Waiting.{Waiting}
+use Rattle.lb_table.specs.declared.place.Place.{Place}
+use Rattle.lb_table.specs.Place.{at_place}
+use Rattle.lb_table.specs.Table.{entry_at}
+use Rattle.lb_core.specs.declared.asked.Asked.{Asked}
+use Rattle.lb_core.specs.declared.event.Event.{Event}
+use Rattle.lb_core.specs.declared.event.Event.TheVariants.{Query, Reply, Edit}
+use Rattle.lb_core.specs.declared.command.Command.{Command}
+use Rattle.lb_core.specs.declared.command.Command.TheVariants.{RuleAdd, RuleRemove, RuleMove, ServerAdd, ServerRemove, ServerMode, PoolAdd, PoolPolicy}
+use Rattle.lb_core.specs.declared.answer.Answer.{Answer}
+use Rattle.lb_core.specs.declared.answer.Note.{Note}
+use Rattle.lb_core.specs.declared.answer.Note.TheVariants as notes
+use Rattle.lb_core.specs.Answer.{is_refused, marked}
+use Rattle.lb_core.specs.Plain.{Plain, at_plain, chain_of, upstreams_of, with_chain, with_upstreams}
+use Rattle.lb_core.specs.Upstream.{Upstreams, backends_of, loaded_by, server_of, with_backends}
+use Rattle.lb_core.specs.Edit.{edit_of, place_or_end, pool_edited, rule_added, rule_by, rules_edited, rules_told, server_by, server_edited, servers_told, upstream_changed, upstream_edited}
+use Rattle.lb_core.specs.Query.{QuerySteps, ReadSteps, WalkedSteps, is_transfer, walked_of}
+use Rattle.lb_core.specs.Reading.{Reading, OfNone, OfQuery, OfReply, moment_of}
+use Rattle.lb_core.specs.Reply.{held_against, reply_step}
+use Rattle.lb_core.specs.Step.{RoutesFollow, StepsAt, asked_at}
+use Rattle.lb_core.proofs.ChainEdits.{false_true}
+use Rattle.lb_core.proofs.Follows.{Follows, refuses, follows_added, follows_changed_pool, follows_changed_server, follows_moved, follows_pool, follows_removed, follows_removed_server, follows_server}
+use Rattle.lb_core.proofs.Forwards.{ended_plain}
+
+use Rattle.std.proofs.lemmas.List.{length-map, map-append}
+use Rattle.std.specs.List.{filter, list_any, position, position_or_len}
+use Rattle.lb_wire.specs.declared.addr.Origin.{Origin}
+use Rattle.lb_wire.specs.declared.transport.Kind.{Kind}
+use Rattle.lb_servers.specs.declared.fault.ParkFault.TheVariants as park_faults
+use Rattle.lb_servers.specs.declared.server.Mode.{Mode}
+use Rattle.lb_servers.specs.declared.spec.ServerSpec.{ServerSpec}
+use Rattle.lb_servers.specs.Spec.{lacks_pool, new_server, stated_pools}
+use Rattle.lb_wire.specs.declared.ids.RuleId.{RuleId}
+use Rattle.lb_chain.specs.declared.action.Action.{Action}
+use Rattle.lb_chain.specs.declared.action.Action.TheVariants as actions
+use Rattle.lb_chain.specs.declared.walked.Verdict.{Verdict}
+use Rattle.lb_chain.specs.declared.walked.Verdict.TheVariants as verdicts
+use Rattle.lb_servers.specs.declared.pool.Pool.{Pool}
+use Rattle.lb_servers.specs.declared.pool.PoolName.{PoolName}
+use Rattle.lb_servers.specs.declared.pool.Policy.{Policy}
+use Rattle.lb_servers.specs.Pool.{change_at, is_named, new_pool, same_name, turned}
+use Rattle.lb_core.specs.declared.command.StatedAction.{StatedAction}
+use Rattle.lb_core.specs.declared.command.StatedAction.TheVariants as stated
+use Rattle.lb_core.specs.declared.command.StatedRule.{StatedRule}
+use Rattle.lb_core.specs.Edit.{action_by}
+use Rattle.lb_core.specs.Forward.{PickForwards, sent}
+use Rattle.lb_core.specs.Query.{EndDecides, RuleDecides, default_pool, with_passes}
+use Rattle.lb_core.specs.Routes.{RoutePool, Routes, carried_out, left_by, passed_unless, route_named, route_of, routes_of, with_added, with_rules}
+use Rattle.lb_core.specs.Upstream.{picked_of, takes_turns, turned_if, with_turn}
+use Rattle.lb_core.proofs.Refusals.{IsSeen, left_of, own_chain, seen_at, told_of}
+
+-- a pool that is changed, but not in its name
+still_named : (change : Pool → Pool) (at : ℕ) (pools : List Pool) → ((p : Pool) → route_of (change p) ≡ route_of p) → map route_of (change_at change at pools) ≡ map route_of pools
+still_named change at [] keeps = refl
+still_named change zero (p ∷ pools) keeps = ap (λ (r : RoutePool). r ∷ map route_of pools) (keeps p)
+still_named change (suc at) (p ∷ pools) keeps = ap (λ (rs : List RoutePool). route_of p ∷ rs) (still_named change at pools keeps)
+
+turn_keeps : (b : Bool) (p : Pool) → route_of (if b then turned p else p) ≡ route_of p
+turn_keeps true p = refl
+turn_keeps false p = refl
+
+-- forwarding changes no pool's name
+sent_names : (ups : Upstreams) (asked : Asked) (bytes : List ℕ) (view : QueryView) (no_recurse : Bool) (server : ServerId) (id : Option ℕ) → (sent ups asked bytes view no_recurse server id).0.pools ≡ ups.pools
+sent_names ups asked bytes view no_recurse server None = refl
+sent_names ups asked bytes view no_recurse server (Some id) = refl
+
+pick_names : (ups after : Upstreams) (asked : Asked) (bytes : List ℕ) (view : QueryView) (no_recurse : Bool) (pool : PoolId) (server : Option ServerId) (answer : Answer) →
+    PickForwards ups asked bytes view no_recurse pool server answer after → map route_of after.pools ≡ map route_of ups.pools
+pick_names ups after asked bytes view no_recurse pool None answer is = ap (λ (u : Upstreams). map route_of u.pools) (left_of after answer _ is)
+pick_names ups after asked bytes view no_recurse pool (Some server) answer is =
+    ap (λ (u : Upstreams). map route_of u.pools) (left_of after answer (sent (with_turn pool ups) asked bytes view no_recurse server is.0) is.2)
+    ∙ ap (λ (pools : List Pool). map route_of pools) (sent_names (with_turn pool ups) asked bytes view no_recurse server is.0)
+    ∙ still_named turned_if pool.0 ups.pools (λ p. turn_keeps (takes_turns (Some p.policy)) p)
+
+rule_names : (ups after : Upstreams) (asked : Asked) (bytes : List ℕ) (view : QueryView) (no_recurse : Bool) (rule : RuleId) (verdict : Verdict) (answer : Answer) →
+    RuleDecides ups asked bytes view no_recurse rule verdict answer after → map route_of after.pools ≡ map route_of ups.pools
+rule_names ups after asked bytes view no_recurse rule verdicts.Allow answer is = pick_names ups after asked bytes view no_recurse default_pool (picked_of ups default_pool) answer is
+rule_names ups after asked bytes view no_recurse rule (verdicts.Pool pool) answer is = pick_names ups after asked bytes view no_recurse pool (picked_of ups pool) answer is
+rule_names ups after asked bytes view no_recurse rule verdicts.Drop answer is = ap (λ (u : Upstreams). map route_of u.pools) (left_of after answer _ is)
+rule_names ups after asked bytes view no_recurse rule (verdicts.Rcode rcode) answer is = ap (λ (u : Upstreams). map route_of u.pools) (left_of after answer _ is)
+rule_names ups after asked bytes view no_recurse rule verdicts.Tc answer is = ap (λ (u : Upstreams). map route_of u.pools) (left_of after answer _ is)
+rule_names ups after asked bytes view no_recurse rule (verdicts.Spoof addrs) answer is = ap (λ (u : Upstreams). map route_of u.pools) (left_of after answer _ is)
+
+end_names : (ups after : Upstreams) (asked : Asked) (bytes : List ℕ) (view : QueryView) (walked : Walked) (rule : Option RuleId) (answer : Answer) →
+    EndDecides ups asked bytes view walked rule answer after → map route_of after.pools ≡ map route_of ups.pools
+end_names ups after asked bytes view walked None answer is = pick_names ups after asked bytes view walked.no_recurse default_pool (picked_of ups default_pool) answer is
+end_names ups after asked bytes view walked (Some rule) answer is = rule_names ups after asked bytes view walked.no_recurse rule walked.verdict answer is
+
+-- a query, by its reading
+abbrev Follow : Plain → Event → Reading → Answer → Plain → Type 0
+Follow p event reading answer new = routes_of new ≡ left_by (routes_of p) event reading answer
+
+walk_follows : (mark : Bool) (p new : Plain) (asked : Asked) (bytes : List ℕ) (view : QueryView) (answer : Answer) →
+    WalkedSteps mark p asked bytes view (walked_of p asked view) answer new → routes_of new ≡ passed_unless mark (routes_of p) asked view
+walk_follows true p new asked bytes view answer step = ap routes_of (left_of new answer _ step)
+walk_follows false p new asked bytes view answer step =
+    let walked = walked_of p asked view in
+    ap routes_of step.2
+    ∙ ap (λ (pools : List RoutePool). record (routes_of (with_passes asked walked p)) { pools = pools }) (end_names (upstreams_of p) step.0 asked bytes view walked walked.rule answer step.1)
+
+read_follows : (transfer mark : Bool) (p new : Plain) (asked : Asked) (bytes : List ℕ) (view : QueryView) (answer : Answer) →
+    ReadSteps transfer mark p asked bytes view answer new → routes_of new ≡ passed_unless (transfer || mark) (routes_of p) asked view
+read_follows true mark p new asked bytes view answer step = ap routes_of (left_of new answer _ step)
+read_follows false mark p new asked bytes view answer step = walk_follows mark p new asked bytes view answer step
+
+query_follows : (p new : Plain) (now : ℕ) (origin : Origin) (kind : Kind) (word : ℕ) (bytes : List ℕ) (reading : Result QueryView QueryFault) (answer : Answer) →
+    QuerySteps (marked answer) p (asked_at p.moment origin kind word) bytes reading answer new → Follow p (Query now origin kind word bytes) (OfQuery reading) answer new
+query_follows p new now origin kind word bytes (Err query_faults.Short) answer step = ap routes_of (left_of new answer _ step)
+query_follows p new now origin kind word bytes (Err query_faults.NotQuery) answer step = ap routes_of (left_of new answer _ step)
+query_follows p new now origin kind word bytes (Err query_faults.Malformed) answer step = ap routes_of (left_of new answer _ step)
+query_follows p new now origin kind word bytes (Ok view) answer step = read_follows (is_transfer view.qtype.0) (marked answer) p new (asked_at p.moment origin kind word) bytes view answer step
+
+-- a reply changes no pool
+pools_if : (b : Bool) (x y : Upstreams × Answer) (pools : List Pool) → x.0.pools ≡ pools → y.0.pools ≡ pools → (if b then x else y).0.pools ≡ pools
+pools_if true x y pools first second = first
+pools_if false x y pools first second = second
+
+held_pools : (ups : Upstreams) (place : Place) (bytes : List ℕ) (view : ReplyView) (entry : Option Entry) → (held_against ups place bytes view entry).0.pools ≡ ups.pools
+held_pools ups place bytes view None = refl
+held_pools ups place bytes view (Some entry) = pools_if (belongs view entry.name entry.qtype entry.qclass) _ _ ups.pools refl refl
+
+reply_pools : (ups : Upstreams) (server : ServerId) (lane : Lane) (bytes : List ℕ) (reading : Result ReplyView ReplyFault) → (reply_step ups server lane bytes reading).0.pools ≡ ups.pools
+reply_pools ups server lane bytes (Err reply_faults.Short) = refl
+reply_pools ups server lane bytes (Err reply_faults.NotReply) = refl
+reply_pools ups server lane bytes (Ok view) = held_pools ups (at_place server lane view.id) bytes view (entry_at ups.outstanding (at_place server lane view.id))
+
+-- the routes with what stands upstream changed
+upstream_routes : (p : Plain) (done : Upstreams × Answer) → map route_of done.0.pools ≡ map route_of p.pools → routes_of (upstream_changed p done).0 ≡ routes_of p
+upstream_routes p done is = ap (λ (pools : List RoutePool). record (routes_of p) { pools = pools }) is
+
+-- a pool is found by its name as it is among the routes
+where_named : (name : PoolName) (pools : List Pool) → position_or_len (λ pool. same_name pool.name name) (map route_of pools) ≡ position_or_len (is_named name) pools
+where_named name [] = refl
+where_named name (p ∷ pools) = rw (where_named name pools) refl
+
+named_alike : (name : PoolName) (pools : List Pool) → route_named (map route_of pools) name ≡ pool_named pools name
+named_alike name pools = rw (where_named name pools, length-map pools route_of) refl
+
+action_alike : (pools : List Pool) (action : StatedAction) → action_by (route_named (map route_of pools)) action ≡ action_by (pool_named pools) action
+action_alike pools stated.Allow = refl
+action_alike pools stated.Drop = refl
+action_alike pools (stated.Rcode rcode) = refl
+action_alike pools (stated.Pool name) = ap (λ (id : Option PoolId). option_map actions.Pool id) (named_alike name pools)
+action_alike pools stated.Tc = refl
+action_alike pools (stated.Spoof addrs) = refl
+action_alike pools stated.None = refl
+action_alike pools stated.NoRecurse = refl
+action_alike pools stated.SkipCache = refl
+
+rule_alike : (pools : List Pool) (rule : StatedRule) → rule_by (route_named (map route_of pools)) rule ≡ rule_by (pool_named pools) rule
+rule_alike pools rule = ap (λ (a : Option Action). option_map (λ action. record { term = rule.term; action = action }) a) (action_alike pools rule.action)
+
+-- an edit of the chain
+rules_follow : {A : Type 0} (note : A → Note) (p : Plain) (now : ℕ) (command : Command) (x y : Rules × Result A ChainFault) → IsSeen p → Follows (chain_of p) x y →
+    carried_out (routes_of p) command ≡ with_rules y.0 (routes_of p) → routes_of (with_chain x.0 p) ≡ left_by (routes_of p) (Edit now command) OfNone (rules_told note x.1)
+rules_follow note p now command (c, Ok v) y seen follows is = ap (λ (d : Rules × Result _ ChainFault). with_rules d.0 (routes_of p)) (follows.carried refl) ∙ sym is
+rules_follow note p now command (c, Err fault) y seen follows is = ap (λ (d : Rules). routes_of (with_chain d p)) (follows.kept refl) ∙ ap routes_of (own_chain p seen)
+
+added_follows : (mark : Bool) (p : Plain) (now : ℕ) (place : Option ℕ) (rule : StatedRule) (found : Option Rule) → IsSeen p →
+    carried_out (routes_of p) (RuleAdd place rule) ≡ with_added (routes_of p) place found →
+    routes_of (rule_added mark p place found).0 ≡ left_by (routes_of p) (Edit now (RuleAdd place rule)) OfNone (rule_added mark p place found).1
+added_follows mark p now place rule None seen is = refl
+added_follows mark p now place rule (Some one) seen is =
+    rules_follow notes.RuleAdded p now (RuleAdd place rule) _ _ seen (follows_added mark (chain_of p) (place_or_end place p.rules) one) is
+
+-- an edit of the servers and pools that gives this leaves the routes that its answer says
+FollowsBy : {A : Type 0} → (A → Note) → Plain → ℕ → Command → Backends × Result A ParkFault → Type 0
+FollowsBy note p now command x = routes_of (upstream_changed p (upstream_edited note (upstreams_of p) x)).0 ≡ left_by (routes_of p) (Edit now command) OfNone (servers_told note x.1)
+
+by_if : {A : Type 0} (note : A → Note) (p : Plain) (now : ℕ) (command : Command) (b : Bool) (x y : Backends × Result A ParkFault) →
+    FollowsBy note p now command x → FollowsBy note p now command y → FollowsBy note p now command (if b then x else y)
+by_if note p now command true x y first second = first
+by_if note p now command false x y first second = second
+
+by_fault : {A : Type 0} (note : A → Note) (p : Plain) (now : ℕ) (command : Command) (fault : ParkFault) → FollowsBy note p now command (backends_of (upstreams_of p), Err fault)
+unfolding FollowsBy
+by_fault note p now command fault = refl
+
+by_done : {A : Type 0} (note : A → Note) (p : Plain) (now : ℕ) (command : Command) (park : Backends) (v : A) →
+    record (routes_of p) { pools = map route_of park.pools } ≡ carried_out (routes_of p) command → FollowsBy note p now command (park, Ok v)
+unfolding FollowsBy
+by_done note p now command park v is = is
+
+server_added : (mark : Bool) (p : Plain) (now : ℕ) (spec : ServerSpec) → FollowsBy notes.ServerAdded p now (ServerAdd spec) (added_server mark (backends_of (upstreams_of p)) spec)
+server_added mark p now spec =
+    let park = backends_of (upstreams_of p) in
+    let command = ServerAdd spec in
+    let refuse : (fault : ParkFault) → FollowsBy notes.ServerAdded p now command (park, Err fault) = by_fault notes.ServerAdded p now command in
+    by_if notes.ServerAdded p now command (lacks_pool park.pools (stated_pools spec.pools)) (park, Err park_faults.NoSuchPool) _ (refuse park_faults.NoSuchPool)
+    (by_if notes.ServerAdded p now command (is_some (server_named park.servers spec.name)) (park, Err park_faults.NameTaken) _ (refuse park_faults.NameTaken)
+    (by_if notes.ServerAdded p now command (nat_le max_servers (length park.servers)) (park, Err park_faults.TooMany) _ (refuse park_faults.TooMany)
+    (by_if notes.ServerAdded p now command (park.next == 2 ^ 64) (park, Err park_faults.NoMoreIds) _ (refuse park_faults.NoMoreIds)
+    (by_if notes.ServerAdded p now command mark (park, Err park_faults.NoMemory) (record park { next = park.next + 1; servers = park.servers ++ new_server park.next park.pools spec ∷ [] }, Ok (record { 0 = park.next })) (refuse park_faults.NoMemory)
+    (by_done notes.ServerAdded p now command (record park { next = park.next + 1; servers = park.servers ++ new_server park.next park.pools spec ∷ [] }) (record { 0 = park.next }) refl)))))
+
+pool_added : (mark : Bool) (p : Plain) (now : ℕ) (name : PoolName) → FollowsBy (λ _. notes.PoolAdded name) p now (PoolAdd name) (added_pool mark (backends_of (upstreams_of p)) name)
+pool_added mark p now name =
+    let park = backends_of (upstreams_of p) in
+    let command = PoolAdd name in
+    let note : PoolId → Note = λ _. notes.PoolAdded name in
+    let refuse : (fault : ParkFault) → FollowsBy note p now command (park, Err fault) = by_fault note p now command in
+    by_if note p now command (list_any (is_named name) park.pools) (park, Err park_faults.NameTaken) _ (refuse park_faults.NameTaken)
+    (by_if note p now command (nat_le max_pools (length park.pools)) (park, Err park_faults.TooMany) _ (refuse park_faults.TooMany)
+    (by_if note p now command mark (park, Err park_faults.NoMemory) (record park { pools = park.pools ++ new_pool name ∷ [] }, Ok (record { 0 = length park.pools })) (refuse park_faults.NoMemory)
+    (by_done note p now command (record park { pools = park.pools ++ new_pool name ∷ [] }) (record { 0 = length park.pools })
+    (ap (λ (pools : List RoutePool). record (routes_of p) { pools = pools }) (map-append route_of p.pools (new_pool name ∷ []))))))
+
+server_removed : (p : Plain) (now : ℕ) (name : List ℕ) (id : Option ServerId) →
+    routes_of (upstream_changed p (server_edited notes.ServerRemoved removed_server (upstreams_of p) id)).0 ≡ left_by (routes_of p) (Edit now (ServerRemove name)) OfNone (server_edited notes.ServerRemoved removed_server (upstreams_of p) id).1
+unfolding FollowsBy
+server_removed p now name None = refl
+server_removed p now name (Some id) =
+    let park = backends_of (upstreams_of p) in
+    let note : Unit {0} → Note = λ _. notes.ServerRemoved id in
+    let less = record park { servers = filter (λ l. not (is_server id l)) park.servers } in
+    by_if note p now (ServerRemove name) (list_any (is_server id) park.servers) (less, Ok tt) (park, Err park_faults.NoSuchServer)
+    (by_done note p now (ServerRemove name) less tt refl) (by_fault note p now (ServerRemove name) park_faults.NoSuchServer)
+
+server_put : (p : Plain) (now : ℕ) (name : List ℕ) (mode : Mode) (id : Option ServerId) →
+    routes_of (upstream_changed p (server_edited (λ id. notes.ServerMode id mode) (changed_server (with_mode mode)) (upstreams_of p) id)).0
+    ≡ left_by (routes_of p) (Edit now (ServerMode name mode)) OfNone (server_edited (λ id. notes.ServerMode id mode) (changed_server (with_mode mode)) (upstreams_of p) id).1
+unfolding FollowsBy
+server_put p now name mode None = refl
+server_put p now name mode (Some id) =
+    let park = backends_of (upstreams_of p) in
+    let note : Unit {0} → Note = λ _. notes.ServerMode id mode in
+    let put = record park { servers = change_server id (with_mode mode) park.servers } in
+    by_if note p now (ServerMode name mode) (list_any (is_server id) park.servers) (put, Ok tt) (park, Err park_faults.NoSuchServer)
+    (by_done note p now (ServerMode name mode) put tt refl) (by_fault note p now (ServerMode name mode) park_faults.NoSuchServer)
+
+policy_put : (p : Plain) (now : ℕ) (name : PoolName) (policy : Policy) (pool : Option PoolId) →
+    routes_of (upstream_changed p (pool_edited (notes.PoolPolicy name policy) (changed_pool (with_policy policy)) (upstreams_of p) pool)).0
+    ≡ left_by (routes_of p) (Edit now (PoolPolicy name policy)) OfNone (pool_edited (notes.PoolPolicy name policy) (changed_pool (with_policy policy)) (upstreams_of p) pool).1
+unfolding FollowsBy
+policy_put p now name policy None = refl
+policy_put p now name policy (Some pool) =
+    let park = backends_of (upstreams_of p) in
+    let note : Unit {0} → Note = λ _. notes.PoolPolicy name policy in
+    let put = record park { pools = change_at (with_policy policy) pool.0 park.pools } in
+    by_if note p now (PoolPolicy name policy) (is_some (slice_get park.pools pool.0)) (put, Ok tt) (park, Err park_faults.NoSuchPool)
+    (by_done note p now (PoolPolicy name policy) put tt (ap (λ (pools : List RoutePool). record (routes_of p) { pools = pools }) (still_named (with_policy policy) pool.0 park.pools (λ p. refl))))
+    (by_fault note p now (PoolPolicy name policy) park_faults.NoSuchPool)
+
+-- a command
+edit_follows : (mark : Bool) (p : Plain) (now : ℕ) (command : Command) → IsSeen p → routes_of (edit_of mark p command).0 ≡ left_by (routes_of p) (Edit now command) OfNone (edit_of mark p command).1
+unfolding FollowsBy
+edit_follows mark p now (RuleAdd place rule) seen =
+    added_follows mark p now place rule (rule_by (pool_named p.pools) rule) seen (ap (λ (found : Option Rule). with_added (routes_of p) place found) (rule_alike p.pools rule))
+edit_follows mark p now (RuleRemove id) seen = rules_follow (λ _. notes.RuleRemoved id) p now (RuleRemove id) (removed (chain_of p) id) (removed (chain_of p) id) seen (follows_removed (chain_of p) id) refl
+edit_follows mark p now (RuleMove id place) seen = rules_follow (λ _. notes.RuleMoved id) p now (RuleMove id place) (moved mark (chain_of p) id place) (moved false (chain_of p) id place) seen (follows_moved mark (chain_of p) id place) refl
+edit_follows mark p now (ServerAdd spec) seen = server_added mark p now spec
+edit_follows mark p now (ServerRemove name) seen = server_removed p now name (server_by (upstreams_of p) name)
+edit_follows mark p now (ServerMode name mode) seen = server_put p now name mode (server_by (upstreams_of p) name)
+edit_follows mark p now (PoolAdd name) seen = pool_added mark p now name
+edit_follows mark p now (PoolPolicy name policy) seen = policy_put p now name policy (pool_named p.pools name)
+
+step_follows : (p new : Plain) (event : Event) (reading : Reading) (answer : Answer) → IsSeen p → StepsAt p event reading answer new → Follow p event reading answer new
+step_follows p new (Query now origin kind word bytes) (OfQuery reading) answer seen step = query_follows p new now origin kind word bytes reading answer step
+step_follows p new (Query now origin kind word bytes) (OfReply reading) answer seen step = absurd step
+step_follows p new (Query now origin kind word bytes) OfNone answer seen step = absurd step
+step_follows p new (Reply now server lane bytes) (OfReply reading) answer seen step =
+    ap routes_of (left_of new answer (upstream_changed p (reply_step (upstreams_of p) server lane bytes reading)) step)
+    ∙ upstream_routes p (reply_step (upstreams_of p) server lane bytes reading) (ap (λ (pools : List Pool). map route_of pools) (reply_pools (upstreams_of p) server lane bytes reading))
+step_follows p new (Reply now server lane bytes) (OfQuery reading) answer seen step = absurd step
+step_follows p new (Reply now server lane bytes) OfNone answer seen step = absurd step
+step_follows p new (Edit now command) OfNone answer seen step =
+    ap routes_of (left_of new answer (edit_of (marked answer) p command) step)
+    ∙ edit_follows (marked answer) p now command seen
+    ∙ ap (λ (a : Answer). left_by (routes_of p) (Edit now command) OfNone a) (sym (told_of new answer (edit_of (marked answer) p command) step))
+step_follows p new (Edit now command) (OfQuery reading) answer seen step = absurd step
+step_follows p new (Edit now command) (OfReply reading) answer seen step = absurd step
+
+pub routes_follow : SeenTwice → RoutesFollow
+routes_follow twice old new event reading answer step = step_follows (at_plain (moment_of event) old) new event reading answer (seen_at twice (moment_of event) old) step
