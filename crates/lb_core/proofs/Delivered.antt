@@ -28,8 +28,8 @@ delivered ups after server lane bytes own view waiting entry fits answer found i
     let fitting : belongs view entry.name entry.qtype entry.qclass ≡ true = sym (ap (λ (e : Entry). belongs view e.name e.qtype e.qclass) same) ∙ sym is_fit ∙ fit in
     let sent : Answer = Deliver entry.origin (delivered_octets view entry bytes) kept.No in
     let pair : (after, answer) ≡ (without place ups, sent) =
-        ap (λ (u : Upstreams). (u, answer)) left
-        ∙ ap (λ (a : Answer). (without place ups, a)) (told ∙ ap (λ (b : List ℕ). Deliver entry.origin (delivered_octets view entry b) kept.No) is_own) in
+    ap (λ (u : Upstreams). (u, answer)) left
+    ∙ ap (λ (a : Answer). (without place ups, a)) (told ∙ ap (λ (b : List ℕ). Deliver entry.origin (delivered_octets view entry b) kept.No) is_own) in
     let chosen : (without place ups, sent) ≡ held_against ups place bytes view (Some entry) =
-        ap (λ (b : Bool). if b then (without place ups, sent) else (ups, Ignored ignores.Mismatch)) (sym fitting) in
+    ap (λ (b : Bool). if b then (without place ups, sent) else (ups, Ignored ignores.Mismatch)) (sym fitting) in
     pair ∙ chosen ∙ ap (held_against ups place bytes view) taken

@@ -47,7 +47,6 @@ use Rattle.lb_core.specs.Step.{RoutesFollow, StepsAt, asked_at}
 use Rattle.lb_core.proofs.ChainEdits.{false_true}
 use Rattle.lb_core.proofs.Follows.{Follows, refuses, follows_added, follows_changed_pool, follows_changed_server, follows_moved, follows_pool, follows_removed, follows_removed_server, follows_server}
 use Rattle.lb_core.proofs.Forwards.{ended_plain}
-
 use Rattle.std.proofs.lemmas.List.{length-map, map-append}
 use Rattle.std.specs.List.{filter, list_any, position, position_or_len}
 use Rattle.lb_wire.specs.declared.addr.Origin.{Origin}

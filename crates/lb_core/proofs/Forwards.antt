@@ -27,9 +27,9 @@ sent_on ups new asked bytes view no_recurse pool server lane id entry octets pic
     let place = at_place server (lane_of asked.kind) id in
     let left : new ≡ with_entry place (entry_of ups asked bytes view) (with_turn pool ups) = s.1 ∙ ap (λ (e : Entry). with_entry place e (with_turn pool ups)) is_entry in
     let told : Forward server lane id octets ≡ Forward server (lane_of asked.kind) id (with_id id (sent_of no_recurse bytes)) =
-        ap (λ (l : Lane). Forward server l id octets) is_lane ∙ ap (λ (o : List ℕ). Forward server (lane_of asked.kind) id o) is_octets in
+    ap (λ (l : Lane). Forward server l id octets) is_lane ∙ ap (λ (o : List ℕ). Forward server (lane_of asked.kind) id o) is_octets in
     let done : (new, Forward server lane id octets) ≡ sent (with_turn pool ups) asked bytes view no_recurse server (Some id) =
-        ap (λ (u : Upstreams). (u, Forward server lane id octets)) left ∙ ap (λ (a : Answer). (with_entry place (entry_of ups asked bytes view) (with_turn pool ups), a)) told in
+    ap (λ (u : Upstreams). (u, Forward server lane id octets)) left ∙ ap (λ (a : Answer). (with_entry place (entry_of ups asked bytes view) (with_turn pool ups), a)) told in
     subst (λ (p : Option ServerId). PickForwards ups asked bytes view no_recurse pool p (Forward server lane id octets) new) picked (Some id, s.0, done)
 
 -- an answer that is told with a state

@@ -122,7 +122,6 @@ kept_command mark p (PoolPolicy name policy) seen is =
     let ups = upstreams_of p in
     kept_changed p (pool_edited (notes.PoolPolicy name policy) (changed_pool (with_policy policy)) ups (pool_named p.pools name)) (kept_pool (notes.PoolPolicy name policy) (changed_pool (with_policy policy)) ups (pool_named p.pools name) (follows_changed_pool (with_policy policy)) is)
 
-
 pub left_of : {State : Type 0} (new : State) (answer : Answer) (done : State × Answer) → (new, answer) ≡ done → new ≡ done.0
 left_of {State} new answer done is = ap (λ (d : State × Answer). d.0) is
 

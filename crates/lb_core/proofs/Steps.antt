@@ -52,8 +52,8 @@ counted_step old new ups after asked bytes view walked own answer decides is nex
     let m = asked.moment in
     let unmarked : marked answer ≡ false = (ended_plain ups after asked bytes view own own.rule answer decides).0 in
     let state : plain_of m new after ≡ with_upstreams after (with_passes asked own (plain_of m old ups)) =
-        ap (λ (n : ℕ). record (plain_of m new after) { next_rule = n }) next
-        ∙ ap (λ (rs : List Numbered). record (plain_of m old after) { rules = rs }) rules in
+    ap (λ (n : ℕ). record (plain_of m new after) { next_rule = n }) next
+    ∙ ap (λ (rs : List Numbered). record (plain_of m old after) { rules = rs }) rules in
     subst (λ (b : Bool). WalkedSteps b (plain_of m old ups) asked bytes view walked answer (plain_of m new after)) (sym unmarked)
     (subst (λ (w : Walked). WalkedSteps false (plain_of m old ups) asked bytes view w answer (plain_of m new after)) is (after, decides, state))
 
@@ -69,7 +69,8 @@ query_answers twice m now t old new ups after origin kind word bytes answer is s
       reading = OfQuery step.0;
       reads = step.1;
       step = subst (λ (p : Plain). StepsAt p (Query now origin kind word bytes) (OfQuery step.0) answer (plain_of t new after)) then_old step.2;
-      mark = λ marks. subst (λ (p : Plain). MayMarkAt p (Query now origin kind word bytes)) then_old (mark marks) }
+      mark = λ marks. subst (λ (p : Plain). MayMarkAt p (Query now origin kind word bytes)) then_old (mark marks);
+    }
 
 unmarked_if : {State : Type 0} (b : Bool) (x y : State × Answer) → marked x.1 ≡ false → marked y.1 ≡ false → marked (if b then x else y).1 ≡ false
 unmarked_if true x y first second = first
@@ -97,8 +98,9 @@ reply_answers twice m now t chain ups after server lane bytes answer is step =
       reading = OfReply step.0;
       reads = step.1;
       step = subst (λ (p : Plain). StepsAt p (Reply now server lane bytes) (OfReply step.0) answer (plain_of t chain after)) then_old
-        (ap (upstream_changed (plain_of t chain ups)) step.2);
-      mark = λ marks. absurd (false_true (sym (ap marked told ∙ unmarked_reply ups server lane bytes step.0) ∙ marks)) }
+          (ap (upstream_changed (plain_of t chain ups)) step.2);
+      mark = λ marks. absurd (false_true (sym (ap marked told ∙ unmarked_reply ups server lane bytes step.0) ∙ marks));
+    }
 
 -- an event of a command
 pub edit_answers : SeenTwice → (m now t : ℕ) (old new : Rules) (ups after : Upstreams) (command : Command) (answer : Answer) →
@@ -112,4 +114,5 @@ edit_answers twice m now t old new ups after command answer is step mark =
       reading = OfNone;
       reads = tt;
       step = subst (λ (p : Plain). StepsAt p (Edit now command) OfNone answer (plain_of t new after)) then_old step;
-      mark = λ marks. subst (λ (p : Plain). MayMarkAt p (Edit now command)) then_old (mark marks) }
+      mark = λ marks. subst (λ (p : Plain). MayMarkAt p (Edit now command)) then_old (mark marks);
+    }

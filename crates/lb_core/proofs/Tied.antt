@@ -99,7 +99,8 @@ tied_in park t place entry tied given asked =
       loads = all_one_more t _ (record { place = place; entry = entry }) place.server park.servers refl tied.loads;
       given = given_still park.next with_one_more place.server park.servers (λ l. refl) tied.given;
       sent = each_insert (λ w. w.place.server.0 < park.next) t _ _ tied.sent given;
-      asked = each_insert (λ w. IsAsked w.entry) t _ _ tied.asked asked }
+      asked = each_insert (λ w. IsAsked w.entry) t _ _ tied.asked asked;
+    }
 
 -- no count reaches the end of a number
 pub room_to_count : (park : Backends) (t : List Waiting) (server : ServerId) → IsTied park t → length t + 1 < 2 ^ 64 → All (λ l. IsTrue (is_server server l) → l.outstanding + 1 < 2 ^ 64) park.servers
@@ -140,7 +141,8 @@ found_at {X} {Y} p f xs y is =
             within = lt;
             here = h.3;
             passes = subst (λ (z : X). p z ≡ true) h.3 (passes_at_first p xs x lt);
-            gives = some_same (f x) y (sym (ap (option_map f) found) ∙ is) }
+            gives = some_same (f x) y (sym (ap (option_map f) found) ∙ is);
+          }
       | inr h ↦ absurd (none_some y (sym (ap (option_map f) (find_at p xs ∙ h.1)) ∙ is))
     ]
 
@@ -193,7 +195,8 @@ tied_out park t place entry tied is =
       loads = all_one_less t f.at f.x place.server park.servers f.within f.here server tied.loads;
       given = given_still park.next with_one_less place.server park.servers (λ l. refl) tied.given;
       sent = each_remove (λ w. w.place.server.0 < park.next) t f.at tied.sent;
-      asked = each_remove (λ w. IsAsked w.entry) t f.at tied.asked } in
+      asked = each_remove (λ w. IsAsked w.entry) t f.at tied.asked;
+    } in
     subst (λ (at : Option ℕ). IsTied (with_server with_one_less place.server park) (taken_at t at)) (sym f.where_is) out
 
 -- a query that is taken out reads
@@ -204,9 +207,6 @@ asked_out park t place entry tied is =
     subst IsAsked f.gives one
 
 -- edits of the table of servers
-
-
-
 
 ties_if : {A : Type 0} (t : List Waiting) (b : Bool) (x y : Backends × A) → IsTied x.0 t → IsTied y.0 t → IsTied (if b then x else y).0 t
 ties_if t true x y first second = first
@@ -238,10 +238,11 @@ none_waits next (w ∷ t) all =
 with_new : (t : List Waiting) (park : Backends) (spec : ServerSpec) → IsTied park t →
     IsTied (record park { next = park.next + 1; servers = park.servers ++ new_server park.next park.pools spec ∷ [] }) t
 with_new t park spec tied = record {
-    loads = each_append (Counts t) park.servers (new_server park.next park.pools spec ∷ []) tied.loads (sym (none_waits park.next t tied.sent), tt);
-    given = each_append (λ l. l.server.id.0 < park.next + 1) park.servers (new_server park.next park.pools spec ∷ []) (each_weaker (λ l. l.server.id.0 < park.next) _ park.servers (λ l lt. omega (arith, lt)) tied.given) (omega (arith), tt);
-    sent = each_weaker (λ w. w.place.server.0 < park.next) _ t (λ w lt. omega (arith, lt)) tied.sent;
-    asked = tied.asked }
+  loads = each_append (Counts t) park.servers (new_server park.next park.pools spec ∷ []) tied.loads (sym (none_waits park.next t tied.sent), tt);
+  given = each_append (λ l. l.server.id.0 < park.next + 1) park.servers (new_server park.next park.pools spec ∷ []) (each_weaker (λ l. l.server.id.0 < park.next) _ park.servers (λ l lt. omega (arith, lt)) tied.given) (omega (arith), tt);
+  sent = each_weaker (λ w. w.place.server.0 < park.next) _ t (λ w lt. omega (arith, lt)) tied.sent;
+  asked = tied.asked;
+}
 
 pub tied_server : (t : List Waiting) (lacking : Bool) (park : Backends) (spec : ServerSpec) → IsTied park t → IsTied (added_server lacking park spec).0 t
 tied_server t lacking park spec tied =
@@ -257,7 +258,8 @@ tied_removed t park id tied =
       loads = each_filter (Counts t) _ park.servers tied.loads;
       given = each_filter (λ l. l.server.id.0 < park.next) _ park.servers tied.given;
       sent = tied.sent;
-      asked = tied.asked } in
+      asked = tied.asked;
+    } in
     ties_if t (list_any (is_server id) park.servers) (record park { servers = filter (λ l. not (is_server id l)) park.servers }, Ok tt) (park, Err faults.NoSuchServer) without tied
 
 -- a server in another mode keeps its count
@@ -275,7 +277,8 @@ tied_mode t mode park id tied =
       loads = all_count_still t mode id park.servers tied.loads;
       given = given_still park.next (with_mode mode) id park.servers (λ l. refl) tied.given;
       sent = tied.sent;
-      asked = tied.asked } in
+      asked = tied.asked;
+    } in
     ties_if t (list_any (is_server id) park.servers) (record park { servers = change_server id (with_mode mode) park.servers }, Ok tt) (park, Err faults.NoSuchServer) put tied
 
 -- what a table of servers and a list of queries are together

@@ -47,14 +47,16 @@ entry_of ups asked bytes view = record {
   qclass = view.qclass;
   began = asked.moment;
   timeout = ups.timeout;
-  cache = None }
+  cache = None;
+}
 
 -- a query sent to a server under the ID that is free, or refused where none is
 abbrev pub sent : Upstreams → Asked → List ℕ → QueryView → Bool → ServerId → Option ℕ → Upstreams × Answer
 sent ups asked bytes view no_recurse server None = (ups, Local (failure_of view) locals.LaneFull)
-sent ups asked bytes view no_recurse server (Some id) =
-    (with_entry (at_place server (lane_of asked.kind) id) (entry_of ups asked bytes view) ups,
-     Forward server (lane_of asked.kind) id (with_id id (sent_of no_recurse bytes)))
+sent ups asked bytes view no_recurse server (Some id) = (
+  with_entry (at_place server (lane_of asked.kind) id) (entry_of ups asked bytes view) ups,
+  Forward server (lane_of asked.kind) id (with_id id (sent_of no_recurse bytes)),
+)
 
 -- a query for which a pool picked this server, or none: the pool's turn is counted whether an ID is free or not
 abbrev pub PickForwards : Upstreams → Asked → List ℕ → QueryView → Bool → PoolId → Option ServerId → Answer → Upstreams → Type 0

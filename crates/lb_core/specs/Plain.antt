@@ -34,7 +34,8 @@ plain_of moment chain ups = record {
   rules = seen_rules moment chain.rules;
   servers = ups.servers;
   pools = ups.pools;
-  outstanding = ups.outstanding }
+  outstanding = ups.outstanding;
+}
 
 -- at first: moment 0, no rule, no server, the default pool, and nothing outstanding; the first rule, server and cache will
 -- have number 1
@@ -48,7 +49,8 @@ empty = record {
   rules = [];
   servers = [];
   pools = no_upstreams.pools;
-  outstanding = [] }
+  outstanding = [];
+}
 
 -- the chain of a plain state, and another one in its place
 abbrev pub chain_of : Plain → Rules
@@ -64,7 +66,8 @@ upstreams_of plain = record {
   next_server = plain.next_server;
   servers = plain.servers;
   pools = plain.pools;
-  outstanding = plain.outstanding }
+  outstanding = plain.outstanding;
+}
 
 abbrev pub with_upstreams : Upstreams → Plain → Plain
 with_upstreams ups plain = record plain {
@@ -72,7 +75,8 @@ with_upstreams ups plain = record plain {
   next_server = ups.next_server;
   servers = ups.servers;
   pools = ups.pools;
-  outstanding = ups.outstanding }
+  outstanding = ups.outstanding;
+}
 
 -- the moment is the later of an event's and the last one; passes that no longer count are gone
 abbrev pub at_plain : ℕ → Plain → Plain

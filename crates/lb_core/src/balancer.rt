@@ -77,7 +77,13 @@ impl Balancer {
                     kind,
                     word,
                 };
-                answer_query(self.alloc, &mut self.chain, &mut self.upstream, &asked, bytes)
+                answer_query(
+                    self.alloc,
+                    &mut self.chain,
+                    &mut self.upstream,
+                    &asked,
+                    bytes,
+                )
             }
             Event::Reply {
                 now,

@@ -5,13 +5,14 @@ ghost use Rattle.lb_servers.specs.Park.{added_pool, added_server, changed_pool, 
 ghost use Rattle.lb_servers.specs.Pool.{pool_named, with_policy};
 ghost use Rattle.lb_servers.specs.Server.{with_mode};
 ghost use Rattle.lb_core.specs.Plain.{plain_of, upstreams_of};
-ghost use Rattle.lb_core.specs.Upstream.{backends_of};
-ghost use Rattle.lb_core.specs.Edit.{action_by, edit_of, place_or_end, pool_edited, rule_by, server_by, server_edited, upstream_edited, MayLackAt};
+ghost use Rattle.lb_core.specs.Upstream.{backends_of, Upstreams};
+ghost use Rattle.lb_core.specs.Edit.{action_by, edit_of, place_or_end, pool_edited, rule_by, server_by, server_edited, upstream_edited, MayLackAt, Lacks};
 ghost use Rattle.lb_core.specs.Answer.{marked};
 ghost use Rattle.lb_core.specs.declared.command.Command.TheVariants.{RuleAdd, RuleRemove, RuleMove};
 ghost use Rattle.lb_core.specs.declared.answer.Answer.TheVariants.{Refused};
 ghost use Rattle.lb_core.specs.declared.answer.EditFault.TheVariants.{Rules, Servers};
 ghost use Rattle.lb_core.specs.declared.answer.Note.TheVariants as notes;
+ghost use Rattle.lb_core.specs.declared.answer.Answer.{Answer};
 
 use crate::answer::{Answer, EditFault, Note};
 use crate::command::{Command, StatedAction, StatedRule};
@@ -154,10 +155,6 @@ fn servers_refused(fault: ParkFault) -> Answer
 {
     Answer::Refused(EditFault::Servers(fault))
 }
-
-ghost use Rattle.lb_core.specs.Upstream.{Upstreams};
-ghost use Rattle.lb_core.specs.declared.answer.Answer.{Answer};
-ghost use Rattle.lb_core.specs.Edit.{Lacks};
 
 /// Adds a server.
 fn add_server(upstream: &mut Upstream, spec: ServerSpec) -> Answer

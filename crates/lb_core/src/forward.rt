@@ -7,6 +7,7 @@ ghost use Rattle.lb_wire.specs.Answer.{refusal_of};
 ghost use Rattle.lb_wire.specs.Query.{IsQuery, view_of};
 ghost use Rattle.lb_core.specs.Forward.{entry_of as entry_of_spec, Forwards, lane_of as lane_of_spec, sent_of, with_id};
 ghost use Rattle.lb_core.specs.declared.answer.Answer.TheVariants.{Local};
+ghost use Rattle.lb_core.specs.Upstream.{Upstreams};
 
 use crate::answer::{Answer, LocalReason};
 use crate::asked::Asked;
@@ -56,8 +57,6 @@ fn lane_of(kind: Kind) -> Lane
     Lane { kind, number: 0 }
 }
 
-ghost use Rattle.lb_core.specs.Upstream.{Upstreams};
-
 /// What is kept of a query until its reply. The one error is want of memory.
 fn entry_of(
     alloc: Global,
@@ -93,7 +92,12 @@ fn message(mut bytes: Vec<u8>, no_recurse: bool, id: u16) -> Octets
 }
 
 /// The refusal with this RCODE, in the query's own bytes.
-pub(crate) fn refused(mut bytes: Vec<u8>, view: &QueryView, rcode: Rcode, why: LocalReason) -> Answer
+pub(crate) fn refused(
+    mut bytes: Vec<u8>,
+    view: &QueryView,
+    rcode: Rcode,
+    why: LocalReason,
+) -> Answer
     requires { (m : Message) × Lays bytes.items m × IsQuery m × (view.now ≡ view_of m) }
     ensures { result ≡ Local (refusal_of view.now (rcode_number rcode)) why }
 {

@@ -1,6 +1,6 @@
 //! The life of a query.
 
-ghost use Rattle.std.specs.Prelude.{◌≡◌, ◌≤◌, true, IsTrue, IfOk, IfErr, OnErr, List, ℕ, Result};
+ghost use Rattle.std.specs.Prelude.{◌≡◌, ◌≤◌, true, IsTrue, IfOk, IfErr, OnErr, List, ℕ, Result, None};
 ghost use Rattle.lb_wire.specs.Answer.{truncated_of, spoofed_of};
 ghost use Rattle.lb_wire.specs.Message.{Message, Lays};
 ghost use Rattle.lb_wire.specs.Query.{Reads, IsQuery, view_of};
@@ -12,6 +12,7 @@ ghost use Rattle.lb_core.specs.Query.{is_transfer as is_transfer_of, takes_memor
 ghost use Rattle.lb_core.specs.Answer.{marked};
 ghost use Rattle.lb_core.specs.declared.answer.Answer.TheVariants.{Local, NoMemory};
 ghost use Rattle.lb_core.specs.declared.answer.LocalReason.TheVariants as locals;
+ghost use Rattle.lb_chain.specs.declared.walked.Verdict.TheVariants.{Allow};
 
 use crate::answer::{Answer, DropReason, LocalReason};
 use crate::asked::Asked;
@@ -115,10 +116,26 @@ fn decide(
 {
     let no_recurse = walked.no_recurse;
     let Some(rule) = walked.rule else {
-        return forward(alloc, upstream, asked, bytes, view, no_recurse, DEFAULT_POOL);
+        return forward(
+            alloc,
+            upstream,
+            asked,
+            bytes,
+            view,
+            no_recurse,
+            DEFAULT_POOL,
+        );
     };
     match walked.verdict {
-        Verdict::Allow => forward(alloc, upstream, asked, bytes, view, no_recurse, DEFAULT_POOL),
+        Verdict::Allow => forward(
+            alloc,
+            upstream,
+            asked,
+            bytes,
+            view,
+            no_recurse,
+            DEFAULT_POOL,
+        ),
         Verdict::Pool(pool) => forward(alloc, upstream, asked, bytes, view, no_recurse, pool),
         Verdict::Drop => Ok(Answer::Dropped(DropReason::Rule(rule))),
         Verdict::Rcode(rcode) => Ok(refused(bytes, view, rcode, LocalReason::Rule(rule))),
@@ -126,9 +143,6 @@ fn decide(
         Verdict::Spoof(addrs) => spoof(alloc, bytes, view, &addrs, rule),
     }
 }
-
-ghost use Rattle.std.specs.Prelude.{None};
-ghost use Rattle.lb_chain.specs.declared.walked.Verdict.TheVariants.{Allow};
 
 /// The truncated answer, in the query's own bytes.
 fn truncated(mut bytes: Vec<u8>, view: &QueryView, rule: RuleId) -> Answer

@@ -8,6 +8,8 @@ ghost use Rattle.lb_wire.specs.declared.reply.ReplyView.{ReplyView};
 ghost use Rattle.lb_wire.specs.declared.reply.ReplyFault.{ReplyFault};
 ghost use Rattle.lb_core.specs.Upstream.{IsAsked};
 ghost use Rattle.lb_core.specs.Reply.{delivered_octets, reply_step};
+ghost use Rattle.lb_wire.specs.declared.kept.Kept.TheVariants as kept;
+ghost use Rattle.lb_core.specs.declared.answer.Answer.TheVariants.{Deliver};
 
 use crate::answer::{Answer, IgnoreReason};
 use crate::upstream::Upstream;
@@ -57,9 +59,6 @@ fn deliver(mut bytes: Vec<u8>, view: &ReplyView, entry: &Entry) -> Answer
     restore_id(&mut bytes, query_id(entry.asked.as_slice()));
     Answer::Deliver(entry.origin, Octets::from_vec(bytes), Kept::No)
 }
-
-ghost use Rattle.lb_wire.specs.declared.kept.Kept.TheVariants as kept;
-ghost use Rattle.lb_core.specs.declared.answer.Answer.TheVariants.{Deliver};
 
 /// The ID of a query (RFC 1035 section 4.1.1).
 fn query_id(asked: &[u8]) -> u16

@@ -2,11 +2,11 @@
 
 ghost use Rattle.std.specs.Prelude.{◌≡◌, ◌<◌, ℕ, IfOk, IfSome, option_map};
 ghost use Rattle.lb_servers.specs.Park.{added_pool, added_server, changed_pool, changed_server, lacks, removed_server};
-ghost use Rattle.lb_servers.specs.Pool.{pool_named, with_policy};
+ghost use Rattle.lb_servers.specs.Pool.{pool_named, with_policy, change_at};
 ghost use Rattle.lb_servers.specs.Server.{with_mode};
 ghost use Rattle.lb_table.specs.Place.{at_place};
 ghost use Rattle.lb_table.specs.Table.{entry_at};
-ghost use Rattle.lb_core.specs.Upstream.{backends_of, no_upstreams, on_backends, picked_of, IsAsked, SendsBy};
+ghost use Rattle.lb_core.specs.Upstream.{backends_of, no_upstreams, on_backends, picked_of, IsAsked, SendsBy, takes_turns as takes_turns_of, turned_if};
 ghost use Rattle.lb_core.specs.Edit.{server_by};
 ghost use Rattle.lb_core.specs.Reply.{without};
 
@@ -163,9 +163,6 @@ impl Upstream {
         self.park.set_policy(pool, policy)
     }
 }
-
-ghost use Rattle.lb_core.specs.Upstream.{takes_turns as takes_turns_of, turned_if};
-ghost use Rattle.lb_servers.specs.Pool.{change_at};
 
 /// Counts a turn of a pool whose policy is roundrobin.
 fn count_turn(park: &mut Park, pool: PoolId)

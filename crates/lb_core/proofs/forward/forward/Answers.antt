@@ -8,7 +8,7 @@ use Rattle.lb_core.proofs.forward.forward.Goals as goal
 pub send-requires-clause-asked : goal.send-requires-clause-asked
 send-requires-clause-asked c =
     let entry : c.in-Ok.entry ≡ entry_of c.args.upstream.now c.args.asked.now c.args.bytes.items c.args.view.now =
-        c.in-Ok.ensures c.args.upstream.now (sym c.timeout.ensures) ∙ ap (λ (bytes : List ℕ). entry_of c.args.upstream.now c.args.asked.now bytes c.args.view.now) c.as_slice.ensures.value in
+    c.in-Ok.ensures c.args.upstream.now (sym c.timeout.ensures) ∙ ap (λ (bytes : List ℕ). entry_of c.args.upstream.now c.args.asked.now bytes c.args.view.now) c.as_slice.ensures.value in
     subst IsAsked (sym entry) (c.args.view.now, c.requires.view)
 
 pub returns-in-Ok-send-clause-forwards : goal.returns-in-Ok-send-clause-forwards
