@@ -16,7 +16,7 @@ put_by_order servers l = insert servers (unwrap_or (position (is_behind l.server
 abbrev pub by_order : List Loaded → List Loaded
 by_order servers = fold put_by_order [] servers
 
--- the same of a server that may not be there
+-- whether a server that may not be there comes behind those of an order
 abbrev pub behind : ℕ → Option Loaded → Bool
 behind order None = false
 behind order (Some l) = is_behind order l

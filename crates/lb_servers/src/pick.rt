@@ -19,7 +19,7 @@ fn up_at(servers: &[Loaded], at: u8, pool: PoolId) -> Option<&Loaded>
     }
 }
 
-/// Its number.
+/// The number of the server at a place, where it stands in a pool and is up.
 fn up_id(servers: &[Loaded], at: u8, pool: PoolId) -> Option<ServerId>
     ensures { result ≡ option_map (λ l. l.server.id) (up_one pool (slice_get servers.now at)) }
 {
@@ -82,7 +82,7 @@ fn least<'a>(servers: &'a [Loaded], ranks: &[u8], pool: PoolId) -> Option<&'a Lo
     best
 }
 
-/// Its number.
+/// The number of the first of a pool's servers that are up and have the fewest queries outstanding.
 fn least_id(servers: &[Loaded], ranks: &[u8], pool: PoolId) -> Option<ServerId>
     ensures { result ≡ option_map (λ l. l.server.id) (reduce lesser (ups_at pool servers.now ranks.now)) }
 {
