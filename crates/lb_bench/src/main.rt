@@ -1,12 +1,15 @@
 //! The program `lb_bench`: it measures, and writes nanoseconds a call to standard error. With the argument `messages`
 //! it reads queries, makes their answers and surveys replies; with `rules` it asks balancers with many rules and with a
-//! limiter; with `limits` it gives a limiter fresh addresses; with no argument it does nothing.
+//! limiter; with `limits` it gives a limiter fresh addresses; with `forwards` it sends queries to a server and delivers their
+//! replies; with no argument it does nothing.
 #![tactic(auto)]
 
+mod forwards;
 mod limits;
 mod messages;
 mod rules;
 
+use forwards::time_forwards;
 use limits::time_fresh;
 use messages::{time_answers, time_surveys};
 use rules::{time_counting, time_limiter, time_walks};
@@ -25,6 +28,9 @@ fn main(rt: HostRuntime) -> io::Result<()> {
         }
         if word.as_str() == "limits" {
             time_fresh(&rt)?;
+        }
+        if word.as_str() == "forwards" {
+            time_forwards(&rt)?;
         }
     }
     Ok(())

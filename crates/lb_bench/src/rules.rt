@@ -1,7 +1,7 @@
 //! How long a query takes that is walked through many rules, and one that is counted by a limiter.
 
 use lb_chain::{Action, Chain, Rule};
-use lb_core::{Answer, Balancer, Command, Event, LocalReason};
+use lb_core::{Answer, Balancer, Command, Event, LocalReason, StatedAction, StatedRule};
 use lb_masks::{Group, Mask};
 use lb_name::Name;
 use lb_terms::{Names, Term};
@@ -211,9 +211,9 @@ fn filled(alloc: Global, asks: Asks, rules: u32) -> Result<Balancer, AllocError>
         let Ok(term) = term_of(alloc, asks)?.checked() else {
             return Err(AllocError);
         };
-        let rule = Rule {
+        let rule = StatedRule {
             term,
-            action: Action::Rcode(Rcode::Refused),
+            action: StatedAction::Rcode(Rcode::Refused),
         };
         let command = Command::RuleAdd(None, rule);
         if !matches!(
