@@ -95,12 +95,11 @@ fn adding(place: Option<usize>, term: Term, action: StatedAction) -> Result<Comm
     Ok(Command::RuleAdd(place, StatedRule { term, action }))
 }
 
-/// What an edit did; its fault where it was refused.
-fn done(answer: Answer) -> Result<Note, Fail> {
+/// What an edit did; the answer where it was not carried out.
+fn done(answer: Answer) -> Result<Note, Answer> {
     match answer {
         Answer::Edited(note) => Ok(note),
-        Answer::Refused(fault) => Err(Fail::from(fault)),
-        _ => Err(Fail::from("no answer to an edit")),
+        refused => Err(refused),
     }
 }
 

@@ -55,16 +55,23 @@ fn moves(balancer: &mut Balancer, id: u64, place: usize) -> Result<bool, Fail> {
 fn a_run_of_a_rule_and_three_queries(rt: HostRuntime) -> Result<(), Fail> {
     let alloc = rt.alloc();
     let mut balancer = Balancer::new(alloc)?;
-    add_rule(&mut balancer, Term::Qtype(RecordType::A), refusal())?;
-    let mut events: Vec<Event> = Vec::new(alloc);
+    let mut events = Vec::new(alloc);
+    events.push(Event::Edit {
+        now: 0,
+        command: adding(None, Term::Qtype(RecordType::A), refusal())?,
+    })?;
     for bytes in [QUERY, TRANSFER, QUERY_OPTS] {
         events.push(of(bytes).event(alloc)?)?;
     }
     let answers = run(alloc, &mut balancer, events).map_err(|refused| refused.0)?;
-    assert_eq!(rt; answers.len(), 3);
-    assert!(rt; is_refused_by(&answers[0], 1));
-    assert!(rt; is_local(&answers[1], LocalReason::Transfer, REFUSED_TRANSFER));
-    assert!(rt; is_local(&answers[2], LocalReason::Malformed, FORM_ERR));
+    assert_eq!(rt; answers.len(), 4);
+    if is_rules_fault(&answers[0], ChainFault::NoMemory) {
+        return Err(Fail::from(AllocError));
+    }
+    assert!(rt; matches!(answers[0], Answer::Edited(Note::RuleAdded(RuleId(1)))));
+    assert!(rt; is_refused_by(&answers[1], 1));
+    assert!(rt; is_local(&answers[2], LocalReason::Transfer, REFUSED_TRANSFER));
+    assert!(rt; is_local(&answers[3], LocalReason::Malformed, FORM_ERR));
     Ok(())
 }
 

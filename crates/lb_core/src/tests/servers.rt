@@ -7,11 +7,12 @@ use super::messages::{
 };
 use super::{
     ONE, PLAIN, Query, add_rule, adding, ask, at, done, ident, is_dropped_by, is_no_server,
-    is_park_fault, named, octets, of, origin, tell,
+    is_park_fault, is_rules_fault, named, octets, of, origin, tell,
 };
 use crate::{Answer, Balancer, Command, Event, IgnoreReason, Note, StatedAction};
+use lb_chain::ChainFault;
 use lb_servers::{Mode, ParkFault, Policy, PoolName, PoolNames, ServerSpec};
-use lb_terms::Term;
+use lb_terms::{Term, TermFault};
 use lb_wire::{Addr, Kept, Kind, Lane, RecordType, RuleId, ServerId};
 use std::alloc::{AllocError, Global};
 use std::test::Fail;
@@ -342,14 +343,24 @@ fn replies_as_their_clients_get_them(rt: HostRuntime) -> Result<(), Fail> {
     Ok(())
 }
 
-/// Where memory is wanting for a query, no pass, no turn and no outstanding query is counted: a second pass would have the
-/// same query dropped, a turn would send it to the other server, and an entry would take its ID.
+/// The command that has the third query of an address within a second dropped.
+fn limiting() -> Result<Command, TermFault> {
+    adding(None, Term::MaxQps(2, 32, 64), StatedAction::Drop)
+}
+
+/// Where memory is wanting for a rule, no number is given. Where it is wanting for a query, no pass, no turn and no
+/// outstanding query is counted: a pass more would have the third query's answer come at the second, a turn would send it
+/// to the other server, and an entry would take its ID.
 #[test]
 fn wanting_memory_a_query_counts_nothing(rt: HostRuntime) -> Result<(), Fail> {
     let alloc = rt.alloc();
     let mut balancer = serving(alloc, &[S1, S2])?;
     assert!(rt; sets_policy(&mut balancer, Policy::RoundRobin));
-    add_rule(&mut balancer, Term::MaxQps(2, 32, 64), StatedAction::Drop)?;
+    let mut told = tell(&mut balancer, limiting()?);
+    if is_rules_fault(&told, ChainFault::NoMemory) {
+        told = tell(&mut balancer, limiting()?);
+    }
+    assert!(rt; matches!(told, Answer::Edited(Note::RuleAdded(RuleId(1)))));
     for row in [S1, S2] {
         let mut answer = balancer.step(PLAIN.event(alloc)?);
         if let Answer::NoMemory(bytes) = &answer {
