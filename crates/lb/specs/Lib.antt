@@ -1,6 +1,7 @@
 pub use Rattle.lb_wire.specs.Query
 pub use Rattle.lb_core.specs.Plain
 pub use Rattle.lb_core.specs.Step
+pub use Rattle.lb_core.specs.Runs
 pub mod Faults
 pub mod Shown
 pub mod Line

@@ -4,7 +4,7 @@ use Rattle.std.specs.Io.KnownBytes.{Appends}
 use Rattle.lb_core.specs.declared.event.Event.{Event}
 use Rattle.lb_core.specs.declared.answer.Answer.{Answer}
 use Rattle.lb_core.specs.Plain.{Plain, empty}
-use Rattle.lb_core.specs.Step.{IsRun}
+use Rattle.lb_core.specs.Runs.{IsRun}
 use Rattle.lb.specs.declared.faults.Stop.{Stop}
 use Rattle.lb.specs.Faults.{IsBadLine}
 use Rattle.lb.specs.Input.{told_lines}

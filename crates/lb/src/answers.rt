@@ -1,11 +1,12 @@
 //! Writing answers as lines.
 
 ghost use Rattle.std.specs.Prelude.{◌≡◌, IfOk, string_bytes};
-ghost use Rattle.lb.specs.Answers.{drop_text, hex_text, line_of, local_text, refused_text};
+ghost use Rattle.lb.specs.Answers.{deliver_text, drop_text, edited_text, forward_text, hex_text, ignored_text, kept_text, kind_text, line_of, local_text, mode_text, policy_text, pool_text, rules_text, servers_text};
 
 use lb_chain::ChainFault;
-use lb_core::{Answer, DropReason, EditFault, LocalReason, Note};
-use lb_wire::Octets;
+use lb_core::{Answer, DropReason, EditFault, IgnoreReason, LocalReason, Note};
+use lb_servers::{Mode, ParkFault, Policy, PoolName};
+use lb_wire::{Kept, Kind, Lane, Octets, Origin, ServerId};
 use std::alloc::{AllocError, Global};
 
 /// The line that an answer is written as, without its line feed. The one error is want of memory.
@@ -22,19 +23,15 @@ pub fn answer_line(alloc: Global, answer: &Answer) -> Result<String, AllocError>
             let bytes = hex_of(alloc, bytes)?;
             format!(in alloc; "local {why} {bytes}")
         }
-        Answer::Edited(Note::RuleAdded(id)) => {
-            let id = id.0;
-            format!(in alloc; "edited rule {id} added")
+        Answer::Forward(server, lane, id, bytes) => forward_line(alloc, *server, *lane, *id, bytes),
+        Answer::Deliver(origin, bytes, kept) => deliver_line(alloc, origin, bytes, *kept),
+        Answer::Ignored(reason) => {
+            let why = ignored_word(*reason);
+            format!(in alloc; "ignored {why}")
         }
-        Answer::Edited(Note::RuleRemoved(id)) => {
-            let id = id.0;
-            format!(in alloc; "edited rule {id} removed")
-        }
-        Answer::Edited(Note::RuleMoved(id)) => {
-            let id = id.0;
-            format!(in alloc; "edited rule {id} moved")
-        }
-        Answer::Refused(EditFault::Rules(fault)) => refused_line(alloc, *fault),
+        Answer::Edited(note) => edited_line(alloc, note),
+        Answer::Refused(EditFault::Rules(fault)) => String::from_str(alloc, rules_line(*fault)),
+        Answer::Refused(EditFault::Servers(fault)) => String::from_str(alloc, servers_line(*fault)),
         Answer::NoMemory(bytes) => {
             let bytes = hex_of(alloc, bytes)?;
             format!(in alloc; "nomemory {bytes}")
@@ -42,19 +39,105 @@ pub fn answer_line(alloc: Global, answer: &Answer) -> Result<String, AllocError>
     }
 }
 
-/// The line of a refusal by the list of rules: its number and its name.
-fn refused_line(alloc: Global, fault: ChainFault) -> Result<String, AllocError>
-    ensures { IfOk result (λ text. string_bytes text ≡ refused_text fault) }
+/// The line of a query that is sent to a server.
+fn forward_line(
+    alloc: Global,
+    server: ServerId,
+    lane: Lane,
+    id: u16,
+    bytes: &Octets,
+) -> Result<String, AllocError>
+    ensures { IfOk result (λ text. string_bytes text ≡ forward_text server lane id bytes.now) }
 {
-    let line = match fault {
+    let server = server.0;
+    let kind = kind_word(lane.kind);
+    let bytes = hex_of(alloc, bytes)?;
+    format!(in alloc; "forward {server} {kind} {id} {bytes}")
+}
+
+/// The line of a reply that goes to its client.
+fn deliver_line(
+    alloc: Global,
+    origin: &Origin,
+    bytes: &Octets,
+    kept: Kept,
+) -> Result<String, AllocError>
+    ensures { IfOk result (λ text. string_bytes text ≡ deliver_text origin.now bytes.now kept) }
+{
+    let slot = origin.slot;
+    let kept = kept_word(kept);
+    let bytes = hex_of(alloc, bytes)?;
+    format!(in alloc; "deliver {slot} {kept} {bytes}")
+}
+
+/// The line of a command that was carried out.
+fn edited_line(alloc: Global, note: &Note) -> Result<String, AllocError>
+    ensures { IfOk result (λ text. string_bytes text ≡ edited_text note.now) }
+{
+    match note {
+        Note::RuleAdded(id) => {
+            let id = id.0;
+            format!(in alloc; "edited rule {id} added")
+        }
+        Note::RuleRemoved(id) => {
+            let id = id.0;
+            format!(in alloc; "edited rule {id} removed")
+        }
+        Note::RuleMoved(id) => {
+            let id = id.0;
+            format!(in alloc; "edited rule {id} moved")
+        }
+        Note::ServerAdded(id) => {
+            let id = id.0;
+            format!(in alloc; "edited server {id} added")
+        }
+        Note::ServerRemoved(id) => {
+            let id = id.0;
+            format!(in alloc; "edited server {id} removed")
+        }
+        Note::ServerMode(id, mode) => {
+            let id = id.0;
+            let mode = mode_word(*mode);
+            format!(in alloc; "edited server {id} mode {mode}")
+        }
+        Note::PoolAdded(name) => {
+            let name = pool_word(name);
+            format!(in alloc; "edited pool {name} added")
+        }
+        Note::PoolPolicy(name, policy) => {
+            let name = pool_word(name);
+            let policy = policy_word(*policy);
+            format!(in alloc; "edited pool {name} policy {policy}")
+        }
+    }
+}
+
+/// The line of a refusal by the list of rules: its number and its name.
+fn rules_line(fault: ChainFault) -> &'static str
+    ensures { result.now ≡ rules_text fault }
+{
+    match fault {
         ChainFault::NoSuchRule => "refused rules 1 NoSuchRule",
         ChainFault::BadPlace => "refused rules 2 BadPlace",
         ChainFault::TooManyRules => "refused rules 3 TooManyRules",
         ChainFault::TooManyLimiters => "refused rules 4 TooManyLimiters",
         ChainFault::NoMemory => "refused rules 5 NoMemory",
         ChainFault::NoMoreIds => "refused rules 6 NoMoreIds",
-    };
-    String::from_str(alloc, line)
+    }
+}
+
+/// The line of a refusal by the table of servers and pools: its number and its name.
+fn servers_line(fault: ParkFault) -> &'static str
+    ensures { result.now ≡ servers_text fault }
+{
+    match fault {
+        ParkFault::NoSuchServer => "refused servers 1 NoSuchServer",
+        ParkFault::NoSuchPool => "refused servers 2 NoSuchPool",
+        ParkFault::NameTaken => "refused servers 3 NameTaken",
+        ParkFault::TooMany => "refused servers 4 TooMany",
+        ParkFault::NoMemory => "refused servers 5 NoMemory",
+        ParkFault::NoMoreIds => "refused servers 6 NoMoreIds",
+    }
 }
 
 /// The word for why a query is dropped.
@@ -64,7 +147,7 @@ fn drop_word(reason: DropReason) -> &'static str
     match reason {
         DropReason::Short => "short",
         DropReason::NotQuery => "notquery",
-        DropReason::Rule => "rule",
+        DropReason::Rule(_) => "rule",
     }
 }
 
@@ -75,8 +158,75 @@ fn local_word(reason: LocalReason) -> &'static str
     match reason {
         LocalReason::Malformed => "malformed",
         LocalReason::Transfer => "transfer",
-        LocalReason::Rule => "rule",
+        LocalReason::Rule(_) => "rule",
         LocalReason::NoServer => "noserver",
+        LocalReason::LaneFull => "lanefull",
+    }
+}
+
+/// The word for why a reply is ignored.
+fn ignored_word(reason: IgnoreReason) -> &'static str
+    ensures { result.now ≡ ignored_text reason }
+{
+    match reason {
+        IgnoreReason::Short => "short",
+        IgnoreReason::NotReply => "notreply",
+        IgnoreReason::Unknown => "unknown",
+        IgnoreReason::Mismatch => "mismatch",
+    }
+}
+
+/// The word for a transport.
+fn kind_word(kind: Kind) -> &'static str
+    ensures { result.now ≡ kind_text kind }
+{
+    match kind {
+        Kind::Datagram => "udp",
+        Kind::Stream => "tcp",
+    }
+}
+
+/// The word for whether a reply was kept.
+fn kept_word(kept: Kept) -> &'static str
+    ensures { result.now ≡ kept_text kept }
+{
+    match kept {
+        Kept::Yes => "yes",
+        Kept::No => "no",
+        Kept::NoRoom => "noroom",
+        Kept::NoMemory => "nomemory",
+    }
+}
+
+/// The word for a server's mode.
+fn mode_word(mode: Mode) -> &'static str
+    ensures { result.now ≡ mode_text mode }
+{
+    match mode {
+        Mode::Up => "up",
+        Mode::Down => "down",
+        Mode::Auto => "auto",
+    }
+}
+
+/// The word for a pool's policy.
+fn policy_word(policy: Policy) -> &'static str
+    ensures { result.now ≡ policy_text policy }
+{
+    match policy {
+        Policy::FirstAvailable => "firstAvailable",
+        Policy::LeastOutstanding => "leastOutstanding",
+        Policy::RoundRobin => "roundrobin",
+    }
+}
+
+/// The name of a pool, and the default pool as `-`.
+fn pool_word(name: &PoolName) -> &str
+    ensures { result.now ≡ pool_text name.now }
+{
+    match name {
+        PoolName::Default => "-",
+        PoolName::Named(name) => name.as_str(),
     }
 }
 

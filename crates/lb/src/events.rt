@@ -3,8 +3,7 @@
 use crate::faults::{Fault, Unread};
 use crate::words::{Sign, Word, Words, number_of};
 use hex::FromHexError;
-use lb_chain::{Action, Rule};
-use lb_core::{Command, Event};
+use lb_core::{Command, Event, StatedAction, StatedRule};
 use lb_terms::{CheckedTerm, Term};
 use lb_wire::{Addr, Kind, Octets, Origin, Rcode, RecordType};
 use std::alloc::Global;
@@ -33,7 +32,7 @@ fn read_edit(words: &mut Words<'_>) -> Result<Event, Fault> {
     let term = read_term(words)?;
     let action = read_action(words)?;
     words.end()?;
-    let command = Command::RuleAdd(None, Rule { term, action });
+    let command = Command::RuleAdd(None, StatedRule { term, action });
     Ok(Event::Edit { now, command })
 }
 
@@ -79,12 +78,12 @@ fn type_term(qtype: RecordType) -> CheckedTerm {
 }
 
 /// Reads an action: `rcode(RCODE)`.
-fn read_action(words: &mut Words<'_>) -> Result<Action, Fault> {
+fn read_action(words: &mut Words<'_>) -> Result<StatedAction, Fault> {
     words.keyword(b"rcode")?;
     words.sign(Sign::Open)?;
     let rcode = read_rcode(words)?;
     words.sign(Sign::Close)?;
-    Ok(Action::Rcode(rcode))
+    Ok(StatedAction::Rcode(rcode))
 }
 
 /// Reads a record type: a name, or a number to 65,535.

@@ -2,10 +2,13 @@
 
 use crate::rows::{REFUSED_BY_TYPE, ROWS};
 use crate::{answer_line, replay};
-use lb_chain::{Action, Rule};
-use lb_core::{Answer, Balancer, Command, Event, LocalReason, Note, run};
+use lb_core::{
+    Answer, Balancer, Command, DropReason, EditFault, Event, IgnoreReason, LocalReason, Note,
+    StatedAction, StatedRule, run,
+};
+use lb_servers::{Ident, Mode, ParkFault, Policy, PoolName};
 use lb_terms::Term;
-use lb_wire::{Addr, Kind, Octets, Origin, Rcode, RecordType, RuleId};
+use lb_wire::{Addr, Kept, Kind, Lane, Octets, Origin, Rcode, RecordType, RuleId, ServerId};
 use std::alloc::AllocError;
 use std::io;
 use std::io::{Cursor, ErrorKind, Read, Write};
@@ -106,6 +109,14 @@ const QUERY: &str = "123401000001000000000000076578616d706c6503636f6d0000010001"
 
 const REFUSED: &str = "local rule 123481850001000000000000076578616d706c6503636f6d0000010001";
 
+/// The client of a replay's queries.
+const ORIGIN: Origin = Origin {
+    front: 0,
+    slot: 7,
+    source: Addr::V4([192, 0, 2, 1]),
+    port: 0,
+};
+
 #[test]
 fn typed_events_are_answered(rt: HostRuntime) -> Result<(), Fail> {
     let alloc = rt.alloc();
@@ -114,20 +125,15 @@ fn typed_events_are_answered(rt: HostRuntime) -> Result<(), Fail> {
         now: 0,
         command: Command::RuleAdd(
             None,
-            Rule {
+            StatedRule {
                 term: Term::Qtype(RecordType::A).checked()?,
-                action: Action::Rcode(Rcode::Refused),
+                action: StatedAction::Rcode(Rcode::Refused),
             },
         ),
     })?;
     events.push(Event::Query {
         now: 1000,
-        origin: Origin {
-            front: 0,
-            slot: 7,
-            source: Addr::V4([192, 0, 2, 1]),
-            port: 0,
-        },
+        origin: ORIGIN,
         kind: Kind::Datagram,
         word: 16,
         bytes: Octets::from_vec(hex::decode(alloc, QUERY)?),
@@ -141,12 +147,119 @@ fn typed_events_are_answered(rt: HostRuntime) -> Result<(), Fail> {
         Some(Answer::Edited(Note::RuleAdded(RuleId(1))))
     );
     assert!(rt; edited);
-    let ruled = matches!(answers.get(1), Some(Answer::Local(_, LocalReason::Rule)));
+    let ruled = matches!(
+        answers.get(1),
+        Some(Answer::Local(_, LocalReason::Rule(RuleId(1))))
+    );
     assert!(rt; ruled);
     assert_eq!(rt; answers.len(), 2);
     for answer in answers.iter().skip(1) {
         let text = answer_line(alloc, answer)?;
         assert_eq!(rt; text.as_str(), REFUSED);
+    }
+    Ok(())
+}
+
+/// Compares the line of an answer.
+fn expect_line<T: Abort + AllocGlobal>(
+    rt: &T,
+    answer: &Answer,
+    line: &str,
+) -> Result<(), AllocError> {
+    let text = answer_line(rt.alloc(), answer)?;
+    assert!(rt; text.as_str() == line, "the line {line}");
+    Ok(())
+}
+
+/// Two octets of a message.
+fn octets<T: AllocGlobal>(rt: &T) -> Result<Octets, AllocError> {
+    Ok(Octets::from_vec(Vec::from_slice(rt.alloc(), b"\x0f\xa0".as_slice())?))
+}
+
+#[test]
+fn answers_to_messages_have_their_lines(rt: HostRuntime) -> Result<(), Fail> {
+    expect_line(
+        &rt,
+        &Answer::Dropped(DropReason::Rule(RuleId(9))),
+        "dropped rule",
+    )?;
+    let full = Answer::Local(octets(&rt)?, LocalReason::LaneFull);
+    expect_line(&rt, &full, "local lanefull 0fa0")?;
+    for (server, kind, id, line) in [
+        (1, Kind::Datagram, 0, "forward 1 udp 0 0fa0"),
+        (
+            u64::MAX,
+            Kind::Stream,
+            65_535,
+            "forward 18446744073709551615 tcp 65535 0fa0",
+        ),
+    ] {
+        let lane = Lane { kind, number: 0 };
+        let sent = Answer::Forward(ServerId(server), lane, id, octets(&rt)?);
+        expect_line(&rt, &sent, line)?;
+    }
+    for (kept, line) in [
+        (Kept::Yes, "deliver 7 yes 0fa0"),
+        (Kept::No, "deliver 7 no 0fa0"),
+        (Kept::NoRoom, "deliver 7 noroom 0fa0"),
+        (Kept::NoMemory, "deliver 7 nomemory 0fa0"),
+    ] {
+        expect_line(&rt, &Answer::Deliver(ORIGIN, octets(&rt)?, kept), line)?;
+    }
+    for (reason, line) in [
+        (IgnoreReason::Short, "ignored short"),
+        (IgnoreReason::NotReply, "ignored notreply"),
+        (IgnoreReason::Unknown, "ignored unknown"),
+        (IgnoreReason::Mismatch, "ignored mismatch"),
+    ] {
+        expect_line(&rt, &Answer::Ignored(reason), line)?;
+    }
+    Ok(())
+}
+
+#[test]
+fn answers_to_edits_have_their_lines(rt: HostRuntime) -> Result<(), Fail> {
+    let named = Ident::parse("cache-1").map_or(PoolName::Default, PoolName::Named);
+    for (note, line) in [
+        (Note::ServerAdded(ServerId(2)), "edited server 2 added"),
+        (Note::ServerRemoved(ServerId(2)), "edited server 2 removed"),
+        (
+            Note::ServerMode(ServerId(2), Mode::Up),
+            "edited server 2 mode up",
+        ),
+        (
+            Note::ServerMode(ServerId(2), Mode::Down),
+            "edited server 2 mode down",
+        ),
+        (
+            Note::ServerMode(ServerId(2), Mode::Auto),
+            "edited server 2 mode auto",
+        ),
+        (Note::PoolAdded(named), "edited pool cache-1 added"),
+        (
+            Note::PoolPolicy(PoolName::Default, Policy::FirstAvailable),
+            "edited pool - policy firstAvailable",
+        ),
+        (
+            Note::PoolPolicy(PoolName::Default, Policy::LeastOutstanding),
+            "edited pool - policy leastOutstanding",
+        ),
+        (
+            Note::PoolPolicy(PoolName::Default, Policy::RoundRobin),
+            "edited pool - policy roundrobin",
+        ),
+    ] {
+        expect_line(&rt, &Answer::Edited(note), line)?;
+    }
+    for (fault, line) in [
+        (ParkFault::NoSuchServer, "refused servers 1 NoSuchServer"),
+        (ParkFault::NoSuchPool, "refused servers 2 NoSuchPool"),
+        (ParkFault::NameTaken, "refused servers 3 NameTaken"),
+        (ParkFault::TooMany, "refused servers 4 TooMany"),
+        (ParkFault::NoMemory, "refused servers 5 NoMemory"),
+        (ParkFault::NoMoreIds, "refused servers 6 NoMoreIds"),
+    ] {
+        expect_line(&rt, &Answer::Refused(EditFault::Servers(fault)), line)?;
     }
     Ok(())
 }
