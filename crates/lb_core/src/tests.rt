@@ -16,7 +16,7 @@ use lb_chain::ChainFault;
 use lb_servers::{Ident, ParkFault, PoolName};
 use lb_terms::{Term, TermFault};
 use lb_wire::{Addr, Kind, Octets, Origin, RuleId};
-use messages::{QUERY, SERV_FAIL};
+use messages::Message;
 use std::alloc::{AllocError, Global};
 use std::test::Fail;
 
@@ -29,7 +29,7 @@ struct Query {
     source: Addr,
     kind: Kind,
     word: u16,
-    bytes: &'static [u8],
+    bytes: Message,
 }
 
 /// A datagram from 192.0.2.1 that asks for example.com A.
@@ -38,11 +38,11 @@ const PLAIN: Query = Query {
     source: ONE,
     kind: Kind::Datagram,
     word: 16,
-    bytes: QUERY,
+    bytes: Message::Query,
 };
 
 /// The same with other octets.
-fn of(bytes: &'static [u8]) -> Query {
+fn of(bytes: Message) -> Query {
     Query { bytes, ..PLAIN }
 }
 
@@ -61,8 +61,8 @@ fn origin(source: Addr) -> Origin {
     }
 }
 
-fn octets(alloc: Global, bytes: &[u8]) -> Result<Octets, AllocError> {
-    Ok(Octets::from_vec(Vec::from_slice(alloc, bytes)?))
+fn octets(alloc: Global, message: Message) -> Result<Octets, AllocError> {
+    Ok(Octets::from_vec(Vec::from_slice(alloc, message.octets())?))
 }
 
 impl Query {
@@ -119,22 +119,27 @@ fn named(text: &str) -> Result<PoolName, &'static str> {
     Ok(PoolName::Named(ident(text)?))
 }
 
+/// Whether octets are those of a message.
+fn is(octets: &Octets, message: Message) -> bool {
+    octets.as_slice() == message.octets()
+}
+
 /// Whether an answer is one of the balancer's own, of these octets.
-fn is_local(answer: &Answer, why: LocalReason, octets: &[u8]) -> bool {
+fn is_local(answer: &Answer, why: LocalReason, message: Message) -> bool {
     match answer {
-        Answer::Local(bytes, reason) => *reason == why && bytes.as_slice() == octets,
+        Answer::Local(bytes, reason) => *reason == why && is(bytes, message),
         _ => false,
     }
 }
 
 /// Whether an answer is one of the balancer's own by a rule, of these octets.
-fn is_local_by(answer: &Answer, rule: u64, octets: &[u8]) -> bool {
-    is_local(answer, LocalReason::Rule(RuleId(rule)), octets)
+fn is_local_by(answer: &Answer, rule: u64, message: Message) -> bool {
+    is_local(answer, LocalReason::Rule(RuleId(rule)), message)
 }
 
 /// Whether `QUERY` was to go to a server, and none was there.
 fn is_no_server(answer: &Answer) -> bool {
-    is_local(answer, LocalReason::NoServer, SERV_FAIL)
+    is_local(answer, LocalReason::NoServer, Message::ServFail)
 }
 
 /// Whether a rule had a query dropped.

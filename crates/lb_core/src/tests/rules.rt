@@ -1,9 +1,6 @@
 //! Rules, before any server is there.
 
-use super::messages::{
-    BAD_EXAMPLE, BELOW, FORM_ERR, QUERY, QUERY_OPT, QUERY_OPTS, REFUSED, REFUSED_OPT,
-    REFUSED_TRANSFER, SPOOFED, TRANSFER, TRUNCATED, UPPER,
-};
+use super::messages::Message;
 use super::{
     PLAIN, Query, add_rule, adding, ask, at, done, is_dropped_by, is_local, is_local_by,
     is_no_server, is_rules_fault, of, tell,
@@ -42,7 +39,7 @@ fn refusal() -> StatedAction {
 
 /// Whether `QUERY` was refused by a rule.
 fn is_refused_by(answer: &Answer, rule: u64) -> bool {
-    is_local_by(answer, rule, REFUSED)
+    is_local_by(answer, rule, Message::Refused)
 }
 
 /// Moves a rule, and tells whether the answer says so.
@@ -60,7 +57,7 @@ fn a_run_of_a_rule_and_three_queries(rt: HostRuntime) -> Result<(), Fail> {
         now: 0,
         command: adding(None, Term::Qtype(RecordType::A), refusal())?,
     })?;
-    for bytes in [QUERY, TRANSFER, QUERY_OPTS] {
+    for bytes in [Message::Query, Message::Transfer, Message::QueryOpts] {
         events.push(of(bytes).event(alloc)?)?;
     }
     let answers = run(alloc, &mut balancer, events).map_err(|refused| refused.0)?;
@@ -70,8 +67,8 @@ fn a_run_of_a_rule_and_three_queries(rt: HostRuntime) -> Result<(), Fail> {
     }
     assert!(rt; matches!(answers[0], Answer::Edited(Note::RuleAdded(RuleId(1)))));
     assert!(rt; is_refused_by(&answers[1], 1));
-    assert!(rt; is_local(&answers[2], LocalReason::Transfer, REFUSED_TRANSFER));
-    assert!(rt; is_local(&answers[3], LocalReason::Malformed, FORM_ERR));
+    assert!(rt; is_local(&answers[2], LocalReason::Transfer, Message::RefusedTransfer));
+    assert!(rt; is_local(&answers[3], LocalReason::Malformed, Message::FormErr));
     Ok(())
 }
 
@@ -86,9 +83,9 @@ fn names_under_a_suffix(rt: HostRuntime) -> Result<(), Fail> {
     )?;
     let id = add_rule(&mut balancer, under_example(alloc)?, StatedAction::Drop)?;
     assert_eq!(rt; id, RuleId(2));
-    let other = ask(&mut balancer, alloc, of(BAD_EXAMPLE))?;
+    let other = ask(&mut balancer, alloc, of(Message::BadExample))?;
     assert!(rt; matches!(other, Answer::Local(_, LocalReason::NoServer)));
-    for bytes in [QUERY, UPPER, BELOW] {
+    for bytes in [Message::Query, Message::Upper, Message::Below] {
         assert!(rt; is_dropped_by(&ask(&mut balancer, alloc, of(bytes))?, 2));
     }
     Ok(())
@@ -140,10 +137,10 @@ fn addresses_under_masks_and_an_opt(rt: HostRuntime) -> Result<(), Fail> {
     assert!(rt; is_refused_by(&ask(&mut balancer, alloc, PLAIN)?, 1));
     let source = Addr::V4([192, 0, 3, 1]);
     assert!(rt; is_no_server(&ask(&mut balancer, alloc, Query { source, ..PLAIN })?));
-    let answer = ask(&mut balancer, alloc, of(QUERY_OPT))?;
-    assert!(rt; is_local_by(&answer, 1, REFUSED_OPT));
-    let answer = ask(&mut balancer, alloc, of(QUERY_OPTS))?;
-    assert!(rt; is_local(&answer, LocalReason::Malformed, FORM_ERR));
+    let answer = ask(&mut balancer, alloc, of(Message::QueryOpt))?;
+    assert!(rt; is_local_by(&answer, 1, Message::RefusedOpt));
+    let answer = ask(&mut balancer, alloc, of(Message::QueryOpts))?;
+    assert!(rt; is_local(&answer, LocalReason::Malformed, Message::FormErr));
     Ok(())
 }
 
@@ -155,7 +152,7 @@ fn addresses_that_a_rule_states(rt: HostRuntime) -> Result<(), Fail> {
     let six = Addr::V6([0x20, 1, 0xd, 0xb8, 0, 0, 0, 0, 0, 0, 0, 0, 0, 0, 0, 7]);
     let addrs = Addrs::from_slice(&[Addr::V4([192, 0, 2, 7]), six]).ok_or("too many")?;
     add_rule(&mut balancer, Term::All, StatedAction::Spoof(addrs))?;
-    assert!(rt; is_local_by(&ask(&mut balancer, alloc, PLAIN)?, 2, SPOOFED));
+    assert!(rt; is_local_by(&ask(&mut balancer, alloc, PLAIN)?, 2, Message::Spoofed));
     Ok(())
 }
 
@@ -164,7 +161,7 @@ fn tc_ends_the_walk_of_a_datagram(rt: HostRuntime) -> Result<(), Fail> {
     let alloc = rt.alloc();
     let mut balancer = Balancer::new(alloc)?;
     add_rule(&mut balancer, Term::All, StatedAction::Tc)?;
-    assert!(rt; is_local_by(&ask(&mut balancer, alloc, PLAIN)?, 1, TRUNCATED));
+    assert!(rt; is_local_by(&ask(&mut balancer, alloc, PLAIN)?, 1, Message::Truncated));
     let kind = Kind::Stream;
     assert!(rt; is_no_server(&ask(&mut balancer, alloc, Query { kind, ..PLAIN })?));
     Ok(())
@@ -238,7 +235,7 @@ fn limiters_under_not_and_under_and(rt: HostRuntime) -> Result<(), Fail> {
     members.push(under_example(alloc)?)?;
     members.push(rate(1))?;
     add_rule(&mut balancer, Term::And(members), refusal())?;
-    let other = ask(&mut balancer, alloc, of(BAD_EXAMPLE))?;
+    let other = ask(&mut balancer, alloc, of(Message::BadExample))?;
     assert!(rt; matches!(other, Answer::Local(_, LocalReason::NoServer)));
     assert!(rt; is_no_server(&ask(&mut balancer, alloc, PLAIN)?));
     assert!(rt; is_refused_by(&ask(&mut balancer, alloc, PLAIN)?, 1));

@@ -1,12 +1,8 @@
 //! Servers, pools, queries that are sent to them, and their replies.
 
-use super::messages::{
-    DELIVERED, DELIVERED_SERV_FAIL, IPV6, QUERY, REPLY, REPLY_IPV6, REPLY_NX_DOMAIN,
-    REPLY_SERV_FAIL, REPLY_SHORT, REPLY_UPPER, SENT_0, SENT_16, SENT_17, SENT_18, SENT_65535,
-    SENT_IPV6, SENT_NO_RD, SERV_FAIL,
-};
+use super::messages::Message;
 use super::{
-    ONE, PLAIN, Query, add_rule, adding, ask, at, done, ident, is_dropped_by, is_no_server,
+    ONE, PLAIN, Query, add_rule, adding, ask, at, done, ident, is, is_dropped_by, is_no_server,
     is_park_fault, is_rules_fault, named, octets, of, origin, tell,
 };
 use crate::{Answer, Balancer, Command, Event, IgnoreReason, Note, StatedAction};
@@ -109,36 +105,36 @@ fn reply(
     alloc: Global,
     row: Row,
     lane: Lane,
-    bytes: &[u8],
+    message: Message,
 ) -> Result<Answer, AllocError> {
     Ok(balancer.step(Event::Reply {
         now: 2000,
         server: row.3,
         lane,
-        bytes: octets(alloc, bytes)?,
+        bytes: octets(alloc, message)?,
     }))
 }
 
 /// Whether a query is sent to a server by this lane, under this ID, in these octets.
-fn is_sent_by(answer: &Answer, row: Row, lane: Lane, id: u16, octets: &[u8]) -> bool {
+fn is_sent_by(answer: &Answer, row: Row, lane: Lane, id: u16, message: Message) -> bool {
     match answer {
         Answer::Forward(server, by, under, bytes) => {
-            *server == row.3 && *by == lane && *under == id && bytes.as_slice() == octets
+            *server == row.3 && *by == lane && *under == id && is(bytes, message)
         }
         _ => false,
     }
 }
 
 /// Whether a query is sent as a datagram.
-fn is_sent(answer: &Answer, row: Row, id: u16, octets: &[u8]) -> bool {
-    is_sent_by(answer, row, UDP, id, octets)
+fn is_sent(answer: &Answer, row: Row, id: u16, message: Message) -> bool {
+    is_sent_by(answer, row, UDP, id, message)
 }
 
 /// Whether a reply goes to the client that asked, in these octets.
-fn is_delivered(answer: &Answer, octets: &[u8]) -> bool {
+fn is_delivered(answer: &Answer, message: Message) -> bool {
     match answer {
         Answer::Deliver(to, bytes, kept) => {
-            *to == origin(ONE) && bytes.as_slice() == octets && *kept == Kept::No
+            *to == origin(ONE) && is(bytes, message) && *kept == Kept::No
         }
         _ => false,
     }
@@ -157,9 +153,9 @@ fn the_first_available_server(rt: HostRuntime) -> Result<(), Fail> {
     let late = ("s1", 5301, 2, ServerId(1));
     let mut balancer = serving(alloc, &[late, S2])?;
     assert!(rt; sets_policy(&mut balancer, Policy::FirstAvailable));
-    assert!(rt; is_sent(&ask(&mut balancer, alloc, PLAIN)?, S2, 16, SENT_16));
+    assert!(rt; is_sent(&ask(&mut balancer, alloc, PLAIN)?, S2, 16, Message::Sent16));
     assert!(rt; sets_mode(&mut balancer, S2, Mode::Down)?);
-    assert!(rt; is_sent(&ask(&mut balancer, alloc, PLAIN)?, S1, 16, SENT_16));
+    assert!(rt; is_sent(&ask(&mut balancer, alloc, PLAIN)?, S1, 16, Message::Sent16));
     Ok(())
 }
 
@@ -171,8 +167,15 @@ fn a_free_id_goes_round(rt: HostRuntime) -> Result<(), Fail> {
         word: 65535,
         ..PLAIN
     };
-    assert!(rt; is_sent(&ask(&mut balancer, alloc, last)?, S1, 65535, SENT_65535));
-    assert!(rt; is_sent(&ask(&mut balancer, alloc, last)?, S1, 0, SENT_0));
+    assert!(rt;
+        is_sent(
+            &ask(&mut balancer, alloc, last)?,
+            S1,
+            65535,
+            Message::Sent65535
+        )
+    );
+    assert!(rt; is_sent(&ask(&mut balancer, alloc, last)?, S1, 0, Message::Sent0));
     Ok(())
 }
 
@@ -181,9 +184,9 @@ fn the_server_with_the_fewest_outstanding(rt: HostRuntime) -> Result<(), Fail> {
     let alloc = rt.alloc();
     let mut balancer = serving(alloc, &[S1, S2, S3])?;
     for row in [S1, S2, S3] {
-        assert!(rt; is_sent(&ask(&mut balancer, alloc, PLAIN)?, row, 16, SENT_16));
+        assert!(rt; is_sent(&ask(&mut balancer, alloc, PLAIN)?, row, 16, Message::Sent16));
     }
-    assert!(rt; is_sent(&ask(&mut balancer, alloc, PLAIN)?, S1, 17, SENT_17));
+    assert!(rt; is_sent(&ask(&mut balancer, alloc, PLAIN)?, S1, 17, Message::Sent17));
     Ok(())
 }
 
@@ -196,10 +199,10 @@ fn both_lanes_are_counted(rt: HostRuntime) -> Result<(), Fail> {
         ..PLAIN
     };
     let answer = ask(&mut balancer, alloc, stream)?;
-    assert!(rt; is_sent_by(&answer, S1, TCP, 16, SENT_16));
-    assert!(rt; is_sent(&ask(&mut balancer, alloc, PLAIN)?, S2, 16, SENT_16));
+    assert!(rt; is_sent_by(&answer, S1, TCP, 16, Message::Sent16));
+    assert!(rt; is_sent(&ask(&mut balancer, alloc, PLAIN)?, S2, 16, Message::Sent16));
     // Each lane has IDs of its own.
-    assert!(rt; is_sent(&ask(&mut balancer, alloc, PLAIN)?, S1, 16, SENT_16));
+    assert!(rt; is_sent(&ask(&mut balancer, alloc, PLAIN)?, S1, 16, Message::Sent16));
     Ok(())
 }
 
@@ -210,7 +213,14 @@ fn rd_is_cleared(rt: HostRuntime) -> Result<(), Fail> {
     let id = add_rule(&mut balancer, Term::All, StatedAction::NoRecurse)?;
     assert_eq!(rt; id, RuleId(1));
     assert_eq!(rt; add_server(&mut balancer, alloc, S1)?, ServerId(1));
-    assert!(rt; is_sent(&ask(&mut balancer, alloc, PLAIN)?, S1, 16, SENT_NO_RD));
+    assert!(rt;
+        is_sent(
+            &ask(&mut balancer, alloc, PLAIN)?,
+            S1,
+            16,
+            Message::SentNoRd
+        )
+    );
     Ok(())
 }
 
@@ -225,7 +235,14 @@ fn a_pool_of_its_own(rt: HostRuntime) -> Result<(), Fail> {
     let id = add_rule(&mut balancer, Term::Qtype(RecordType::AAAA), to_pool)?;
     assert_eq!(rt; id, RuleId(1));
     assert!(rt; is_no_server(&ask(&mut balancer, alloc, PLAIN)?));
-    assert!(rt; is_sent(&ask(&mut balancer, alloc, of(IPV6))?, S1, 16, SENT_IPV6));
+    assert!(rt;
+        is_sent(
+            &ask(&mut balancer, alloc, of(Message::Ipv6))?,
+            S1,
+            16,
+            Message::SentIpv6
+        )
+    );
     Ok(())
 }
 
@@ -277,17 +294,17 @@ fn servers_in_turn(rt: HostRuntime) -> Result<(), Fail> {
     let alloc = rt.alloc();
     let mut balancer = serving(alloc, &[S1, S2, S3])?;
     assert!(rt; sets_policy(&mut balancer, Policy::RoundRobin));
-    assert!(rt; is_sent(&ask(&mut balancer, alloc, PLAIN)?, S1, 16, SENT_16));
+    assert!(rt; is_sent(&ask(&mut balancer, alloc, PLAIN)?, S1, 16, Message::Sent16));
     assert!(rt; sets_mode(&mut balancer, S2, Mode::Down)?);
-    assert!(rt; is_sent(&ask(&mut balancer, alloc, PLAIN)?, S3, 16, SENT_16));
-    assert!(rt; is_sent(&ask(&mut balancer, alloc, PLAIN)?, S1, 17, SENT_17));
+    assert!(rt; is_sent(&ask(&mut balancer, alloc, PLAIN)?, S3, 16, Message::Sent16));
+    assert!(rt; is_sent(&ask(&mut balancer, alloc, PLAIN)?, S1, 17, Message::Sent17));
     assert!(rt; sets_mode(&mut balancer, S2, Mode::Auto)?);
-    assert!(rt; is_sent(&ask(&mut balancer, alloc, PLAIN)?, S1, 18, SENT_18));
+    assert!(rt; is_sent(&ask(&mut balancer, alloc, PLAIN)?, S1, 18, Message::Sent18));
     // Where one is left, each turn is its.
     assert!(rt; sets_mode(&mut balancer, S1, Mode::Down)?);
     assert!(rt; sets_mode(&mut balancer, S3, Mode::Down)?);
-    assert!(rt; is_sent(&ask(&mut balancer, alloc, PLAIN)?, S2, 16, SENT_16));
-    assert!(rt; is_sent(&ask(&mut balancer, alloc, PLAIN)?, S2, 17, SENT_17));
+    assert!(rt; is_sent(&ask(&mut balancer, alloc, PLAIN)?, S2, 16, Message::Sent16));
+    assert!(rt; is_sent(&ask(&mut balancer, alloc, PLAIN)?, S2, 17, Message::Sent17));
     Ok(())
 }
 
@@ -295,11 +312,11 @@ fn servers_in_turn(rt: HostRuntime) -> Result<(), Fail> {
 fn a_removed_server_still_replies(rt: HostRuntime) -> Result<(), Fail> {
     let alloc = rt.alloc();
     let mut balancer = serving(alloc, &[S1])?;
-    assert!(rt; is_sent(&ask(&mut balancer, alloc, PLAIN)?, S1, 16, SENT_16));
+    assert!(rt; is_sent(&ask(&mut balancer, alloc, PLAIN)?, S1, 16, Message::Sent16));
     let removed = done(tell(&mut balancer, Command::ServerRemove(ident("s1")?)))?;
     assert!(rt; matches!(removed, Note::ServerRemoved(ServerId(1))));
-    let answer = reply(&mut balancer, alloc, S1, UDP, REPLY)?;
-    assert!(rt; is_delivered(&answer, DELIVERED));
+    let answer = reply(&mut balancer, alloc, S1, UDP, Message::Reply)?;
+    assert!(rt; is_delivered(&answer, Message::Delivered));
     assert!(rt; is_no_server(&ask(&mut balancer, alloc, at(2000))?));
     Ok(())
 }
@@ -308,21 +325,21 @@ fn a_removed_server_still_replies(rt: HostRuntime) -> Result<(), Fail> {
 fn which_reply_belongs(rt: HostRuntime) -> Result<(), Fail> {
     let alloc = rt.alloc();
     let mut balancer = serving(alloc, &[S1, S2])?;
-    assert!(rt; is_sent(&ask(&mut balancer, alloc, PLAIN)?, S1, 16, SENT_16));
+    assert!(rt; is_sent(&ask(&mut balancer, alloc, PLAIN)?, S1, 16, Message::Sent16));
     for (row, lane, bytes, why) in [
-        (S1, UDP, REPLY_IPV6, IgnoreReason::Mismatch),
-        (S2, UDP, REPLY, IgnoreReason::Unknown),
-        (S1, TCP, REPLY, IgnoreReason::Unknown),
-        (S1, UDP, REPLY_NX_DOMAIN, IgnoreReason::Mismatch),
+        (S1, UDP, Message::ReplyIpv6, IgnoreReason::Mismatch),
+        (S2, UDP, Message::Reply, IgnoreReason::Unknown),
+        (S1, TCP, Message::Reply, IgnoreReason::Unknown),
+        (S1, UDP, Message::ReplyNxDomain, IgnoreReason::Mismatch),
     ] {
         assert!(rt; is_ignored(&reply(&mut balancer, alloc, row, lane, bytes)?, why));
     }
-    let answer = reply(&mut balancer, alloc, S1, UDP, REPLY)?;
-    assert!(rt; is_delivered(&answer, DELIVERED));
+    let answer = reply(&mut balancer, alloc, S1, UDP, Message::Reply)?;
+    assert!(rt; is_delivered(&answer, Message::Delivered));
     for (bytes, why) in [
-        (REPLY, IgnoreReason::Unknown),
-        (REPLY_SHORT, IgnoreReason::Short),
-        (QUERY, IgnoreReason::NotReply),
+        (Message::Reply, IgnoreReason::Unknown),
+        (Message::ReplyShort, IgnoreReason::Short),
+        (Message::Query, IgnoreReason::NotReply),
     ] {
         assert!(rt; is_ignored(&reply(&mut balancer, alloc, S1, UDP, bytes)?, why));
     }
@@ -334,10 +351,10 @@ fn replies_as_their_clients_get_them(rt: HostRuntime) -> Result<(), Fail> {
     let alloc = rt.alloc();
     let mut balancer = serving(alloc, &[S1])?;
     for (bytes, delivered) in [
-        (REPLY_SERV_FAIL, DELIVERED_SERV_FAIL),
-        (REPLY_UPPER, DELIVERED),
+        (Message::ReplyServFail, Message::DeliveredServFail),
+        (Message::ReplyUpper, Message::Delivered),
     ] {
-        assert!(rt; is_sent(&ask(&mut balancer, alloc, PLAIN)?, S1, 16, SENT_16));
+        assert!(rt; is_sent(&ask(&mut balancer, alloc, PLAIN)?, S1, 16, Message::Sent16));
         assert!(rt; is_delivered(&reply(&mut balancer, alloc, S1, UDP, bytes)?, delivered));
     }
     Ok(())
@@ -364,10 +381,10 @@ fn wanting_memory_a_query_counts_nothing(rt: HostRuntime) -> Result<(), Fail> {
     for row in [S1, S2] {
         let mut answer = balancer.step(PLAIN.event(alloc)?);
         if let Answer::NoMemory(bytes) = &answer {
-            assert!(rt; bytes.as_slice() == SERV_FAIL);
+            assert!(rt; is(bytes, Message::ServFail));
             answer = balancer.step(PLAIN.event(alloc)?);
         }
-        assert!(rt; is_sent(&answer, row, 16, SENT_16));
+        assert!(rt; is_sent(&answer, row, 16, Message::Sent16));
     }
     assert!(rt; is_dropped_by(&ask(&mut balancer, alloc, PLAIN)?, 1));
     Ok(())
