@@ -25,19 +25,47 @@ const TCP: Lane = Lane {
     number: 0,
 };
 
-/// A server as the rows state it: its name, its port and its order; its number is the last.
-type Row = (&'static str, u16, u16, ServerId);
+/// A server of the rows. The tests name it, so that their proofs carry no text.
+#[derive(Clone, Copy)]
+enum Row {
+    S1,
+    S2,
+    S3,
+    /// Server 1 with order 2.
+    Late,
+}
 
-const S1: Row = ("s1", 5301, 1, ServerId(1));
+use Row::{Late, S1, S2, S3};
 
-const S2: Row = ("s2", 5302, 1, ServerId(2));
+impl Row {
+    fn name(self) -> &'static str {
+        match self {
+            S1 | Late => "s1",
+            S2 => "s2",
+            S3 => "s3",
+        }
+    }
 
-const S3: Row = ("s3", 5303, 1, ServerId(3));
+    fn id(self) -> ServerId {
+        match self {
+            S1 | Late => ServerId(1),
+            S2 => ServerId(2),
+            S3 => ServerId(3),
+        }
+    }
+
+    fn order(self) -> u16 {
+        match self {
+            Late => 2,
+            S1 | S2 | S3 => 1,
+        }
+    }
+}
 
 /// The command that adds a server to the default pool.
 fn adding_server(alloc: Global, row: Row) -> Result<Command, Fail> {
-    let mut spec = ServerSpec::new(alloc, ident(row.0)?, HERE, row.1);
-    spec.order = row.2;
+    let mut spec = ServerSpec::new(alloc, ident(row.name())?, HERE, 5301);
+    spec.order = row.order();
     Ok(Command::ServerAdd(spec))
 }
 
@@ -66,7 +94,7 @@ fn add_server(balancer: &mut Balancer, alloc: Global, row: Row) -> Result<Server
 fn serving(alloc: Global, rows: &[Row]) -> Result<Balancer, Fail> {
     let mut balancer = Balancer::new(alloc)?;
     for row in rows {
-        if add_server(&mut balancer, alloc, *row)? != row.3 {
+        if add_server(&mut balancer, alloc, *row)? != row.id() {
             return Err(Fail::from("another number"));
         }
     }
@@ -85,6 +113,17 @@ fn adds_pool(balancer: &mut Balancer, name: &str) -> Result<bool, Fail> {
     }
 }
 
+/// Adds the pools p2 to p63, and tells whether the answers say so.
+fn adds_pools(balancer: &mut Balancer, alloc: Global) -> Result<bool, Fail> {
+    for n in 2..=63u8 {
+        let name = format!(in alloc; "p{n}")?;
+        if !adds_pool(balancer, name.as_str())? {
+            return Ok(false);
+        }
+    }
+    Ok(true)
+}
+
 /// Gives the default pool a policy, and tells whether the answer says so.
 fn sets_policy(balancer: &mut Balancer, policy: Policy) -> bool {
     match tell(balancer, Command::PoolPolicy(PoolName::Default, policy)) {
@@ -95,8 +134,8 @@ fn sets_policy(balancer: &mut Balancer, policy: Policy) -> bool {
 
 /// Puts a server into a mode, and tells whether the answer says so.
 fn sets_mode(balancer: &mut Balancer, row: Row, mode: Mode) -> Result<bool, Fail> {
-    let note = done(tell(balancer, Command::ServerMode(ident(row.0)?, mode)))?;
-    Ok(matches!(note, Note::ServerMode(id, told) if id == row.3 && told == mode))
+    let note = done(tell(balancer, Command::ServerMode(ident(row.name())?, mode)))?;
+    Ok(matches!(note, Note::ServerMode(id, told) if id == row.id() && told == mode))
 }
 
 /// The answer to a reply from a server.
@@ -109,7 +148,7 @@ fn reply(
 ) -> Result<Answer, AllocError> {
     Ok(balancer.step(Event::Reply {
         now: 2000,
-        server: row.3,
+        server: row.id(),
         lane,
         bytes: octets(alloc, message)?,
     }))
@@ -119,7 +158,7 @@ fn reply(
 fn is_sent_by(answer: &Answer, row: Row, lane: Lane, id: u16, message: Message) -> bool {
     match answer {
         Answer::Forward(server, by, under, bytes) => {
-            *server == row.3 && *by == lane && *under == id && is(bytes, message)
+            *server == row.id() && *by == lane && *under == id && is(bytes, message)
         }
         _ => false,
     }
@@ -150,8 +189,7 @@ fn is_ignored(answer: &Answer, why: IgnoreReason) -> bool {
 #[test]
 fn the_first_available_server(rt: HostRuntime) -> Result<(), Fail> {
     let alloc = rt.alloc();
-    let late = ("s1", 5301, 2, ServerId(1));
-    let mut balancer = serving(alloc, &[late, S2])?;
+    let mut balancer = serving(alloc, &[Late, S2])?;
     assert!(rt; sets_policy(&mut balancer, Policy::FirstAvailable));
     assert!(rt; is_sent(&ask(&mut balancer, alloc, PLAIN)?, S2, 16, Message::Sent16));
     assert!(rt; sets_mode(&mut balancer, S2, Mode::Down)?);
@@ -183,9 +221,9 @@ fn a_free_id_goes_round(rt: HostRuntime) -> Result<(), Fail> {
 fn the_server_with_the_fewest_outstanding(rt: HostRuntime) -> Result<(), Fail> {
     let alloc = rt.alloc();
     let mut balancer = serving(alloc, &[S1, S2, S3])?;
-    for row in [S1, S2, S3] {
-        assert!(rt; is_sent(&ask(&mut balancer, alloc, PLAIN)?, row, 16, Message::Sent16));
-    }
+    assert!(rt; is_sent(&ask(&mut balancer, alloc, PLAIN)?, S1, 16, Message::Sent16));
+    assert!(rt; is_sent(&ask(&mut balancer, alloc, PLAIN)?, S2, 16, Message::Sent16));
+    assert!(rt; is_sent(&ask(&mut balancer, alloc, PLAIN)?, S3, 16, Message::Sent16));
     assert!(rt; is_sent(&ask(&mut balancer, alloc, PLAIN)?, S1, 17, Message::Sent17));
     Ok(())
 }
@@ -258,34 +296,32 @@ fn pools_and_servers_that_are_refused(rt: HostRuntime) -> Result<(), Fail> {
     assert!(rt; adds_pool(&mut balancer, "p1")?);
     let taken = tell(&mut balancer, Command::PoolAdd(named("p1")?));
     assert!(rt; is_park_fault(&taken, ParkFault::NameTaken));
-    for n in 2..=63u8 {
-        let name = format!(in alloc; "p{n}")?;
-        assert!(rt; adds_pool(&mut balancer, name.as_str())?);
-    }
+    assert!(rt; adds_pools(&mut balancer, alloc)?);
     let full = tell(&mut balancer, Command::PoolAdd(named("p64")?));
     assert!(rt; is_park_fault(&full, ParkFault::TooMany));
     Ok(())
+}
+
+/// Whether a command is refused so.
+fn refuses(balancer: &mut Balancer, command: Command, fault: ParkFault) -> bool {
+    is_park_fault(&tell(balancer, command), fault)
 }
 
 #[test]
 fn what_is_named_and_not_there_comes_first(rt: HostRuntime) -> Result<(), Fail> {
     let alloc = rt.alloc();
     let mut balancer = serving(alloc, &[S1])?;
-    let taken = tell(&mut balancer, Command::PoolAdd(PoolName::Default));
-    assert!(rt; is_park_fault(&taken, ParkFault::NameTaken));
-    for command in [
-        adding(Some(9), Term::All, StatedAction::Pool(named("nosuch")?))?,
-        adding_to(alloc, "s1", "nosuch")?,
-        Command::PoolPolicy(named("nosuch")?, Policy::RoundRobin),
-    ] {
-        assert!(rt; is_park_fault(&tell(&mut balancer, command), ParkFault::NoSuchPool));
-    }
-    for command in [
-        Command::ServerRemove(ident("S1")?),
-        Command::ServerMode(ident("S1")?, Mode::Down),
-    ] {
-        assert!(rt; is_park_fault(&tell(&mut balancer, command), ParkFault::NoSuchServer));
-    }
+    let b = &mut balancer;
+    assert!(rt; refuses(b, Command::PoolAdd(PoolName::Default), ParkFault::NameTaken));
+    let rule = adding(Some(9), Term::All, StatedAction::Pool(named("nosuch")?))?;
+    assert!(rt; refuses(b, rule, ParkFault::NoSuchPool));
+    assert!(rt; refuses(b, adding_to(alloc, "s1", "nosuch")?, ParkFault::NoSuchPool));
+    let policy = Command::PoolPolicy(named("nosuch")?, Policy::RoundRobin);
+    assert!(rt; refuses(b, policy, ParkFault::NoSuchPool));
+    let remove = Command::ServerRemove(ident("S1")?);
+    assert!(rt; refuses(b, remove, ParkFault::NoSuchServer));
+    let mode = Command::ServerMode(ident("S1")?, Mode::Down);
+    assert!(rt; refuses(b, mode, ParkFault::NoSuchServer));
     Ok(())
 }
 
@@ -321,28 +357,33 @@ fn a_removed_server_still_replies(rt: HostRuntime) -> Result<(), Fail> {
     Ok(())
 }
 
+/// Whether a reply is ignored so.
+fn ignores(
+    balancer: &mut Balancer,
+    alloc: Global,
+    reply_of: (Row, Lane),
+    message: Message,
+    why: IgnoreReason,
+) -> Result<bool, AllocError> {
+    let (row, lane) = reply_of;
+    Ok(is_ignored(&reply(balancer, alloc, row, lane, message)?, why))
+}
+
 #[test]
 fn which_reply_belongs(rt: HostRuntime) -> Result<(), Fail> {
     let alloc = rt.alloc();
     let mut balancer = serving(alloc, &[S1, S2])?;
-    assert!(rt; is_sent(&ask(&mut balancer, alloc, PLAIN)?, S1, 16, Message::Sent16));
-    for (row, lane, bytes, why) in [
-        (S1, UDP, Message::ReplyIpv6, IgnoreReason::Mismatch),
-        (S2, UDP, Message::Reply, IgnoreReason::Unknown),
-        (S1, TCP, Message::Reply, IgnoreReason::Unknown),
-        (S1, UDP, Message::ReplyNxDomain, IgnoreReason::Mismatch),
-    ] {
-        assert!(rt; is_ignored(&reply(&mut balancer, alloc, row, lane, bytes)?, why));
-    }
-    let answer = reply(&mut balancer, alloc, S1, UDP, Message::Reply)?;
+    let b = &mut balancer;
+    assert!(rt; is_sent(&ask(b, alloc, PLAIN)?, S1, 16, Message::Sent16));
+    assert!(rt; ignores(b, alloc, (S1, UDP), Message::ReplyIpv6, IgnoreReason::Mismatch)?);
+    assert!(rt; ignores(b, alloc, (S2, UDP), Message::Reply, IgnoreReason::Unknown)?);
+    assert!(rt; ignores(b, alloc, (S1, TCP), Message::Reply, IgnoreReason::Unknown)?);
+    assert!(rt; ignores(b, alloc, (S1, UDP), Message::ReplyNxDomain, IgnoreReason::Mismatch)?);
+    let answer = reply(b, alloc, S1, UDP, Message::Reply)?;
     assert!(rt; is_delivered(&answer, Message::Delivered));
-    for (bytes, why) in [
-        (Message::Reply, IgnoreReason::Unknown),
-        (Message::ReplyShort, IgnoreReason::Short),
-        (Message::Query, IgnoreReason::NotReply),
-    ] {
-        assert!(rt; is_ignored(&reply(&mut balancer, alloc, S1, UDP, bytes)?, why));
-    }
+    assert!(rt; ignores(b, alloc, (S1, UDP), Message::Reply, IgnoreReason::Unknown)?);
+    assert!(rt; ignores(b, alloc, (S1, UDP), Message::ReplyShort, IgnoreReason::Short)?);
+    assert!(rt; ignores(b, alloc, (S1, UDP), Message::Query, IgnoreReason::NotReply)?);
     Ok(())
 }
 
@@ -350,19 +391,30 @@ fn which_reply_belongs(rt: HostRuntime) -> Result<(), Fail> {
 fn replies_as_their_clients_get_them(rt: HostRuntime) -> Result<(), Fail> {
     let alloc = rt.alloc();
     let mut balancer = serving(alloc, &[S1])?;
-    for (bytes, delivered) in [
-        (Message::ReplyServFail, Message::DeliveredServFail),
-        (Message::ReplyUpper, Message::Delivered),
-    ] {
-        assert!(rt; is_sent(&ask(&mut balancer, alloc, PLAIN)?, S1, 16, Message::Sent16));
-        assert!(rt; is_delivered(&reply(&mut balancer, alloc, S1, UDP, bytes)?, delivered));
-    }
+    assert!(rt; is_sent(&ask(&mut balancer, alloc, PLAIN)?, S1, 16, Message::Sent16));
+    let answer = reply(&mut balancer, alloc, S1, UDP, Message::ReplyServFail)?;
+    assert!(rt; is_delivered(&answer, Message::DeliveredServFail));
+    assert!(rt; is_sent(&ask(&mut balancer, alloc, PLAIN)?, S1, 16, Message::Sent16));
+    let answer = reply(&mut balancer, alloc, S1, UDP, Message::ReplyUpper)?;
+    assert!(rt; is_delivered(&answer, Message::Delivered));
     Ok(())
 }
 
 /// The command that has the third query of an address within a second dropped.
 fn limiting() -> Result<Command, TermFault> {
     adding(None, Term::MaxQps(2, 32, 64), StatedAction::Drop)
+}
+
+/// Whether a query is sent to a server, where memory was wanting at the second time; then it is first answered ServFail.
+fn is_sent_at_last(balancer: &mut Balancer, alloc: Global, row: Row) -> Result<bool, AllocError> {
+    let mut answer = balancer.step(PLAIN.event(alloc)?);
+    if let Answer::NoMemory(bytes) = &answer {
+        if !is(bytes, Message::ServFail) {
+            return Ok(false);
+        }
+        answer = balancer.step(PLAIN.event(alloc)?);
+    }
+    Ok(is_sent(&answer, row, 16, Message::Sent16))
 }
 
 /// Where memory is wanting for a rule, no number is given. Where it is wanting for a query, no pass, no turn and no
@@ -378,14 +430,8 @@ fn wanting_memory_a_query_counts_nothing(rt: HostRuntime) -> Result<(), Fail> {
         told = tell(&mut balancer, limiting()?);
     }
     assert!(rt; matches!(told, Answer::Edited(Note::RuleAdded(RuleId(1)))));
-    for row in [S1, S2] {
-        let mut answer = balancer.step(PLAIN.event(alloc)?);
-        if let Answer::NoMemory(bytes) = &answer {
-            assert!(rt; is(bytes, Message::ServFail));
-            answer = balancer.step(PLAIN.event(alloc)?);
-        }
-        assert!(rt; is_sent(&answer, row, 16, Message::Sent16));
-    }
+    assert!(rt; is_sent_at_last(&mut balancer, alloc, S1)?);
+    assert!(rt; is_sent_at_last(&mut balancer, alloc, S2)?);
     assert!(rt; is_dropped_by(&ask(&mut balancer, alloc, PLAIN)?, 1));
     Ok(())
 }
