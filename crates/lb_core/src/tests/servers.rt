@@ -375,14 +375,38 @@ fn which_reply_belongs(rt: HostRuntime) -> Result<(), Fail> {
     let mut balancer = serving(alloc, &[S1, S2])?;
     let b = &mut balancer;
     assert!(rt; is_sent(&ask(b, alloc, PLAIN)?, S1, 16, Message::Sent16));
-    assert!(rt; ignores(b, alloc, (S1, UDP), Message::ReplyIpv6, IgnoreReason::Mismatch)?);
+    assert!(rt;
+        ignores(
+            b,
+            alloc,
+            (S1, UDP),
+            Message::ReplyIpv6,
+            IgnoreReason::Mismatch
+        )?
+    );
     assert!(rt; ignores(b, alloc, (S2, UDP), Message::Reply, IgnoreReason::Unknown)?);
     assert!(rt; ignores(b, alloc, (S1, TCP), Message::Reply, IgnoreReason::Unknown)?);
-    assert!(rt; ignores(b, alloc, (S1, UDP), Message::ReplyNxDomain, IgnoreReason::Mismatch)?);
+    assert!(rt;
+        ignores(
+            b,
+            alloc,
+            (S1, UDP),
+            Message::ReplyNxDomain,
+            IgnoreReason::Mismatch
+        )?
+    );
     let answer = reply(b, alloc, S1, UDP, Message::Reply)?;
     assert!(rt; is_delivered(&answer, Message::Delivered));
     assert!(rt; ignores(b, alloc, (S1, UDP), Message::Reply, IgnoreReason::Unknown)?);
-    assert!(rt; ignores(b, alloc, (S1, UDP), Message::ReplyShort, IgnoreReason::Short)?);
+    assert!(rt;
+        ignores(
+            b,
+            alloc,
+            (S1, UDP),
+            Message::ReplyShort,
+            IgnoreReason::Short
+        )?
+    );
     assert!(rt; ignores(b, alloc, (S1, UDP), Message::Query, IgnoreReason::NotReply)?);
     Ok(())
 }
