@@ -1,5 +1,5 @@
 -- A reply that belongs to the query which waits for it is delivered.
-use Rattle.std.proofs.Common.{◌≡◌, Bool, true, false, List, ℕ, Option, Some, None, Ok, refl, sym, ◌∙◌, ap, subst}
+use Rattle.std.proofs.Common.{◌≡◌, Bool, true, List, ℕ, Some, Ok, sym, ◌∙◌, ap}
 use Rattle.std.specs.Prelude.{if◌then◌else◌}
 use Rattle.lb_wire.specs.Belongs.{belongs}
 use Rattle.lb_wire.specs.declared.ids.ServerId.{ServerId}

@@ -1,6 +1,5 @@
 -- The routes after an event follow from the routes before it, the event, its reading and its answer.
-use Rattle.std.proofs.Common.{◌≡◌, ℕ, zero, suc, ◌+◌, ◌^◌, ◌==◌, ◌||◌, Bool, true, false, not, List, [], ◌∷◌, ◌++◌, length, map, max, nat_le, Option, None, Some, Result, Ok, Err, refl, sym, ◌∙◌, ap, subst, arith}
-use Rattle.std.proofs.lemmas.Bool.{both_ways}
+use Rattle.std.proofs.Common.{◌≡◌, ℕ, zero, suc, ◌+◌, ◌^◌, ◌==◌, ◌||◌, Bool, true, false, not, List, [], ◌∷◌, ◌++◌, length, map, nat_le, Option, None, Some, Result, Ok, Err, refl, sym, ◌∙◌, ap}
 use Rattle.std.specs.Prelude.{if◌then◌else◌, is_some, option_map, slice_get}
 use Rattle.lb_wire.specs.Belongs.{belongs}
 use Rattle.lb_wire.specs.declared.ids.PoolId.{PoolId}
@@ -13,18 +12,15 @@ use Rattle.lb_wire.specs.declared.reply.ReplyView.{ReplyView}
 use Rattle.lb_wire.specs.declared.reply.ReplyFault.{ReplyFault}
 use Rattle.lb_wire.specs.declared.reply.ReplyFault.TheVariants as reply_faults
 use Rattle.lb_chain.specs.declared.fault.ChainFault.{ChainFault}
-use Rattle.lb_chain.specs.declared.numbered.Numbered.{Numbered}
 use Rattle.lb_chain.specs.declared.rule.Rule.{Rule}
 use Rattle.lb_chain.specs.declared.walked.Walked.{Walked}
-use Rattle.lb_chain.specs.Edits.{Rules, added, moved, removed}
-use Rattle.lb_chain.specs.Seen.{seen_rules, SeenTwice}
+use Rattle.lb_chain.specs.Edits.{Rules, moved, removed}
+use Rattle.lb_chain.specs.Seen.{SeenTwice}
 use Rattle.lb_servers.specs.declared.fault.ParkFault.{ParkFault}
-use Rattle.lb_servers.specs.declared.server.Server.{Server}
 use Rattle.lb_servers.specs.Park.{Backends, added_pool, added_server, changed_pool, changed_server, max_pools, max_servers, removed_server}
 use Rattle.lb_servers.specs.Pool.{pool_named, with_policy}
 use Rattle.lb_servers.specs.Server.{change_server, is_server, server_named, with_mode}
 use Rattle.lb_table.specs.declared.entry.Entry.{Entry}
-use Rattle.lb_table.specs.declared.entry.Waiting.{Waiting}
 use Rattle.lb_table.specs.declared.place.Place.{Place}
 use Rattle.lb_table.specs.Place.{at_place}
 use Rattle.lb_table.specs.Table.{entry_at}
@@ -36,19 +32,17 @@ use Rattle.lb_core.specs.declared.command.Command.TheVariants.{RuleAdd, RuleRemo
 use Rattle.lb_core.specs.declared.answer.Answer.{Answer}
 use Rattle.lb_core.specs.declared.answer.Note.{Note}
 use Rattle.lb_core.specs.declared.answer.Note.TheVariants as notes
-use Rattle.lb_core.specs.Answer.{is_refused, marked}
-use Rattle.lb_core.specs.Plain.{Plain, at_plain, chain_of, upstreams_of, with_chain, with_upstreams}
-use Rattle.lb_core.specs.Upstream.{Upstreams, backends_of, loaded_by, server_of, with_backends}
-use Rattle.lb_core.specs.Edit.{edit_of, place_or_end, pool_edited, rule_added, rule_by, rules_edited, rules_told, server_by, server_edited, servers_told, upstream_changed, upstream_edited}
+use Rattle.lb_core.specs.Answer.{marked}
+use Rattle.lb_core.specs.Plain.{Plain, at_plain, chain_of, upstreams_of, with_chain}
+use Rattle.lb_core.specs.Upstream.{Upstreams, backends_of}
+use Rattle.lb_core.specs.Edit.{edit_of, place_or_end, pool_edited, rule_added, rule_by, rules_told, server_by, server_edited, servers_told, upstream_changed, upstream_edited}
 use Rattle.lb_core.specs.Query.{QuerySteps, ReadSteps, WalkedSteps, is_transfer, walked_of}
 use Rattle.lb_core.specs.Reading.{Reading, OfNone, OfQuery, OfReply, moment_of}
 use Rattle.lb_core.specs.Reply.{held_against, reply_step}
 use Rattle.lb_core.specs.Step.{RoutesFollow, StepsAt, asked_at}
-use Rattle.lb_core.proofs.ChainEdits.{false_true}
-use Rattle.lb_core.proofs.Follows.{Follows, refuses, follows_added, follows_changed_pool, follows_changed_server, follows_moved, follows_pool, follows_removed, follows_removed_server, follows_server}
-use Rattle.lb_core.proofs.Forwards.{ended_plain}
+use Rattle.lb_core.proofs.Follows.{Follows, follows_added, follows_moved, follows_removed}
 use Rattle.std.proofs.lemmas.List.{length-map, map-append}
-use Rattle.std.specs.List.{filter, list_any, position, position_or_len}
+use Rattle.std.specs.List.{filter, list_any, position_or_len}
 use Rattle.lb_wire.specs.declared.addr.Origin.{Origin}
 use Rattle.lb_wire.specs.declared.transport.Kind.{Kind}
 use Rattle.lb_servers.specs.declared.fault.ParkFault.TheVariants as park_faults
@@ -70,7 +64,7 @@ use Rattle.lb_core.specs.declared.command.StatedRule.{StatedRule}
 use Rattle.lb_core.specs.Edit.{action_by}
 use Rattle.lb_core.specs.Forward.{PickForwards, sent}
 use Rattle.lb_core.specs.Query.{EndDecides, RuleDecides, default_pool, with_passes}
-use Rattle.lb_core.specs.Routes.{RoutePool, Routes, carried_out, left_by, passed_unless, route_named, route_of, routes_of, with_added, with_rules}
+use Rattle.lb_core.specs.Routes.{RoutePool, carried_out, left_by, passed_unless, route_named, route_of, routes_of, with_added, with_rules}
 use Rattle.lb_core.specs.Upstream.{picked_of, takes_turns, turned_if, with_turn}
 use Rattle.lb_core.proofs.Refusals.{IsSeen, left_of, own_chain, seen_at, told_of}
 

@@ -1,17 +1,15 @@
 -- Edits of the chain and of the servers and pools: one that is refused leaves what it was given, and one that is carried out
 -- is what it is where no memory is wanting.
-use Rattle.std.proofs.Common.{◌≡◌, ℕ, ◌+◌, ◌^◌, ◌==◌, Bool, true, false, not, List, [], ◌∷◌, ◌++◌, length, Option, Some, None, Result, Ok, Err, nat_le, nat_lt, refl, sym, ◌∙◌, ap}
+use Rattle.std.proofs.Common.{◌≡◌, ℕ, ◌+◌, ◌^◌, ◌==◌, Bool, true, false, not, [], ◌∷◌, ◌++◌, length, Option, Some, None, Result, Ok, Err, nat_le, nat_lt, refl}
 use Rattle.std.specs.Prelude.{if◌then◌else◌, is_some, slice_get}
-use Rattle.std.specs.List.{filter, insert, list_any, remove}
+use Rattle.std.specs.List.{filter, insert, list_any}
 use Rattle.lb_wire.specs.declared.ids.PoolId.{PoolId}
 use Rattle.lb_wire.specs.declared.ids.RuleId.{RuleId}
 use Rattle.lb_wire.specs.declared.ids.ServerId.{ServerId}
 use Rattle.lb_terms.specs.Truth.{limiters_of}
-use Rattle.lb_chain.specs.declared.fault.ChainFault.{ChainFault}
 use Rattle.lb_chain.specs.declared.fault.ChainFault.TheVariants as chain_faults
 use Rattle.lb_chain.specs.declared.rule.Rule.{Rule}
 use Rattle.lb_chain.specs.Edits.{Rules, added, limiters_in, max_limiters, max_rules, moved, moved_at, numbered_of, place_of, put_again, removed, removed_at}
-use Rattle.lb_servers.specs.declared.fault.ParkFault.{ParkFault}
 use Rattle.lb_servers.specs.declared.fault.ParkFault.TheVariants as park_faults
 use Rattle.lb_servers.specs.declared.pool.Pool.{Pool}
 use Rattle.lb_servers.specs.declared.pool.PoolName.{PoolName}

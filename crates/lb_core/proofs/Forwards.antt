@@ -1,5 +1,5 @@
 -- A query that was sent is forwarded as the definition says, and shows no want of memory.
-use Rattle.std.proofs.Common.{◌≡◌, ℕ, Bool, true, false, List, Option, Some, None, Ok, refl, sym, ◌∙◌, ap, subst}
+use Rattle.std.proofs.Common.{◌≡◌, ℕ, Bool, false, List, Option, Some, None, Ok, refl, sym, ◌∙◌, ap, subst}
 use Rattle.lb_wire.specs.declared.ids.PoolId.{PoolId}
 use Rattle.lb_wire.specs.declared.ids.RuleId.{RuleId}
 use Rattle.lb_wire.specs.declared.ids.ServerId.{ServerId}
@@ -16,7 +16,7 @@ use Rattle.lb_core.specs.declared.answer.Answer.TheVariants.{Forward}
 use Rattle.lb_core.specs.Answer.{is_refused, marked}
 use Rattle.lb_core.specs.Upstream.{Upstreams, SendsBy, picked_of, with_entry, with_turn}
 use Rattle.lb_core.specs.Forward.{Forwards, PickForwards, entry_of, lane_of, sent, sent_of, with_id}
-use Rattle.lb_core.specs.Query.{Decides, EndDecides, RuleDecides, default_pool}
+use Rattle.lb_core.specs.Query.{EndDecides, RuleDecides, default_pool}
 
 -- a query that was sent
 pub sent_on : (ups new : Upstreams) (asked : Asked) (bytes : List ℕ) (view : QueryView) (no_recurse : Bool) (pool : PoolId) (server : ServerId) (lane : Lane) (id : ℕ) (entry : Entry) (octets : List ℕ) →

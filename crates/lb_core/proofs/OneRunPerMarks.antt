@@ -1,5 +1,5 @@
 -- Events and marks determine a run.
-use Rattle.std.proofs.Common.{◌≡◌, ℕ, ◌+◌, ◌%◌, ◌^◌, ◌<◌, Bool, true, false, List, [], ◌∷◌, map, Option, None, Some, Result, Ok, Err, inl, inr, refl, sym, ◌∙◌, ap, subst, arith}
+use Rattle.std.proofs.Common.{◌≡◌, ℕ, ◌+◌, ◌%◌, ◌^◌, ◌<◌, Bool, true, false, List, [], ◌∷◌, map, Option, None, Some, Result, Ok, Err, refl, sym, ◌∙◌, ap, subst, arith}
 use Rattle.std.proofs.lemmas.Bool.{both_ways}
 use Rattle.lb_wire.specs.Query.{OneReading}
 use Rattle.lb_wire.specs.Reply.{OneReplyReading}
@@ -21,12 +21,11 @@ use Rattle.lb_core.specs.declared.event.Event.{Event}
 use Rattle.lb_core.specs.declared.event.Event.TheVariants.{Query, Reply, Edit}
 use Rattle.lb_core.specs.declared.answer.Answer.{Answer}
 use Rattle.lb_core.specs.Answer.{Leaves, marked}
-use Rattle.lb_core.specs.Edit.{edit_of, upstream_changed}
+use Rattle.lb_core.specs.Edit.{edit_of}
 use Rattle.lb_core.specs.Forward.{PickForwards, lane_of, sent}
 use Rattle.lb_core.specs.Plain.{Plain, at_plain, upstreams_of, with_upstreams}
 use Rattle.lb_core.specs.Query.{EndDecides, QuerySteps, ReadSteps, RuleDecides, WalkedSteps, default_pool, is_transfer, walked_of, with_passes}
-use Rattle.lb_core.specs.Reading.{Reading, OfNone, OfQuery, OfReply, OneEventReading, ReadsEvent, moment_of}
-use Rattle.lb_core.specs.Reply.{reply_step}
+use Rattle.lb_core.specs.Reading.{Reading, OfNone, OfQuery, OfReply, OneEventReading, moment_of}
 use Rattle.lb_core.specs.Runs.{IsRun}
 use Rattle.lb_core.specs.Step.{Answers, StepsAt, asked_at}
 use Rattle.lb_core.specs.Upstream.{Upstreams, picked_of, with_turn}

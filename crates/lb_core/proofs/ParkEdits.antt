@@ -1,5 +1,5 @@
 -- An edit of the servers and pools that lacked memory: no other refusal meets it.
-use Rattle.std.proofs.Common.{◌≡◌, ℕ, ◌+◌, ◌^◌, ◌==◌, Bool, true, false, IsTrue, List, [], ◌∷◌, ◌++◌, length, Result, Ok, Err, nat_le, refl, sym, ◌∙◌, ap}
+use Rattle.std.proofs.Common.{◌≡◌, ◌^◌, ◌==◌, Bool, true, false, IsTrue, length, Result, Ok, Err, nat_le, refl, sym, ◌∙◌, ap}
 use Rattle.std.specs.Prelude.{if◌then◌else◌, is_some}
 use Rattle.std.specs.List.{list_any}
 use Rattle.lb_wire.specs.declared.ids.PoolId.{PoolId}
@@ -12,8 +12,7 @@ use Rattle.lb_servers.specs.Park.{Backends, added_pool, added_server, lacks, max
 use Rattle.lb_servers.specs.Pool.{is_named}
 use Rattle.lb_servers.specs.Server.{server_named}
 use Rattle.lb_servers.specs.Spec.{lacks_pool, stated_pools}
-use Rattle.lb_core.specs.declared.answer.Answer.{Answer}
-use Rattle.lb_core.specs.declared.answer.Answer.TheVariants.{Edited, Refused}
+use Rattle.lb_core.specs.declared.answer.Answer.TheVariants.{Refused}
 use Rattle.lb_core.specs.declared.answer.EditFault.TheVariants.{Servers}
 use Rattle.lb_core.specs.declared.answer.Note.{Note}
 use Rattle.lb_core.specs.declared.answer.Note.TheVariants.{PoolAdded, ServerAdded}

@@ -1,11 +1,10 @@
 -- The server that a pool picks is one of those that are there.
-use Rattle.std.proofs.Common.{◌≡◌, ℕ, ◌%◌, ◌<◌, Bool, true, false, List, [], ◌∷◌, length, get_or, Option, Some, None, IfSome, inl, inr, refl, sym, ◌∙◌, ap, subst, nat_lt}
+use Rattle.std.proofs.Common.{ℕ, ◌%◌, ◌<◌, Bool, true, false, List, [], ◌∷◌, length, Option, Some, None, IfSome, inl, inr, sym, subst, nat_lt}
 use Rattle.std.specs.Prelude.{if◌then◌else◌, slice_get, option_map}
 use Rattle.std.specs.Option.{option_and_then}
-use Rattle.std.specs.List.{AllByRecursion, filter, fold, insert, reduce}
+use Rattle.std.specs.List.{AllByRecursion, fold}
 use Rattle.std.proofs.lemmas.Option.{slice_get_cases}
 use Rattle.lb_wire.specs.declared.ids.PoolId.{PoolId}
-use Rattle.lb_wire.specs.declared.ids.ServerId.{ServerId}
 use Rattle.lb_servers.specs.declared.pool.Policy.{Policy}
 use Rattle.lb_servers.specs.declared.pool.Policy.TheVariants.{FirstAvailable, LeastOutstanding, RoundRobin}
 use Rattle.lb_servers.specs.declared.pool.Pool.{Pool}

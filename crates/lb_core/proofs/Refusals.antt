@@ -1,5 +1,5 @@
 -- Refused events change nothing but the moment.
-use Rattle.std.proofs.Common.{◌≡◌, ℕ, Bool, true, false, List, [], ◌∷◌, map, max, Option, None, Some, Result, Ok, Err, refl, sym, ◌∙◌, ap, subst, arith}
+use Rattle.std.proofs.Common.{◌≡◌, ℕ, Bool, true, false, List, [], ◌∷◌, map, max, Option, None, Some, Result, Ok, Err, refl, sym, ◌∙◌, ap, arith}
 use Rattle.std.proofs.lemmas.Bool.{both_ways}
 use Rattle.std.specs.Prelude.{if◌then◌else◌}
 use Rattle.lb_wire.specs.Belongs.{belongs}
@@ -16,7 +16,7 @@ use Rattle.lb_chain.specs.declared.fault.ChainFault.{ChainFault}
 use Rattle.lb_chain.specs.declared.numbered.Numbered.{Numbered}
 use Rattle.lb_chain.specs.declared.rule.Rule.{Rule}
 use Rattle.lb_chain.specs.declared.walked.Walked.{Walked}
-use Rattle.lb_chain.specs.Edits.{Rules, added, moved, removed}
+use Rattle.lb_chain.specs.Edits.{Rules, moved, removed}
 use Rattle.lb_chain.specs.Seen.{seen_rules, SeenTwice}
 use Rattle.lb_servers.specs.declared.fault.ParkFault.{ParkFault}
 use Rattle.lb_servers.specs.declared.server.Server.{Server}
@@ -39,12 +39,11 @@ use Rattle.lb_core.specs.declared.answer.Note.TheVariants as notes
 use Rattle.lb_core.specs.Answer.{is_refused, marked}
 use Rattle.lb_core.specs.Plain.{Plain, at_plain, chain_of, upstreams_of, with_chain, with_upstreams}
 use Rattle.lb_core.specs.Upstream.{Upstreams, backends_of, loaded_by, server_of, with_backends}
-use Rattle.lb_core.specs.Edit.{edit_of, place_or_end, pool_edited, rule_added, rule_by, rules_edited, rules_told, server_by, server_edited, servers_told, upstream_changed, upstream_edited}
+use Rattle.lb_core.specs.Edit.{edit_of, place_or_end, pool_edited, rule_added, rule_by, rules_told, server_by, server_edited, servers_told, upstream_changed, upstream_edited}
 use Rattle.lb_core.specs.Query.{QuerySteps, ReadSteps, WalkedSteps, is_transfer, walked_of}
 use Rattle.lb_core.specs.Reading.{Reading, OfNone, OfQuery, OfReply, moment_of}
 use Rattle.lb_core.specs.Reply.{held_against, reply_step}
 use Rattle.lb_core.specs.Step.{RefusalsChangeNothing, StepsAt, asked_at}
-use Rattle.lb_core.proofs.ChainEdits.{false_true}
 use Rattle.lb_core.proofs.Follows.{Follows, refuses, follows_added, follows_changed_pool, follows_changed_server, follows_moved, follows_pool, follows_removed, follows_removed_server, follows_server}
 use Rattle.lb_core.proofs.Forwards.{ended_plain}
 

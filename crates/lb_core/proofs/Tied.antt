@@ -1,17 +1,15 @@
 -- Each server's count is the number of its outstanding queries, through each change of the table of servers and of the
 -- outstanding list.
-use Rattle.std.proofs.Common.{◌≡◌, ℕ, ◌+◌, ◌-◌, ◌<◌, ◌≤◌, ◌^◌, ◌==◌, ◌&&◌, Bool, true, false, not, IsTrue, List, [], ◌∷◌, ◌++◌, length, map, get_or, Option, Some, None, IfSome, cond, inl, inr, refl, sym, ◌∙◌, ap, subst, arith, nat_le, ltb, Result, Ok, Err}
+use Rattle.std.proofs.Common.{◌≡◌, ℕ, ◌+◌, ◌-◌, ◌<◌, ◌^◌, ◌==◌, ◌&&◌, Bool, true, false, not, IsTrue, List, [], ◌∷◌, ◌++◌, length, map, get_or, Option, Some, None, cond, inl, inr, refl, sym, ◌∙◌, ap, subst, arith, nat_le, ltb, Ok, Err}
 use Rattle.std.specs.Prelude.{if◌then◌else◌, is_some, slice_get, option_map}
 use Rattle.std.specs.List.{AllByRecursion, All, count_by, filter, find, insert, list_any, position, position_or_len, remove}
 use Rattle.std.proofs.lemmas.Bool.Decides.{nat_tests}
-use Rattle.std.proofs.lemmas.Bool.{le-ltb, lt-ltb, cond-true, cond-false, cases_Bool}
+use Rattle.std.proofs.lemmas.Bool.{le-ltb, lt-ltb, cond-true, cond-false}
 use Rattle.std.proofs.lemmas.List.Folds.{find_at}
 use Rattle.std.proofs.lemmas.List.Sums.{sum_by-insert, sum_by-remove, sum_by-cons, count_by-le-length, passes_at_first}
 use Rattle.std.proofs.lemmas.Option.{slice_get_cases}
 use Rattle.lb_wire.specs.declared.ids.ServerId.{ServerId}
 use Rattle.lb_wire.specs.declared.ids.PoolId.{PoolId}
-use Rattle.lb_wire.specs.declared.transport.Lane.{Lane}
-use Rattle.lb_servers.specs.declared.fault.ParkFault.{ParkFault}
 use Rattle.lb_servers.specs.declared.fault.ParkFault.TheVariants as faults
 use Rattle.lb_servers.specs.declared.pool.Pool.{Pool}
 use Rattle.lb_servers.specs.declared.pool.PoolName.{PoolName}
@@ -26,11 +24,10 @@ use Rattle.lb_servers.specs.Spec.{lacks_pool, new_server, stated_pools}
 use Rattle.lb_table.specs.declared.place.Place.{Place}
 use Rattle.lb_table.specs.declared.entry.Entry.{Entry}
 use Rattle.lb_table.specs.declared.entry.Waiting.{Waiting}
-use Rattle.lb_table.specs.Place.{same_place, same_lane}
 use Rattle.lb_table.specs.Table.{entered, entry_at, is_at, is_for, taken_at, waits_at}
 use Rattle.lb_core.specs.Upstream.{Upstreams, IsAsked, IsTied, backends_of, loaded_by, on_backends, server_of, turned_if, with_backends, with_entry, with_turn}
 use Rattle.lb_core.specs.Reply.{without}
-use Rattle.lb_core.proofs.Each.{each_append, each_at, each_filter, each_insert, each_map, each_remove, each_weaker, all_of_each}
+use Rattle.lb_core.proofs.Each.{each_append, each_at, each_filter, each_insert, each_remove, each_weaker, all_of_each}
 
 -- a server's count is right
 abbrev pub Counts : List Waiting → Loaded → Type 0

@@ -2,7 +2,6 @@
 use Rattle.std.specs.Prelude.{◌≡◌, ℕ, Bool, false, List, length, Option, Some, None, option_map, Result, Ok, Err}
 use Rattle.lb_wire.specs.declared.ids.PoolId.{PoolId}
 use Rattle.lb_wire.specs.declared.ids.ServerId.{ServerId}
-use Rattle.lb_wire.specs.declared.ids.RuleId.{RuleId}
 use Rattle.lb_chain.specs.declared.action.Action.{Action}
 use Rattle.lb_chain.specs.declared.action.Action.TheVariants as actions
 use Rattle.lb_chain.specs.declared.fault.ChainFault.{ChainFault}

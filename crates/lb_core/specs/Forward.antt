@@ -1,5 +1,5 @@
 -- Forwarding: a server is picked for a query, and the query is sent to it under an ID that is free there.
-use Rattle.std.specs.Prelude.{◌≡◌, ℕ, Bool, true, false, List, ◌++◌, drop, Option, None, Some}
+use Rattle.std.specs.Prelude.{ℕ, Bool, true, false, List, ◌++◌, drop, Option, None, Some}
 use Rattle.lb_wire.specs.BigEndian.{two_octets}
 use Rattle.lb_wire.specs.Answer.{refusal_of}
 use Rattle.lb_wire.specs.Numbers.{rcode_number}

@@ -1,6 +1,6 @@
 -- The life of a query: it is read, transfers are refused, the rules are walked, and their verdict answers it or names the
 -- pool that is to answer it.
-use Rattle.std.specs.Prelude.{◌≡◌, ℕ, Bool, true, false, ◌==◌, ◌||◌, nat_lt, List, length, Option, None, Some, Result, Ok, Err, if◌then◌else◌}
+use Rattle.std.specs.Prelude.{◌≡◌, ℕ, Bool, true, false, ◌==◌, ◌||◌, nat_lt, List, length, Option, None, Some, Result, Ok, Err}
 use Rattle.lb_wire.specs.Query.{Reads}
 use Rattle.lb_wire.specs.Answer.{refusal_of, truncated_of, spoofed_of, formerr_of}
 use Rattle.lb_wire.specs.Numbers.{rcode_number}

@@ -1,5 +1,5 @@
 -- The step: what one event does to the plain state, and its answer.
-use Rattle.std.specs.Prelude.{◌≡◌, ℕ, Bool, true, List, IsTrue, map}
+use Rattle.std.specs.Prelude.{◌≡◌, ℕ, true, IsTrue}
 use Rattle.lb_wire.specs.declared.query.QueryView.{QueryView}
 use Rattle.lb_wire.specs.declared.addr.Origin.{Origin}
 use Rattle.lb_wire.specs.declared.transport.Kind.{Kind}
@@ -8,8 +8,7 @@ use Rattle.lb_core.specs.declared.event.Event.{Event}
 use Rattle.lb_core.specs.declared.event.Event.TheVariants.{Query, Reply, Edit}
 use Rattle.lb_core.specs.declared.answer.Answer.{Answer}
 use Rattle.lb_core.specs.Answer.{Leaves, is_refused, marked}
-use Rattle.lb_core.specs.Plain.{Plain, at_plain, upstreams_of, with_upstreams}
-use Rattle.lb_core.specs.Upstream.{Upstreams}
+use Rattle.lb_core.specs.Plain.{Plain, at_plain, upstreams_of}
 use Rattle.lb_core.specs.Query.{QuerySteps, MayLack}
 use Rattle.lb_core.specs.Reply.{reply_step}
 use Rattle.lb_core.specs.Edit.{edit_of, upstream_changed, MayLackAt}

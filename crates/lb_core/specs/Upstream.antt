@@ -1,5 +1,5 @@
 -- The servers, the pools and the outstanding queries of the plain state: what forwarding reads and changes.
-use Rattle.std.specs.Prelude.{◌≡◌, ℕ, ◌<◌, Bool, true, false, List, [], ◌∷◌, map, if◌then◌else◌}
+use Rattle.std.specs.Prelude.{◌≡◌, ℕ, ◌<◌, Bool, true, false, List, [], map, if◌then◌else◌}
 use Rattle.std.specs.List.{count_by, AllByRecursion}
 use Rattle.lb_wire.specs.Query.{Reads}
 use Rattle.lb_wire.specs.declared.ids.PoolId.{PoolId}

@@ -1,5 +1,4 @@
 use Rattle.std.proofs.Common.{◌≡◌, ℕ, sym, subst, ◌∙◌, ap, List}
-use Rattle.lb_table.specs.declared.entry.Entry.{Entry}
 use Rattle.lb_core.specs.Forward.{entry_of}
 use Rattle.lb_core.specs.Upstream.{IsAsked}
 use Rattle.lb_core.proofs.Forwards.{sent_on}

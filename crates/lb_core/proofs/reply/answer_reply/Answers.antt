@@ -1,4 +1,4 @@
-use Rattle.std.proofs.Common.{◌≡◌, sym, ◌∙◌, ap, subst, List, ℕ, Ok}
+use Rattle.std.proofs.Common.{◌∙◌, subst, List, ℕ, Ok}
 use Rattle.lb_wire.specs.Reply.{Replies}
 use Rattle.lb_core.proofs.Delivered.{delivered}
 use Rattle.lb_core.proofs.reply.answer_reply.Goals as goal

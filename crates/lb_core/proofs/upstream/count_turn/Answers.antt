@@ -1,4 +1,4 @@
-use Rattle.std.proofs.Common.{◌≡◌, sym, ◌∙◌, ap, List, Option}
+use Rattle.std.proofs.Common.{sym, ◌∙◌, ap, List}
 use Rattle.lb_servers.specs.declared.pool.Pool.{Pool}
 use Rattle.lb_core.specs.Upstream.{takes_turns}
 use Rattle.lb_core.proofs.Turned.{stays, turns}

@@ -1,6 +1,4 @@
-use Rattle.std.proofs.Common.{◌<◌, sym, ◌∙◌, ap, subst, List, Option}
-use Rattle.std.specs.Option.{IfSome}
-use Rattle.lb_wire.specs.declared.ids.ServerId.{ServerId}
+use Rattle.std.proofs.Common.{sym, ◌∙◌, ap, List}
 use Rattle.lb_servers.specs.Pick.{picked}
 use Rattle.lb_servers.specs.declared.server.Loaded.{Loaded}
 use Rattle.lb_core.proofs.Tied.{counted_anew}

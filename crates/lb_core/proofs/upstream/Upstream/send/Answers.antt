@@ -5,7 +5,7 @@ use Rattle.lb_table.specs.declared.fault.EnterFault.{EnterFault}
 use Rattle.lb_table.specs.Place.{at_place}
 use Rattle.lb_table.specs.Table.{Enters}
 use Rattle.lb_core.specs.Upstream.{Upstreams, IsTied}
-use Rattle.lb_core.proofs.Tied.{room_to_count, same_servers, sent_seen, sent_tied}
+use Rattle.lb_core.proofs.Tied.{same_servers, sent_seen, sent_tied}
 use Rattle.lb_core.proofs.upstream.Upstream.send.Goals as goal
 
 pub invariant_of-self : goal.invariant_of-self
