@@ -11,21 +11,21 @@ use Rattle.lb_chain.specs.Edits.{Rules, added, removed, moved}
 use Rattle.lb_servers.specs.declared.fault.ParkFault.{ParkFault}
 use Rattle.lb_servers.specs.declared.fault.ParkFault.TheVariants as park_faults
 use Rattle.lb_servers.specs.declared.pool.PoolName.{PoolName}
-use Rattle.lb_servers.specs.Park.{Backends, added_pool, added_server, changed_pool, changed_server, removed_server}
+use Rattle.lb_servers.specs.Park.{Backends, added_pool, changed_pool}
 use Rattle.lb_servers.specs.Pool.{pool_named, with_policy}
-use Rattle.lb_servers.specs.Server.{server_named, with_mode}
+use Rattle.lb_servers.specs.Server.{server_named}
 use Rattle.lb_core.specs.declared.command.StatedAction.{StatedAction}
 use Rattle.lb_core.specs.declared.command.StatedAction.TheVariants as stated
 use Rattle.lb_core.specs.declared.command.StatedRule.{StatedRule}
 use Rattle.lb_core.specs.declared.command.Command.{Command}
-use Rattle.lb_core.specs.declared.command.Command.TheVariants.{RuleAdd, RuleRemove, RuleMove, ServerAdd, ServerRemove, ServerMode, PoolAdd, PoolPolicy}
+use Rattle.lb_core.specs.declared.command.Command.TheVariants.{RuleAdd, RuleRemove, RuleMove, ServerAdd, ServerRemove, ServerMode, PoolAdd, PoolPolicy, SetTimeout}
 use Rattle.lb_core.specs.declared.answer.Answer.{Answer}
 use Rattle.lb_core.specs.declared.answer.Answer.TheVariants.{Edited, Refused}
 use Rattle.lb_core.specs.declared.answer.Note.{Note}
 use Rattle.lb_core.specs.declared.answer.Note.TheVariants as notes
 use Rattle.lb_core.specs.declared.answer.EditFault.TheVariants as faults
 use Rattle.lb_core.specs.Plain.{Plain, chain_of, with_chain, upstreams_of, with_upstreams}
-use Rattle.lb_core.specs.Upstream.{Upstreams, backends_of, with_backends}
+use Rattle.lb_core.specs.Upstream.{Upstreams, added_checked, backends_of, on_backends, put_into, removed_checked}
 
 -- the place that a rule is added at: where none is stated, behind the others
 abbrev pub place_or_end : Option ℕ → List Numbered → ℕ
@@ -60,9 +60,12 @@ servers_told note (Err fault) = Refused (faults.Servers fault)
 abbrev pub rules_edited : {A : Type 0} → (A → Note) → Plain → Rules × Result A ChainFault → Plain × Answer
 rules_edited note plain done = (with_chain done.0 plain, rules_told note done.1)
 
--- what an edit of the servers and pools leaves and answers
+-- what an edit of what stands upstream leaves and answers, and one of the servers and pools alone
+abbrev pub upstream_told : {A : Type 0} → (A → Note) → Upstreams × Result A ParkFault → Upstreams × Answer
+upstream_told note done = (done.0, servers_told note done.1)
+
 abbrev pub upstream_edited : {A : Type 0} → (A → Note) → Upstreams → Backends × Result A ParkFault → Upstreams × Answer
-upstream_edited note ups done = (with_backends done.0 ups, servers_told note done.1)
+upstream_edited note ups done = upstream_told note (on_backends ups done)
 
 -- a pool, or a server, that is named and not there: that comes before every other refusal
 abbrev pub no_such_pool : Answer
@@ -77,9 +80,9 @@ rule_added mark plain place None = (plain, no_such_pool)
 rule_added mark plain place (Some rule) = rules_edited notes.RuleAdded plain (added mark (chain_of plain) (place_or_end place plain.rules) rule)
 
 -- a server removed or put into a mode, and a pool given a policy, by the number that the name has
-abbrev pub server_edited : (ServerId → Note) → (Backends → ServerId → Backends × Result (Unit {0}) ParkFault) → Upstreams → Option ServerId → Upstreams × Answer
+abbrev pub server_edited : (ServerId → Note) → (Upstreams → ServerId → Upstreams × Result (Unit {0}) ParkFault) → Upstreams → Option ServerId → Upstreams × Answer
 server_edited note edit ups None = (ups, no_such_server)
-server_edited note edit ups (Some id) = upstream_edited (λ _. note id) ups (edit (backends_of ups) id)
+server_edited note edit ups (Some id) = upstream_told (λ _. note id) (edit ups id)
 
 abbrev pub pool_edited : Note → (Backends → PoolId → Backends × Result (Unit {0}) ParkFault) → Upstreams → Option PoolId → Upstreams × Answer
 pool_edited note edit ups None = (ups, no_such_pool)
@@ -98,11 +101,12 @@ abbrev pub edit_of : Bool → Plain → Command → Plain × Answer
 edit_of mark plain (RuleAdd place rule) = rule_added mark plain place (rule_by (pool_named plain.pools) rule)
 edit_of mark plain (RuleRemove id) = rules_edited (λ _. notes.RuleRemoved id) plain (removed (chain_of plain) id)
 edit_of mark plain (RuleMove id place) = rules_edited (λ _. notes.RuleMoved id) plain (moved mark (chain_of plain) id place)
-edit_of mark plain (ServerAdd spec) = upstream_changed plain (upstream_edited notes.ServerAdded (upstreams_of plain) (added_server mark (backends_of (upstreams_of plain)) spec))
-edit_of mark plain (ServerRemove name) = upstream_changed plain (server_edited notes.ServerRemoved removed_server (upstreams_of plain) (server_by (upstreams_of plain) name))
-edit_of mark plain (ServerMode name mode) = upstream_changed plain (server_edited (λ id. notes.ServerMode id mode) (changed_server (with_mode mode)) (upstreams_of plain) (server_by (upstreams_of plain) name))
+edit_of mark plain (ServerAdd spec check) = upstream_changed plain (upstream_told notes.ServerAdded (added_checked mark (upstreams_of plain) spec check))
+edit_of mark plain (ServerRemove name) = upstream_changed plain (server_edited notes.ServerRemoved removed_checked (upstreams_of plain) (server_by (upstreams_of plain) name))
+edit_of mark plain (ServerMode name mode) = upstream_changed plain (server_edited (λ id. notes.ServerMode id mode) (put_into mode) (upstreams_of plain) (server_by (upstreams_of plain) name))
 edit_of mark plain (PoolAdd name) = upstream_changed plain (upstream_edited (λ _. notes.PoolAdded name) (upstreams_of plain) (added_pool mark (backends_of (upstreams_of plain)) name))
 edit_of mark plain (PoolPolicy name policy) = upstream_changed plain (pool_edited (notes.PoolPolicy name policy) (changed_pool (with_policy policy)) (upstreams_of plain) (pool_named plain.pools name))
+edit_of mark plain (SetTimeout timeout) = (record plain { timeout = timeout }, Edited (notes.TimeoutSet timeout))
 
 -- the command is carried out where no memory is wanting
 abbrev pub Succeeds : Plain → Command → Type 0
@@ -117,9 +121,10 @@ Lacks edit = (note : Note) × ((edit false).1 ≡ Edited note)
 abbrev pub MayLackAt : Plain → Command → Type 0
 MayLackAt plain (RuleAdd place rule) = Succeeds plain (RuleAdd place rule)
 MayLackAt plain (RuleMove id place) = Succeeds plain (RuleMove id place)
-MayLackAt plain (ServerAdd spec) = Succeeds plain (ServerAdd spec)
+MayLackAt plain (ServerAdd spec check) = Succeeds plain (ServerAdd spec check)
 MayLackAt plain (PoolAdd name) = Succeeds plain (PoolAdd name)
 MayLackAt plain (RuleRemove id) = ⊥
 MayLackAt plain (ServerRemove name) = ⊥
 MayLackAt plain (ServerMode name mode) = ⊥
 MayLackAt plain (PoolPolicy name policy) = ⊥
+MayLackAt plain (SetTimeout timeout) = ⊥

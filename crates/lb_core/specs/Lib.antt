@@ -19,6 +19,7 @@ pub use Rattle.lb_servers.specs.Pool
 pub use Rattle.lb_servers.specs.Server
 pub use Rattle.lb_servers.specs.Pick
 pub use Rattle.lb_servers.specs.Park
+pub use Rattle.lb_health.specs.Health as HealthOfOne
 pub use Rattle.lb_table.specs.Place
 pub use Rattle.lb_table.specs.Entry
 pub use Rattle.lb_table.specs.Table
@@ -28,6 +29,8 @@ pub mod Plain
 pub mod Forward
 pub mod Query
 pub mod Reply
+pub mod Expiry
+pub mod Health
 pub mod Edit
 pub mod Reading
 pub mod Routes

@@ -6,12 +6,14 @@ use Rattle.lb_chain.specs.Seen.{seen_rules}
 use Rattle.lb_servers.specs.declared.pool.Pool.{Pool}
 use Rattle.lb_servers.specs.declared.server.Server.{Server}
 use Rattle.lb_table.specs.declared.entry.Waiting.{Waiting}
+use Rattle.lb_core.specs.declared.check.Check.{Check}
 use Rattle.lb_core.specs.Upstream.{Upstreams, no_upstreams}
 
 -- the latest moment told, and how long a query waits for its reply, in milliseconds; the next rule, server and cache
 -- numbers (2^64 once all are given); the rules in their order, each with the passes of its limiters that count at the
--- moment: by limiter, then masked address (IPv4 first, by octets), then moment; the servers and the pools by number, the
--- default pool first; and the outstanding queries by deadline, those of one deadline in the order in which they were sent
+-- moment: by limiter, then masked address (IPv4 first, by octets), then moment; the servers, their health checks and the pools,
+-- by number, the default pool first; and the outstanding queries by deadline, those of one deadline in the order in which they
+-- were sent
 pub record Plain : Type 0 where
   pub moment : ℕ
   pub timeout : ℕ
@@ -20,6 +22,7 @@ pub record Plain : Type 0 where
   pub next_cache : ℕ
   pub rules : List Numbered
   pub servers : List Server
+  pub checks : List Check
   pub pools : List Pool
   pub outstanding : List Waiting
 
@@ -33,6 +36,7 @@ plain_of moment chain ups = record {
   next_cache = 1;
   rules = seen_rules moment chain.rules;
   servers = ups.servers;
+  checks = ups.checks;
   pools = ups.pools;
   outstanding = ups.outstanding;
 }
@@ -48,6 +52,7 @@ empty = record {
   next_cache = 1;
   rules = [];
   servers = [];
+  checks = [];
   pools = no_upstreams.pools;
   outstanding = [];
 }
@@ -65,6 +70,7 @@ upstreams_of plain = record {
   timeout = plain.timeout;
   next_server = plain.next_server;
   servers = plain.servers;
+  checks = plain.checks;
   pools = plain.pools;
   outstanding = plain.outstanding;
 }
@@ -74,6 +80,7 @@ with_upstreams ups plain = record plain {
   timeout = ups.timeout;
   next_server = ups.next_server;
   servers = ups.servers;
+  checks = ups.checks;
   pools = ups.pools;
   outstanding = ups.outstanding;
 }

@@ -7,9 +7,9 @@ use Rattle.lb_wire.specs.declared.query.QueryFault.{QueryFault}
 use Rattle.lb_wire.specs.declared.reply.ReplyView.{ReplyView}
 use Rattle.lb_wire.specs.declared.reply.ReplyFault.{ReplyFault}
 use Rattle.lb_core.specs.declared.event.Event.{Event}
-use Rattle.lb_core.specs.declared.event.Event.TheVariants.{Query, Reply, Edit}
+use Rattle.lb_core.specs.declared.event.Event.TheVariants.{Query, Reply, Tick, HealthResult, Edit}
 
--- what the octets of an event read as; an edit has none
+-- what the octets of an event read as; a tick, a health result and an edit have none
 pub data Reading : Type 0 where
   OfQuery : Result QueryView QueryFault → Reading
   OfReply : Result ReplyView ReplyFault → Reading
@@ -18,6 +18,8 @@ pub data Reading : Type 0 where
 abbrev pub ReadsEvent : Event → Reading → Type 0
 ReadsEvent (Query now origin kind word bytes) (OfQuery reading) = Reads bytes reading
 ReadsEvent (Reply now server lane bytes) (OfReply reading) = ReadsReply bytes reading
+ReadsEvent (Tick now) OfNone = Unit {0}
+ReadsEvent (HealthResult now server ok) OfNone = Unit {0}
 ReadsEvent (Edit now command) OfNone = Unit {0}
 ReadsEvent _ _ = ⊥
 
@@ -29,4 +31,6 @@ OneEventReading = (event : Event) (a b : Reading) → ReadsEvent event a → Rea
 abbrev pub moment_of : Event → ℕ
 moment_of (Query now origin kind word bytes) = now
 moment_of (Reply now server lane bytes) = now
+moment_of (Tick now) = now
+moment_of (HealthResult now server ok) = now
 moment_of (Edit now command) = now

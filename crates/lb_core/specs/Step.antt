@@ -5,12 +5,15 @@ use Rattle.lb_wire.specs.declared.addr.Origin.{Origin}
 use Rattle.lb_wire.specs.declared.transport.Kind.{Kind}
 use Rattle.lb_core.specs.declared.asked.Asked.{Asked}
 use Rattle.lb_core.specs.declared.event.Event.{Event}
-use Rattle.lb_core.specs.declared.event.Event.TheVariants.{Query, Reply, Edit}
+use Rattle.lb_core.specs.declared.event.Event.TheVariants.{Query, Reply, Tick, HealthResult, Edit}
 use Rattle.lb_core.specs.declared.answer.Answer.{Answer}
 use Rattle.lb_core.specs.Answer.{Leaves, is_refused, marked}
-use Rattle.lb_core.specs.Plain.{Plain, at_plain, upstreams_of}
+use Rattle.lb_core.specs.Plain.{Plain, at_plain, upstreams_of, with_upstreams}
+use Rattle.lb_core.specs.Upstream.{Upstreams}
 use Rattle.lb_core.specs.Query.{QuerySteps, MayLack}
 use Rattle.lb_core.specs.Reply.{reply_step}
+use Rattle.lb_core.specs.Expiry.{Expires}
+use Rattle.lb_core.specs.Health.{result_step}
 use Rattle.lb_core.specs.Edit.{edit_of, upstream_changed, MayLackAt}
 use Rattle.lb_core.specs.Reading.{Reading, OfQuery, OfReply, OfNone, ReadsEvent, moment_of}
 use Rattle.lb_core.specs.Routes.{routes_of, routes_after}
@@ -23,6 +26,8 @@ asked_at moment origin kind word = record { moment = moment; origin = origin; ki
 abbrev pub StepsAt : Plain → Event → Reading → Answer → Plain → Type 0
 StepsAt plain (Query now origin kind word bytes) (OfQuery reading) answer new = QuerySteps (marked answer) plain (asked_at plain.moment origin kind word) bytes reading answer new
 StepsAt plain (Reply now server lane bytes) (OfReply reading) answer new = Leaves new answer (upstream_changed plain (reply_step (upstreams_of plain) server lane bytes reading))
+StepsAt plain (Tick now) OfNone answer new = (ups : Upstreams) × Expires (upstreams_of plain) plain.moment answer ups × (new ≡ with_upstreams ups plain)
+StepsAt plain (HealthResult now server ok) OfNone answer new = Leaves new answer (upstream_changed plain (result_step (upstreams_of plain) server ok))
 StepsAt plain (Edit now command) OfNone answer new = Leaves new answer (edit_of (marked answer) plain command)
 StepsAt plain _ _ answer new = ⊥
 
@@ -34,6 +39,8 @@ Steps old event reading answer new = StepsAt (at_plain (moment_of event) old) ev
 abbrev pub MayMarkAt : Plain → Event → Type 0
 MayMarkAt plain (Query now origin kind word bytes) = (view : QueryView) × MayLack plain (asked_at plain.moment origin kind word) bytes view
 MayMarkAt plain (Reply now server lane bytes) = ⊥
+MayMarkAt plain (Tick now) = ⊥
+MayMarkAt plain (HealthResult now server ok) = ⊥
 MayMarkAt plain (Edit now command) = MayLackAt plain command
 
 abbrev pub MayMark : Plain → Event → Type 0

@@ -1,6 +1,7 @@
--- The servers, the pools and the outstanding queries of the plain state: what forwarding reads and changes.
-use Rattle.std.specs.Prelude.{◌≡◌, ℕ, ◌<◌, Bool, true, false, List, [], map, if◌then◌else◌}
-use Rattle.std.specs.List.{count_by, AllByRecursion}
+-- The servers with their health, the pools and the outstanding queries of the plain state: what forwarding reads and changes.
+use Rattle.std.specs.Prelude.{◌≡◌, ℕ, ◌<◌, Bool, true, false, not, ◌==◌, List, [], ◌∷◌, ◌++◌, map, if◌then◌else◌}
+use Rattle.std.specs.List.{count_by, filter, AllByRecursion}
+use Rattle.std.specs.Int.NonZero.{non_zero_u8_get}
 use Rattle.lb_wire.specs.Query.{Reads}
 use Rattle.lb_wire.specs.declared.ids.PoolId.{PoolId}
 use Rattle.lb_wire.specs.declared.ids.ServerId.{ServerId}
@@ -11,10 +12,15 @@ use Rattle.lb_servers.specs.declared.pool.Policy.{Policy}
 use Rattle.lb_servers.specs.declared.pool.Policy.TheVariants.{FirstAvailable, LeastOutstanding, RoundRobin}
 use Rattle.lb_servers.specs.declared.pool.Pool.{Pool}
 use Rattle.lb_servers.specs.declared.server.Server.{Server}
+use Rattle.lb_servers.specs.declared.fault.ParkFault.{ParkFault}
 use Rattle.lb_servers.specs.declared.server.Loaded.{Loaded}
-use Rattle.lb_servers.specs.Park.{Backends, no_backends}
+use Rattle.lb_servers.specs.declared.server.Mode.{Mode}
+use Rattle.lb_servers.specs.declared.spec.ServerSpec.{ServerSpec}
+use Rattle.lb_servers.specs.Park.{Backends, added_server, changed_server, no_backends, removed_server}
 use Rattle.lb_servers.specs.Pick.{picked}
 use Rattle.lb_servers.specs.Pool.{change_at, turned}
+use Rattle.lb_servers.specs.Server.{marked, with_mode}
+use Rattle.lb_health.specs.Health.{new_standing}
 use Rattle.lb_table.specs.declared.place.Place.{Place}
 use Rattle.lb_table.specs.declared.entry.Entry.{Entry}
 use Rattle.lb_table.specs.declared.entry.Waiting.{Waiting}
@@ -22,13 +28,17 @@ use Rattle.lb_table.specs.declared.fault.EnterFault.{EnterFault}
 use Rattle.lb_table.specs.declared.fault.EnterFault.TheVariants.{LaneFull, NoMemory}
 use Rattle.lb_table.specs.Place.{at_place}
 use Rattle.lb_table.specs.Table.{FirstFree, entered, is_for}
+use Rattle.lb_core.specs.declared.check.Check.{Check}
+use Rattle.lb_core.specs.declared.check.CheckSpec.{CheckSpec}
 
--- how long a query waits, in milliseconds; the next server number (2^64 once all are given); the servers and the pools by
--- number; and the outstanding queries by deadline, those of one deadline in the order in which they were sent
+-- how long a query waits, in milliseconds; the next server number (2^64 once all are given); the servers, their health checks
+-- and the pools, by number; and the outstanding queries by deadline, those of one deadline in the order in which they were
+-- sent
 pub record Upstreams : Type 0 where
   pub timeout : ℕ
   pub next_server : ℕ
   pub servers : List Server
+  pub checks : List Check
   pub pools : List Pool
   pub outstanding : List Waiting
 
@@ -38,7 +48,7 @@ first_timeout = 2000
 
 -- at first: no server, and the default pool
 abbrev pub no_upstreams : Upstreams
-no_upstreams = record { timeout = first_timeout; next_server = no_backends.next; servers = []; pools = no_backends.pools; outstanding = [] }
+no_upstreams = record { timeout = first_timeout; next_server = no_backends.next; servers = []; checks = []; pools = no_backends.pools; outstanding = [] }
 
 -- a server with its load: how many of the outstanding queries wait for it, by whatever lane, counted anew
 abbrev pub loaded_by : List Waiting → Server → Loaded
@@ -58,6 +68,50 @@ with_backends park ups = record ups { next_server = park.next; servers = map ser
 -- what an edit of the table of servers and pools leaves and gives
 abbrev pub on_backends : {A : Type 0} → Upstreams → Backends × A → Upstreams × A
 on_backends ups done = (with_backends done.0 ups, done.1)
+
+-- whether this is the health check of a server
+abbrev pub is_check : ServerId → Check → Bool
+is_check server check = check.server.0 == server.0
+
+-- the health check of a new server, which is up
+abbrev pub new_check : ServerId → CheckSpec → Check
+new_check server spec = record {
+  server = server;
+  health = new_standing (non_zero_u8_get spec.fall) (non_zero_u8_get spec.rise);
+  must_resolve = spec.must_resolve;
+}
+
+-- what stands upstream with the health check of a server that was added, and without that of one that was removed; where
+-- that was refused, it is as it was
+abbrev pub with_check : CheckSpec → Result ServerId ParkFault → Upstreams → Upstreams
+with_check spec (Ok server) ups = record ups { checks = ups.checks ++ new_check server spec ∷ [] }
+with_check spec (Err fault) ups = ups
+
+abbrev pub without_check : ServerId → Result (Unit {0}) ParkFault → Upstreams → Upstreams
+without_check server (Ok done) ups = record ups { checks = filter (λ check. not (is_check server check)) ups.checks }
+without_check server (Err fault) ups = ups
+
+-- a server and its health check added behind the others
+abbrev pub checked_by : CheckSpec → Upstreams × Result ServerId ParkFault → Upstreams × Result ServerId ParkFault
+checked_by spec done = (with_check spec done.1 done.0, done.1)
+
+abbrev pub added_checked : Bool → Upstreams → ServerSpec → CheckSpec → Upstreams × Result ServerId ParkFault
+added_checked lacking ups spec check = checked_by check (on_backends ups (added_server lacking (backends_of ups) spec))
+
+-- a server and its health check taken out
+abbrev pub unchecked_by : ServerId → Upstreams × Result (Unit {0}) ParkFault → Upstreams × Result (Unit {0}) ParkFault
+unchecked_by server done = (without_check server done.1 done.0, done.1)
+
+abbrev pub removed_checked : Upstreams → ServerId → Upstreams × Result (Unit {0}) ParkFault
+removed_checked ups server = unchecked_by server (on_backends ups (removed_server (backends_of ups) server))
+
+-- a server put into a mode; its health stays
+abbrev pub put_into : Mode → Upstreams → ServerId → Upstreams × Result (Unit {0}) ParkFault
+put_into mode ups server = on_backends ups (changed_server (with_mode mode) (backends_of ups) server)
+
+-- a server marked up or down
+abbrev pub with_mark : Bool → ServerId → Upstreams → Upstreams
+with_mark up server ups = (on_backends ups (changed_server (marked up) (backends_of ups) server)).0
 
 -- the server that a pool picks
 abbrev pub picked_of : Upstreams → PoolId → Option ServerId

@@ -1,5 +1,6 @@
 //! What the balancer answers.
 
+use crate::timeout::Timeout;
 use lb_chain::ChainFault;
 use lb_servers::{Mode, ParkFault, Policy, PoolName};
 use lb_wire::{Kept, Lane, Octets, Origin, RuleId, ServerId};
@@ -16,9 +17,13 @@ pub enum Answer {
     Forward(ServerId, Lane, u16, Octets),
     /// The reply goes to the client that asked, in these octets; whether it is kept in a cache.
     Deliver(Origin, Octets, Kept),
-    /// The reply is of no use, and changes nothing.
+    /// The query was given up: the client that asked gets ServFail, in these octets.
+    Expired(Origin, Octets),
+    /// Nothing is to be told.
+    Quiet,
+    /// The reply or the health result is of no use, and changes nothing.
     Ignored(IgnoreReason),
-    /// The command was carried out.
+    /// The command was carried out, or a server changed.
     Edited(Note),
     /// The command was refused, and nothing but the moment changed.
     Refused(EditFault),
@@ -52,7 +57,7 @@ pub enum LocalReason {
     LaneFull,
 }
 
-/// Why a reply is ignored.
+/// Why a reply, or a health result, is ignored.
 #[derive(Clone, Copy, Debug, PartialEq, Eq)]
 pub enum IgnoreReason {
     /// It has fewer than 12 octets.
@@ -63,9 +68,11 @@ pub enum IgnoreReason {
     Unknown,
     /// It does not belong to the query that was sent so.
     Mismatch,
+    /// No server has the number of a health result.
+    NoServer,
 }
 
-/// What a command did.
+/// What a command did, or a health result.
 #[derive(Debug, Drop)]
 pub enum Note {
     /// The rule was added under this number.
@@ -84,6 +91,12 @@ pub enum Note {
     PoolAdded(PoolName),
     /// The pool with this name was given this policy.
     PoolPolicy(PoolName, Policy),
+    /// The queries sent from now on wait so long.
+    TimeoutSet(Timeout),
+    /// The health of the server with this number brought it up.
+    ServerUp(ServerId),
+    /// The health of the server with this number took it down.
+    ServerDown(ServerId),
 }
 
 /// Why a command is refused.

@@ -8,6 +8,8 @@ use crate::answer::Answer;
 use crate::asked::Asked;
 use crate::edit::edit;
 use crate::event::Event;
+use crate::expiry::answer_tick;
+use crate::health::answer_result;
 use crate::query::answer_query;
 use crate::reply::answer_reply;
 use crate::upstream::Upstream;
@@ -93,6 +95,14 @@ impl Balancer {
             } => {
                 self.moment = self.moment.max(now);
                 answer_reply(&mut self.upstream, server, lane, bytes)
+            }
+            Event::Tick { now } => {
+                self.moment = self.moment.max(now);
+                answer_tick(&mut self.upstream, self.moment)
+            }
+            Event::HealthResult { now, server, ok } => {
+                self.moment = self.moment.max(now);
+                answer_result(&mut self.upstream, server, ok)
             }
             Event::Edit { now, command } => {
                 self.moment = self.moment.max(now);

@@ -1,5 +1,7 @@
 //! What an operator tells the balancer to do.
 
+use crate::check::CheckSpec;
+use crate::timeout::Timeout;
 use lb_chain::Addrs;
 use lb_servers::{Ident, Mode, Policy, PoolName, ServerSpec};
 use lb_terms::CheckedTerm;
@@ -14,8 +16,8 @@ pub enum Command {
     RuleRemove(RuleId),
     /// Moves the rule with this number to a place, counted from 0 in the list without it.
     RuleMove(RuleId, usize),
-    /// Adds a server.
-    ServerAdd(ServerSpec),
+    /// Adds a server, whose health is judged so.
+    ServerAdd(ServerSpec, CheckSpec),
     /// Removes the server with this name. Its outstanding queries still get their replies.
     ServerRemove(Ident),
     /// Puts the server with this name into a mode.
@@ -24,6 +26,8 @@ pub enum Command {
     PoolAdd(PoolName),
     /// Gives the pool with this name a policy; its turn stays.
     PoolPolicy(PoolName, Policy),
+    /// Has the queries that are sent from now on wait so long for their replies.
+    SetTimeout(Timeout),
 }
 
 /// A rule as a command states it: its pool by name.

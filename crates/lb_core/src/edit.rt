@@ -1,12 +1,11 @@
 //! Commands.
 
 ghost use Rattle.std.specs.Prelude.{◌≡◌, ◌≤◌, ℕ, IsTrue, Ok, Err, Option, Result, option_map};
-ghost use Rattle.lb_servers.specs.Park.{added_pool, added_server, changed_pool, changed_server, removed_server};
+ghost use Rattle.lb_servers.specs.Park.{added_pool, changed_pool};
 ghost use Rattle.lb_servers.specs.Pool.{pool_named, with_policy};
-ghost use Rattle.lb_servers.specs.Server.{with_mode};
 ghost use Rattle.lb_core.specs.Plain.{plain_of, upstreams_of};
-ghost use Rattle.lb_core.specs.Upstream.{backends_of, Upstreams};
-ghost use Rattle.lb_core.specs.Edit.{action_by, edit_of, place_or_end, pool_edited, rule_by, server_by, server_edited, upstream_edited, MayLackAt, Lacks};
+ghost use Rattle.lb_core.specs.Upstream.{added_checked, backends_of, put_into, removed_checked, Upstreams};
+ghost use Rattle.lb_core.specs.Edit.{action_by, edit_of, place_or_end, pool_edited, rule_by, server_by, server_edited, upstream_edited, upstream_told, MayLackAt, Lacks};
 ghost use Rattle.lb_core.specs.Answer.{marked};
 ghost use Rattle.lb_core.specs.declared.command.Command.TheVariants.{RuleAdd, RuleRemove, RuleMove};
 ghost use Rattle.lb_core.specs.declared.answer.Answer.TheVariants.{Refused};
@@ -15,6 +14,7 @@ ghost use Rattle.lb_core.specs.declared.answer.Note.TheVariants as notes;
 ghost use Rattle.lb_core.specs.declared.answer.Answer.{Answer};
 
 use crate::answer::{Answer, EditFault, Note};
+use crate::check::CheckSpec;
 use crate::command::{Command, StatedAction, StatedRule};
 use crate::upstream::Upstream;
 use lb_chain::{Action, Chain, ChainFault, Rule, seen_twice};
@@ -37,11 +37,15 @@ pub(crate) fn edit(
         Command::RuleAdd(place, rule) => add_rule(chain, upstream, moment, place, rule),
         Command::RuleRemove(id) => remove_rule(chain, upstream, moment, id),
         Command::RuleMove(id, place) => move_rule(chain, upstream, moment, id, place),
-        Command::ServerAdd(spec) => add_server(upstream, spec),
+        Command::ServerAdd(spec, check) => add_server(upstream, spec, check),
         Command::ServerRemove(name) => remove_server(upstream, &name),
         Command::ServerMode(name, mode) => set_mode(upstream, &name, mode),
         Command::PoolAdd(name) => add_pool(upstream, name),
         Command::PoolPolicy(name, policy) => set_policy(upstream, name, policy),
+        Command::SetTimeout(timeout) => {
+            upstream.set_timeout(timeout);
+            Answer::Edited(Note::TimeoutSet(timeout))
+        }
     }
 }
 
@@ -156,12 +160,12 @@ fn servers_refused(fault: ParkFault) -> Answer
     Answer::Refused(EditFault::Servers(fault))
 }
 
-/// Adds a server.
-fn add_server(upstream: &mut Upstream, spec: ServerSpec) -> Answer
-    ensures edit { (upstream.new, result) ≡ upstream_edited notes.ServerAdded upstream.old (added_server (marked result) (backends_of upstream.old) spec) }
-    ensures mark { IsTrue (marked result) → Lacks (λ mark. upstream_edited notes.ServerAdded upstream.old (added_server mark (backends_of upstream.old) spec)) }
+/// Adds a server, whose health is judged so.
+fn add_server(upstream: &mut Upstream, spec: ServerSpec, check: CheckSpec) -> Answer
+    ensures edit { (upstream.new, result) ≡ upstream_told notes.ServerAdded (added_checked (marked result) upstream.old spec check) }
+    ensures mark { IsTrue (marked result) → Lacks (λ mark. upstream_told notes.ServerAdded (added_checked mark upstream.old spec check)) }
 {
-    match upstream.add_server(spec) {
+    match upstream.add_server(spec, check) {
         Ok(id) => Answer::Edited(Note::ServerAdded(id)),
         Err(fault) => servers_refused(fault),
     }
@@ -169,7 +173,7 @@ fn add_server(upstream: &mut Upstream, spec: ServerSpec) -> Answer
 
 /// Removes the server with a name.
 fn remove_server(upstream: &mut Upstream, name: &Ident) -> Answer
-    ensures { (upstream.new, result) ≡ server_edited notes.ServerRemoved removed_server upstream.old (server_by upstream.old name.now) }
+    ensures { (upstream.new, result) ≡ server_edited notes.ServerRemoved removed_checked upstream.old (server_by upstream.old name.now) }
 {
     let Some(id) = upstream.server_named(name) else {
         return servers_refused(ParkFault::NoSuchServer);
@@ -182,7 +186,7 @@ fn remove_server(upstream: &mut Upstream, name: &Ident) -> Answer
 
 /// Puts the server with a name into a mode.
 fn set_mode(upstream: &mut Upstream, name: &Ident, mode: Mode) -> Answer
-    ensures { (upstream.new, result) ≡ server_edited (λ id. notes.ServerMode id mode) (changed_server (with_mode mode)) upstream.old (server_by upstream.old name.now) }
+    ensures { (upstream.new, result) ≡ server_edited (λ id. notes.ServerMode id mode) (put_into mode) upstream.old (server_by upstream.old name.now) }
 {
     let Some(id) = upstream.server_named(name) else {
         return servers_refused(ParkFault::NoSuchServer);

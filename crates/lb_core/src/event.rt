@@ -25,6 +25,14 @@ pub enum Event {
         /// The message, at most 65,535 octets.
         bytes: Octets,
     },
+    /// Time has passed: one query that is given up by now is ended.
+    Tick { now: u64 },
+    /// A probe of a server was answered as it should be, or failed.
+    HealthResult {
+        now: u64,
+        server: ServerId,
+        ok: bool,
+    },
     /// An operator's command.
     Edit {
         now: u64,

@@ -5,21 +5,27 @@
 mod answer;
 mod asked;
 mod balancer;
+mod check;
 mod command;
 mod edit;
 mod event;
+mod expiry;
 mod forward;
+mod health;
 mod laws;
 mod query;
 mod reply;
 mod runs;
 #[cfg(test)]
 mod tests;
+mod timeout;
 mod upstream;
 
 pub use answer::{Answer, DropReason, EditFault, IgnoreReason, LocalReason, Note};
 pub use balancer::Balancer;
+pub use check::{Check, CheckSpec};
 pub use command::{Command, StatedAction, StatedRule};
 pub use event::Event;
 pub use laws::{one_run_per_marks, refusals_change_nothing, routes_follow};
 pub use runs::run;
+pub use timeout::Timeout;

@@ -1,17 +1,24 @@
-//! Servers, pools and outstanding queries, kept together: each server's count is the number of its outstanding queries.
+//! Servers with their health, pools and outstanding queries, kept together: each server's count is the number of its
+//! outstanding queries.
 
-ghost use Rattle.std.specs.Prelude.{◌≡◌, ◌<◌, ℕ, IfOk, IfSome, option_map};
-ghost use Rattle.lb_servers.specs.Park.{added_pool, added_server, changed_pool, changed_server, lacks, removed_server};
+ghost use Rattle.std.specs.Prelude.{◌≡◌, ◌<◌, ℕ, IfOk, IfSome, length, option_map};
+ghost use Rattle.std.specs.List.{position};
+ghost use Rattle.lb_servers.specs.Park.{added_pool, changed_pool, changed_server, lacks};
 ghost use Rattle.lb_servers.specs.Pool.{pool_named, with_policy, change_at};
-ghost use Rattle.lb_servers.specs.Server.{with_mode};
+ghost use Rattle.lb_servers.specs.Server.{marked};
 ghost use Rattle.lb_table.specs.Place.{at_place};
-ghost use Rattle.lb_table.specs.Table.{entry_at};
-ghost use Rattle.lb_core.specs.Upstream.{backends_of, no_upstreams, on_backends, picked_of, IsAsked, SendsBy, takes_turns as takes_turns_of, turned_if};
+ghost use Rattle.lb_table.specs.Table.{due, entry_at};
+ghost use Rattle.lb_core.specs.Upstream.{added_checked, backends_of, no_upstreams, on_backends, picked_of, put_into, removed_checked, IsAsked, SendsBy, takes_turns as takes_turns_of, turned_if, is_check};
 ghost use Rattle.lb_core.specs.Edit.{server_by};
+ghost use Rattle.lb_core.specs.Expiry.{without_expired};
+ghost use Rattle.lb_core.specs.Health.{result_taken};
 ghost use Rattle.lb_core.specs.Reply.{without};
 
+use crate::check::{Check, CheckSpec};
+use crate::timeout::Timeout;
+use lb_health::Changed;
 use lb_servers::{Ident, Mode, Park, ParkFault, Policy, PoolName, ServerSpec};
-use lb_table::{EnterFault, Entry, Table};
+use lb_table::{EnterFault, Entry, Table, Waiting};
 use lb_wire::{Lane, PoolId, ServerId};
 use std::alloc::{AllocError, Global};
 use std::marker::Model;
@@ -19,12 +26,15 @@ use std::marker::Model;
 /// How long a query waits for its reply at first, in milliseconds.
 const FIRST_TIMEOUT: u32 = 2000;
 
-/// Servers, pools and outstanding queries. A contract sees them as plain lists, in which no server has a count.
+/// Servers with their health, pools and outstanding queries. A contract sees them as plain lists, in which no server has a
+/// count.
 #[derive(Debug, Drop)]
 pub(crate) struct Upstream {
     /// How long a query waits for its reply, in milliseconds.
     timeout: u32,
     park: Park,
+    /// The health checks of the servers, in their order.
+    checks: Vec<Check>,
     table: Table,
 }
 
@@ -34,7 +44,7 @@ impl Model for Upstream {
 
     ghost Value = { Upstreams };
 
-    ghost view = { λ u. record { timeout = u.timeout; next_server = u.park.next; servers = map server_of u.park.servers; pools = u.park.pools; outstanding = u.table } };
+    ghost view = { λ u. record { timeout = u.timeout; next_server = u.park.next; servers = map server_of u.park.servers; checks = u.checks.items; pools = u.park.pools; outstanding = u.table } };
 
     ghost invariant = { λ u. IsTied u.park u.table };
 }
@@ -47,6 +57,7 @@ impl Upstream {
         Ok(Upstream {
             timeout: FIRST_TIMEOUT,
             park: Park::new(alloc)?,
+            checks: Vec::new(alloc),
             table: Table::new(alloc),
         })
     }
@@ -114,6 +125,32 @@ impl Upstream {
         Some(entry)
     }
 
+    /// Takes the query of least deadline out that is given up by now, of equal ones the one that was sent first. Its server
+    /// may have been removed.
+    pub(crate) fn take_due(&mut self, now: u64) -> Option<Entry>
+        ensures entry { result ≡ option_map (λ w. w.entry) (due now self.old.outstanding) }
+        ensures asked { IfSome result (λ entry. IsAsked entry) }
+        ensures without { self.new ≡ without_expired now self.old }
+    {
+        let Waiting { place, entry } = self.table.take_due(now)?;
+        self.park.ended(place.server);
+        Some(entry)
+    }
+
+    /// Takes a result of a server, and marks the server where that changes its health. None where no server has this number.
+    pub(crate) fn take_result(&mut self, server: ServerId, ok: bool) -> Option<Changed>
+        ensures { (self.new, result) ≡ result_taken self.old server ok }
+    {
+        let at = check_of(self.checks.as_slice(), server)?;
+        let changed = self.checks[at].health.result(ok);
+        match changed {
+            Changed::No => {}
+            Changed::Up => mark(&mut self.park, server, true),
+            Changed::Down => mark(&mut self.park, server, false),
+        }
+        Some(changed)
+    }
+
     /// The server with a name.
     pub(crate) fn server_named(&self, name: &Ident) -> Option<ServerId>
         ensures { result ≡ server_by self.now name.now }
@@ -128,25 +165,43 @@ impl Upstream {
         self.park.pool_named(name)
     }
 
-    /// Adds a server.
-    pub(crate) fn add_server(&mut self, spec: ServerSpec) -> Result<ServerId, ParkFault>
-        ensures { (self.new, result) ≡ on_backends self.old (added_server (lacks result) (backends_of self.old) spec) }
+    /// Adds a server, whose health is judged so. Room for its health check is taken before anything changes.
+    pub(crate) fn add_server(
+        &mut self,
+        spec: ServerSpec,
+        check: CheckSpec,
+    ) -> Result<ServerId, ParkFault>
+        ensures { (self.new, result) ≡ added_checked (lacks result) self.old spec check }
     {
-        self.park.add_server(spec)
+        if let Err(_) = self.checks.reserve(1) {
+            return Err(self.park.refusal(&spec));
+        }
+        let id = self.park.add_server(spec)?;
+        self.checks.push(Check::new(id, check)).unwrap();
+        Ok(id)
     }
 
-    /// Removes a server. Its outstanding queries stay.
+    /// Removes a server, and its health check. Its outstanding queries stay.
     pub(crate) fn remove_server(&mut self, id: ServerId) -> Result<(), ParkFault>
-        ensures { (self.new, result) ≡ on_backends self.old (removed_server (backends_of self.old) id) }
+        ensures { (self.new, result) ≡ removed_checked self.old id }
     {
-        self.park.remove_server(id)
+        self.park.remove_server(id)?;
+        self.checks.retain(|check| check.server.0 != id.0);
+        Ok(())
     }
 
     /// Puts a server into a mode.
     pub(crate) fn set_mode(&mut self, id: ServerId, mode: Mode) -> Result<(), ParkFault>
-        ensures { (self.new, result) ≡ on_backends self.old (changed_server (with_mode mode) (backends_of self.old) id) }
+        ensures { (self.new, result) ≡ put_into mode self.old id }
     {
         self.park.set_mode(id, mode)
+    }
+
+    /// Has the queries that are sent from now on wait so long.
+    pub(crate) fn set_timeout(&mut self, timeout: Timeout)
+        ensures { self.new ≡ record self.old { timeout = timeout } }
+    {
+        self.timeout = timeout.as_millis();
     }
 
     /// Adds a pool.
@@ -161,6 +216,23 @@ impl Upstream {
         ensures { (self.new, result) ≡ on_backends self.old (changed_pool (with_policy policy) (backends_of self.old) pool) }
     {
         self.park.set_policy(pool, policy)
+    }
+}
+
+/// Where the health check of a server stands.
+fn check_of(checks: &[Check], server: ServerId) -> Option<usize>
+    ensures at { result ≡ position (is_check server) checks.now }
+    ensures within { IfSome result (λ at. at < length checks.now) }
+{
+    checks.iter().position(|check| check.server.0 == server.0)
+}
+
+/// Marks a server up or down, where it is there.
+fn mark(park: &mut Park, server: ServerId, up: bool)
+    ensures { park.new ≡ (changed_server (marked up) park.old server).0 }
+{
+    match park.mark(server, up) {
+        Ok(()) | Err(_) => {}
     }
 }
 
