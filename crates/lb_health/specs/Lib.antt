@@ -1,0 +1,3 @@
+pub use Rattle.lb_wire.specs.Reply
+pub mod Health
+pub mod Probes

@@ -1,0 +1,13 @@
+//! The health of one server: when results of probes take it down and bring it up again, the probe that it is sent, and
+//! which reply is the answer to that.
+#![tactic(auto)]
+
+mod health;
+mod laws;
+mod probes;
+#[cfg(test)]
+mod tests;
+
+pub use health::{Changed, Health};
+pub use laws::last_of_a_row;
+pub use probes::{PROBE_LEN, ProbeBytes, judge, probe};
