@@ -1,9 +1,10 @@
 //! The table of outstanding queries.
 
 ghost use Rattle.std.specs.Prelude.{◌≡◌, ◌+◌, ◌^◌, ◌<◌, ◌≤◌, IfOk, IfSome, IfNone, None, [], length, option_map, Some};
-ghost use Rattle.std.specs.List.{count_by, find, position, slice_get};
+ghost use Rattle.std.specs.List.{AllByRecursion, count_by, find, position, slice_get};
+ghost use Rattle.lb_table.specs.Entry.{deadline_of};
 ghost use Rattle.lb_table.specs.Place.{at_place};
-ghost use Rattle.lb_table.specs.Table.{Enters, FirstFree, entry_at, is_at, is_for, is_later, is_used, place_by_deadline as place_by, taken_at, waits_at};
+ghost use Rattle.lb_table.specs.Table.{ByDeadline, Enters, FirstFree, due, entry_at, is_at, is_for, is_later, is_used, place_by_deadline as place_by, taken_at, waits_at, without_due};
 
 use crate::entry::{Entry, Waiting};
 use crate::fault::EnterFault;
@@ -21,11 +22,14 @@ pub struct Table {
 
 impl Model for Table {
     ghost use Rattle.std.specs.Prelude.{List};
+    ghost use Rattle.lb_table.specs.Table.{ByDeadline};
     ghost use Rattle.lb_table.specs.declared.entry.Waiting.{Waiting};
 
     ghost Value = { List Waiting };
 
     ghost view = { λ t. t.items.items };
+
+    ghost invariant = { λ t. ByDeadline t.items.items };
 }
 
 /// How many query IDs there are (RFC 1035 section 4.1.1).
@@ -155,6 +159,29 @@ impl Table {
         let at = waits_at(self.items.as_slice(), Place { server, lane, id })?;
         let Waiting { place: _, entry } = self.items.remove(at);
         Some(entry)
+    }
+
+    /// Takes the query of least deadline out that is given up by now, of equal ones the one that was entered first, and tells
+    /// where it waited. It takes no memory.
+    pub fn take_due(&mut self, now: u64) -> Option<Waiting>
+        ensures due { result ≡ due now self.old }
+        ensures table { self.new ≡ without_due now self.old }
+        // none is given up before it
+        ensures least { IfSome result (λ w. AllByRecursion (λ o. deadline_of w.entry ≤ deadline_of o.entry) self.old) }
+    {
+        let first = self.items.first()?;
+        if u128::from(now) < first.entry.deadline() {
+            return None;
+        }
+        Some(self.items.remove(0))
+    }
+
+    /// What the list keeps true, for whoever proves something of it. It does nothing.
+    pub fn by_deadline(&self)
+        ensures { ByDeadline self.now }
+    {
+        // Read, so that what the table keeps true is at hand.
+        let _ = self.items.len();
     }
 
     /// How many queries wait for a server, by all its lanes.
