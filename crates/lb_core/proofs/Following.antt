@@ -19,16 +19,16 @@ use Rattle.lb_chain.specs.Seen.{SeenTwice}
 use Rattle.lb_servers.specs.declared.fault.ParkFault.{ParkFault}
 use Rattle.lb_servers.specs.Park.{Backends, added_pool, added_server, changed_pool, changed_server, max_pools, max_servers, removed_server}
 use Rattle.lb_servers.specs.Pool.{pool_named, with_policy}
-use Rattle.lb_servers.specs.Server.{change_server, is_server, server_named, with_mode}
+use Rattle.lb_servers.specs.Server.{change_server, is_server, marked as marked_as, server_named, with_mode}
 use Rattle.lb_table.specs.declared.entry.Entry.{Entry}
 use Rattle.lb_table.specs.declared.place.Place.{Place}
 use Rattle.lb_table.specs.Place.{at_place}
-use Rattle.lb_table.specs.Table.{entry_at}
+use Rattle.lb_table.specs.Table.{due, entry_at}
 use Rattle.lb_core.specs.declared.asked.Asked.{Asked}
 use Rattle.lb_core.specs.declared.event.Event.{Event}
-use Rattle.lb_core.specs.declared.event.Event.TheVariants.{Query, Reply, Edit}
+use Rattle.lb_core.specs.declared.event.Event.TheVariants.{Query, Reply, Tick, HealthResult, Edit}
 use Rattle.lb_core.specs.declared.command.Command.{Command}
-use Rattle.lb_core.specs.declared.command.Command.TheVariants.{RuleAdd, RuleRemove, RuleMove, ServerAdd, ServerRemove, ServerMode, PoolAdd, PoolPolicy}
+use Rattle.lb_core.specs.declared.command.Command.TheVariants.{RuleAdd, RuleRemove, RuleMove, ServerAdd, ServerRemove, ServerMode, PoolAdd, PoolPolicy, SetTimeout}
 use Rattle.lb_core.specs.declared.answer.Answer.{Answer}
 use Rattle.lb_core.specs.declared.answer.Note.{Note}
 use Rattle.lb_core.specs.declared.answer.Note.TheVariants as notes
@@ -42,7 +42,7 @@ use Rattle.lb_core.specs.Reply.{held_against, reply_step}
 use Rattle.lb_core.specs.Step.{RoutesFollow, StepsAt, asked_at}
 use Rattle.lb_core.proofs.Follows.{Follows, follows_added, follows_moved, follows_removed}
 use Rattle.std.proofs.lemmas.List.{length-map, map-append}
-use Rattle.std.specs.List.{filter, list_any, position_or_len}
+use Rattle.std.specs.List.{filter, list_any, position, position_or_len}
 use Rattle.lb_wire.specs.declared.addr.Origin.{Origin}
 use Rattle.lb_wire.specs.declared.transport.Kind.{Kind}
 use Rattle.lb_servers.specs.declared.fault.ParkFault.TheVariants as park_faults
@@ -65,7 +65,15 @@ use Rattle.lb_core.specs.Edit.{action_by}
 use Rattle.lb_core.specs.Forward.{PickForwards, sent}
 use Rattle.lb_core.specs.Query.{EndDecides, RuleDecides, default_pool, with_passes}
 use Rattle.lb_core.specs.Routes.{RoutePool, carried_out, left_by, passed_unless, route_named, route_of, routes_of, with_added, with_rules}
-use Rattle.lb_core.specs.Upstream.{picked_of, takes_turns, turned_if, with_turn}
+use Rattle.lb_core.specs.Upstream.{checked_by, is_check, on_backends, picked_of, put_into, removed_checked, takes_turns, turned_if, unchecked_by, with_mark, with_turn}
+use Rattle.lb_core.specs.Expiry.{Ends}
+use Rattle.lb_core.specs.Health.{after_result, result_at, result_by, result_step, with_change, with_check_at}
+use Rattle.lb_core.specs.declared.check.Check.{Check}
+use Rattle.lb_core.specs.declared.check.CheckSpec.{CheckSpec}
+use Rattle.lb_health.specs.Health.{result_of}
+use Rattle.lb_health.specs.declared.health.Changed.{Changed}
+use Rattle.lb_health.specs.declared.health.Changed.TheVariants as changes
+use Rattle.lb_table.specs.declared.entry.Waiting.{Waiting}
 use Rattle.lb_core.proofs.Refusals.{IsSeen, left_of, own_chain, seen_at, told_of}
 
 -- a pool that is changed, but not in its name
@@ -200,10 +208,10 @@ by_done : {A : Type 0} (note : A → Note) (p : Plain) (now : ℕ) (command : Co
 unfolding FollowsBy
 by_done note p now command park v is = is
 
-server_added : (mark : Bool) (p : Plain) (now : ℕ) (spec : ServerSpec) → FollowsBy notes.ServerAdded p now (ServerAdd spec) (added_server mark (backends_of (upstreams_of p)) spec)
-server_added mark p now spec =
+server_added : (mark : Bool) (p : Plain) (now : ℕ) (spec : ServerSpec) (check : CheckSpec) → FollowsBy notes.ServerAdded p now (ServerAdd spec check) (added_server mark (backends_of (upstreams_of p)) spec)
+server_added mark p now spec check =
     let park = backends_of (upstreams_of p) in
-    let command = ServerAdd spec in
+    let command = ServerAdd spec check in
     let refuse : (fault : ParkFault) → FollowsBy notes.ServerAdded p now command (park, Err fault) = by_fault notes.ServerAdded p now command in
     by_if notes.ServerAdded p now command (lacks_pool park.pools (stated_pools spec.pools)) (park, Err park_faults.NoSuchPool) _ (refuse park_faults.NoSuchPool)
     (by_if notes.ServerAdded p now command (is_some (server_named park.servers spec.name)) (park, Err park_faults.NameTaken) _ (refuse park_faults.NameTaken)
@@ -211,6 +219,21 @@ server_added mark p now spec =
     (by_if notes.ServerAdded p now command (park.next == 2 ^ 64) (park, Err park_faults.NoMoreIds) _ (refuse park_faults.NoMoreIds)
     (by_if notes.ServerAdded p now command mark (park, Err park_faults.NoMemory) (record park { next = park.next + 1; servers = park.servers ++ new_server park.next park.pools spec ∷ [] }, Ok (record { 0 = park.next })) (refuse park_faults.NoMemory)
     (by_done notes.ServerAdded p now command (record park { next = park.next + 1; servers = park.servers ++ new_server park.next park.pools spec ∷ [] }) (record { 0 = park.next }) refl)))))
+
+-- the health check of a server that is added or removed changes no route
+checked_follows : (p : Plain) (now : ℕ) (command : Command) (check : CheckSpec) (x : Backends × Result ServerId ParkFault) → FollowsBy notes.ServerAdded p now command x →
+    routes_of (upstream_changed p (upstream_told notes.ServerAdded (checked_by check (on_backends (upstreams_of p) x)))).0
+    ≡ left_by (routes_of p) (Edit now command) OfNone (servers_told notes.ServerAdded x.1)
+unfolding FollowsBy
+checked_follows p now command check (park, Ok id) follows = follows
+checked_follows p now command check (park, Err fault) follows = follows
+
+unchecked_follows : (p : Plain) (now : ℕ) (command : Command) (id : ServerId) (x : Backends × Result (Unit {0}) ParkFault) → FollowsBy (λ _. notes.ServerRemoved id) p now command x →
+    routes_of (upstream_changed p (upstream_told (λ _. notes.ServerRemoved id) (unchecked_by id (on_backends (upstreams_of p) x)))).0
+    ≡ left_by (routes_of p) (Edit now command) OfNone (servers_told (λ _. notes.ServerRemoved id) x.1)
+unfolding FollowsBy
+unchecked_follows p now command id (park, Ok x) follows = follows
+unchecked_follows p now command id (park, Err fault) follows = follows
 
 pool_added : (mark : Bool) (p : Plain) (now : ℕ) (name : PoolName) → FollowsBy (λ _. notes.PoolAdded name) p now (PoolAdd name) (added_pool mark (backends_of (upstreams_of p)) name)
 pool_added mark p now name =
@@ -225,19 +248,19 @@ pool_added mark p now name =
     (ap (λ (pools : List RoutePool). record (routes_of p) { pools = pools }) (map-append route_of p.pools (new_pool name ∷ []))))))
 
 server_removed : (p : Plain) (now : ℕ) (name : List ℕ) (id : Option ServerId) →
-    routes_of (upstream_changed p (server_edited notes.ServerRemoved removed_server (upstreams_of p) id)).0 ≡ left_by (routes_of p) (Edit now (ServerRemove name)) OfNone (server_edited notes.ServerRemoved removed_server (upstreams_of p) id).1
-unfolding FollowsBy
+    routes_of (upstream_changed p (server_edited notes.ServerRemoved removed_checked (upstreams_of p) id)).0 ≡ left_by (routes_of p) (Edit now (ServerRemove name)) OfNone (server_edited notes.ServerRemoved removed_checked (upstreams_of p) id).1
 server_removed p now name None = refl
 server_removed p now name (Some id) =
     let park = backends_of (upstreams_of p) in
     let note : Unit {0} → Note = λ _. notes.ServerRemoved id in
     let less = record park { servers = filter (λ l. not (is_server id l)) park.servers } in
-    by_if note p now (ServerRemove name) (list_any (is_server id) park.servers) (less, Ok tt) (park, Err park_faults.NoSuchServer)
-    (by_done note p now (ServerRemove name) less tt refl) (by_fault note p now (ServerRemove name) park_faults.NoSuchServer)
+    unchecked_follows p now (ServerRemove name) id (removed_server park id)
+    (by_if note p now (ServerRemove name) (list_any (is_server id) park.servers) (less, Ok tt) (park, Err park_faults.NoSuchServer)
+    (by_done note p now (ServerRemove name) less tt refl) (by_fault note p now (ServerRemove name) park_faults.NoSuchServer))
 
 server_put : (p : Plain) (now : ℕ) (name : List ℕ) (mode : Mode) (id : Option ServerId) →
-    routes_of (upstream_changed p (server_edited (λ id. notes.ServerMode id mode) (changed_server (with_mode mode)) (upstreams_of p) id)).0
-    ≡ left_by (routes_of p) (Edit now (ServerMode name mode)) OfNone (server_edited (λ id. notes.ServerMode id mode) (changed_server (with_mode mode)) (upstreams_of p) id).1
+    routes_of (upstream_changed p (server_edited (λ id. notes.ServerMode id mode) (put_into mode) (upstreams_of p) id)).0
+    ≡ left_by (routes_of p) (Edit now (ServerMode name mode)) OfNone (server_edited (λ id. notes.ServerMode id mode) (put_into mode) (upstreams_of p) id).1
 unfolding FollowsBy
 server_put p now name mode None = refl
 server_put p now name mode (Some id) =
@@ -267,11 +290,40 @@ edit_follows mark p now (RuleAdd place rule) seen =
     added_follows mark p now place rule (rule_by (pool_named p.pools) rule) seen (ap (λ (found : Option Rule). with_added (routes_of p) place found) (rule_alike p.pools rule))
 edit_follows mark p now (RuleRemove id) seen = rules_follow (λ _. notes.RuleRemoved id) p now (RuleRemove id) (removed (chain_of p) id) (removed (chain_of p) id) seen (follows_removed (chain_of p) id) refl
 edit_follows mark p now (RuleMove id place) seen = rules_follow (λ _. notes.RuleMoved id) p now (RuleMove id place) (moved mark (chain_of p) id place) (moved false (chain_of p) id place) seen (follows_moved mark (chain_of p) id place) refl
-edit_follows mark p now (ServerAdd spec) seen = server_added mark p now spec
+edit_follows mark p now (ServerAdd spec check) seen =
+    checked_follows p now (ServerAdd spec check) check (added_server mark (backends_of (upstreams_of p)) spec) (server_added mark p now spec check)
 edit_follows mark p now (ServerRemove name) seen = server_removed p now name (server_by (upstreams_of p) name)
 edit_follows mark p now (ServerMode name mode) seen = server_put p now name mode (server_by (upstreams_of p) name)
 edit_follows mark p now (PoolAdd name) seen = pool_added mark p now name
 edit_follows mark p now (PoolPolicy name policy) seen = policy_put p now name policy (pool_named p.pools name)
+edit_follows mark p now (SetTimeout timeout) seen = refl
+
+-- no tick and no health result changes a pool
+tick_pools : (ups after : Upstreams) (now : ℕ) (w : Option Waiting) (answer : Answer) → Ends ups now w answer after → after.pools ≡ ups.pools
+tick_pools ups after now None answer step = ap (λ (u : Upstreams). u.pools) (left_of after answer _ step)
+tick_pools ups after now (Some w) answer step = ap (λ (u : Upstreams). u.pools) (left_of after answer _ step.2)
+
+same_pools_if : {A : Type 0} (b : Bool) (x y : Backends × A) (pools : List Pool) → x.0.pools ≡ pools → y.0.pools ≡ pools → (if b then x else y).0.pools ≡ pools
+same_pools_if true x y pools first second = first
+same_pools_if false x y pools first second = second
+
+mark_pools : (up : Bool) (server : ServerId) (ups : Upstreams) → (with_mark up server ups).pools ≡ ups.pools
+mark_pools up server ups =
+    let park = backends_of ups in
+    same_pools_if (list_any (is_server server) park.servers) (record park { servers = change_server server (marked_as up) park.servers }, Ok tt) (park, Err park_faults.NoSuchServer) ups.pools refl refl
+
+change_pools : (server : ServerId) (change : Changed) (ups : Upstreams) → (with_change server change ups).pools ≡ ups.pools
+change_pools server changes.No ups = refl
+change_pools server changes.Up ups = mark_pools true server ups
+change_pools server changes.Down ups = mark_pools false server ups
+
+result_pools_by : (ups : Upstreams) (server : ServerId) (ok : Bool) (at : ℕ) (check : Option Check) → (result_by ups server ok at check).0.pools ≡ ups.pools
+result_pools_by ups server ok at None = refl
+result_pools_by ups server ok at (Some check) = change_pools server (result_of check.health ok).1 (with_check_at at (after_result ok check) ups)
+
+result_pools : (ups : Upstreams) (server : ServerId) (ok : Bool) (at : Option ℕ) → (result_at ups server ok at).0.pools ≡ ups.pools
+result_pools ups server ok None = refl
+result_pools ups server ok (Some at) = result_pools_by ups server ok at (slice_get ups.checks at)
 
 step_follows : (p new : Plain) (event : Event) (reading : Reading) (answer : Answer) → IsSeen p → StepsAt p event reading answer new → Follow p event reading answer new
 step_follows p new (Query now origin kind word bytes) (OfQuery reading) answer seen step = query_follows p new now origin kind word bytes reading answer step
@@ -282,6 +334,16 @@ step_follows p new (Reply now server lane bytes) (OfReply reading) answer seen s
     ∙ upstream_routes p (reply_step (upstreams_of p) server lane bytes reading) (ap (λ (pools : List Pool). map route_of pools) (reply_pools (upstreams_of p) server lane bytes reading))
 step_follows p new (Reply now server lane bytes) (OfQuery reading) answer seen step = absurd step
 step_follows p new (Reply now server lane bytes) OfNone answer seen step = absurd step
+step_follows p new (Tick now) OfNone answer seen step =
+    ap routes_of step.2
+    ∙ upstream_routes p (step.0, answer) (ap (λ (pools : List Pool). map route_of pools) (tick_pools (upstreams_of p) step.0 p.moment (due p.moment p.outstanding) answer step.1))
+step_follows p new (Tick now) (OfQuery reading) answer seen step = absurd step
+step_follows p new (Tick now) (OfReply reading) answer seen step = absurd step
+step_follows p new (HealthResult now server ok) OfNone answer seen step =
+    ap routes_of (left_of new answer (upstream_changed p (result_step (upstreams_of p) server ok)) step)
+    ∙ upstream_routes p (result_step (upstreams_of p) server ok) (ap (λ (pools : List Pool). map route_of pools) (result_pools (upstreams_of p) server ok (position (is_check server) p.checks)))
+step_follows p new (HealthResult now server ok) (OfQuery reading) answer seen step = absurd step
+step_follows p new (HealthResult now server ok) (OfReply reading) answer seen step = absurd step
 step_follows p new (Edit now command) OfNone answer seen step =
     ap routes_of (left_of new answer (edit_of (marked answer) p command) step)
     ∙ edit_follows (marked answer) p now command seen

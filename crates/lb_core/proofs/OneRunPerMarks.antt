@@ -15,14 +15,16 @@ use Rattle.lb_chain.specs.declared.walked.Verdict.TheVariants as verdicts
 use Rattle.lb_chain.specs.declared.walked.Walked.{Walked}
 use Rattle.lb_table.specs.declared.entry.Waiting.{Waiting}
 use Rattle.lb_table.specs.Place.{at_place}
-use Rattle.lb_table.specs.Table.{FirstFree, is_used}
+use Rattle.lb_table.specs.Table.{FirstFree, due, is_used}
 use Rattle.lb_core.specs.declared.asked.Asked.{Asked}
 use Rattle.lb_core.specs.declared.event.Event.{Event}
-use Rattle.lb_core.specs.declared.event.Event.TheVariants.{Query, Reply, Edit}
+use Rattle.lb_core.specs.declared.event.Event.TheVariants.{Query, Reply, Tick, HealthResult, Edit}
 use Rattle.lb_core.specs.declared.answer.Answer.{Answer}
 use Rattle.lb_core.specs.Answer.{Leaves, marked}
 use Rattle.lb_core.specs.Edit.{edit_of}
-use Rattle.lb_core.specs.Forward.{PickForwards, lane_of, sent}
+use Rattle.lb_core.specs.declared.answer.Answer.TheVariants.{Expired}
+use Rattle.lb_core.specs.Expiry.{Ends, without_expired}
+use Rattle.lb_core.specs.Forward.{PickForwards, failure_of, lane_of, sent}
 use Rattle.lb_core.specs.Plain.{Plain, at_plain, upstreams_of, with_upstreams}
 use Rattle.lb_core.specs.Query.{EndDecides, QuerySteps, ReadSteps, RuleDecides, WalkedSteps, default_pool, is_transfer, walked_of, with_passes}
 use Rattle.lb_core.specs.Reading.{Reading, OfNone, OfQuery, OfReply, OneEventReading, moment_of}
@@ -105,45 +107,75 @@ one_event_reading queries replies (Reply now server lane bytes) (OfReply a) (OfQ
 one_event_reading queries replies (Reply now server lane bytes) (OfReply a) OfNone at_a at_b = absurd at_b
 one_event_reading queries replies (Reply now server lane bytes) (OfQuery a) b at_a at_b = absurd at_a
 one_event_reading queries replies (Reply now server lane bytes) OfNone b at_a at_b = absurd at_a
+one_event_reading queries replies (Tick now) OfNone OfNone at_a at_b = refl
+one_event_reading queries replies (Tick now) OfNone (OfQuery b) at_a at_b = absurd at_b
+one_event_reading queries replies (Tick now) OfNone (OfReply b) at_a at_b = absurd at_b
+one_event_reading queries replies (Tick now) (OfQuery a) b at_a at_b = absurd at_a
+one_event_reading queries replies (Tick now) (OfReply a) b at_a at_b = absurd at_a
+one_event_reading queries replies (HealthResult now server ok) OfNone OfNone at_a at_b = refl
+one_event_reading queries replies (HealthResult now server ok) OfNone (OfQuery b) at_a at_b = absurd at_b
+one_event_reading queries replies (HealthResult now server ok) OfNone (OfReply b) at_a at_b = absurd at_b
+one_event_reading queries replies (HealthResult now server ok) (OfQuery a) b at_a at_b = absurd at_a
+one_event_reading queries replies (HealthResult now server ok) (OfReply a) b at_a at_b = absurd at_a
 one_event_reading queries replies (Edit now command) OfNone OfNone at_a at_b = refl
 one_event_reading queries replies (Edit now command) OfNone (OfQuery b) at_a at_b = absurd at_b
 one_event_reading queries replies (Edit now command) OfNone (OfReply b) at_a at_b = absurd at_b
 one_event_reading queries replies (Edit now command) (OfQuery a) b at_a at_b = absurd at_a
 one_event_reading queries replies (Edit now command) (OfReply a) b at_a at_b = absurd at_a
 
+-- one view of the octets of a query
+same_view : (a b : QueryView) → Ok a ≡ Ok b → a ≡ b
+same_view a b is = cc is
+
+one_tick : OneReading → (ups x y : Upstreams) (now : ℕ) (w : Option Waiting) (a b : Answer) → Ends ups now w a x → Ends ups now w b y → Same x a y b
+one_tick queries ups x y now None a b at_a at_b = at_a ∙ sym at_b
+one_tick queries ups x y now (Some w) a b at_a at_b =
+    let view : at_a.0 ≡ at_b.0 = same_view at_a.0 at_b.0 (queries w.entry.asked (Ok at_a.0) (Ok at_b.0) at_a.1 at_b.1) in
+    at_a.2 ∙ ap (λ (v : QueryView). (without_expired now ups, Expired w.entry.origin (failure_of v))) view ∙ sym at_b.2
+
 -- an event, what it reads as and its mark determine a step
-one_step_at : (plain : Plain) (event : Event) (reading : Reading) (a b : Answer) (m n : Plain) → StepsAt plain event reading a m → StepsAt plain event reading b n → marked a ≡ marked b → Same m a n b
-one_step_at plain (Query now origin kind word bytes) (OfQuery reading) a b m n at_a at_b marks =
+one_step_at : OneReading → (plain : Plain) (event : Event) (reading : Reading) (a b : Answer) (m n : Plain) → StepsAt plain event reading a m → StepsAt plain event reading b n → marked a ≡ marked b → Same m a n b
+one_step_at queries plain (Query now origin kind word bytes) (OfQuery reading) a b m n at_a at_b marks =
     let asked = asked_at plain.moment origin kind word in
     one_query (marked b) plain m n asked bytes reading a b (subst (λ (mark : Bool). QuerySteps mark plain asked bytes reading a m) marks at_a) at_b
-one_step_at plain (Query now origin kind word bytes) (OfReply reading) a b m n at_a at_b marks = absurd at_a
-one_step_at plain (Query now origin kind word bytes) OfNone a b m n at_a at_b marks = absurd at_a
-one_step_at plain (Reply now server lane bytes) (OfReply reading) a b m n at_a at_b marks = at_a ∙ sym at_b
-one_step_at plain (Reply now server lane bytes) (OfQuery reading) a b m n at_a at_b marks = absurd at_a
-one_step_at plain (Reply now server lane bytes) OfNone a b m n at_a at_b marks = absurd at_a
-one_step_at plain (Edit now command) OfNone a b m n at_a at_b marks = at_a ∙ ap (λ (mark : Bool). edit_of mark plain command) marks ∙ sym at_b
-one_step_at plain (Edit now command) (OfQuery reading) a b m n at_a at_b marks = absurd at_a
-one_step_at plain (Edit now command) (OfReply reading) a b m n at_a at_b marks = absurd at_a
+one_step_at queries plain (Query now origin kind word bytes) (OfReply reading) a b m n at_a at_b marks = absurd at_a
+one_step_at queries plain (Query now origin kind word bytes) OfNone a b m n at_a at_b marks = absurd at_a
+one_step_at queries plain (Reply now server lane bytes) (OfReply reading) a b m n at_a at_b marks = at_a ∙ sym at_b
+one_step_at queries plain (Reply now server lane bytes) (OfQuery reading) a b m n at_a at_b marks = absurd at_a
+one_step_at queries plain (Reply now server lane bytes) OfNone a b m n at_a at_b marks = absurd at_a
+one_step_at queries plain (Tick now) OfNone a b m n at_a at_b marks =
+    let whole : (at_a.0, a) ≡ (at_b.0, b) = one_tick queries (upstreams_of plain) at_a.0 at_b.0 plain.moment (due plain.moment plain.outstanding) a b at_a.1 at_b.1 in
+    ap (λ (p : Plain). (p, a)) at_a.2
+    ∙ ap (λ (d : Upstreams × Answer). (with_upstreams d.0 plain, d.1)) whole
+    ∙ ap (λ (p : Plain). (p, b)) (sym at_b.2)
+one_step_at queries plain (Tick now) (OfQuery reading) a b m n at_a at_b marks = absurd at_a
+one_step_at queries plain (Tick now) (OfReply reading) a b m n at_a at_b marks = absurd at_a
+one_step_at queries plain (HealthResult now server ok) OfNone a b m n at_a at_b marks = at_a ∙ sym at_b
+one_step_at queries plain (HealthResult now server ok) (OfQuery reading) a b m n at_a at_b marks = absurd at_a
+one_step_at queries plain (HealthResult now server ok) (OfReply reading) a b m n at_a at_b marks = absurd at_a
+one_step_at queries plain (Edit now command) OfNone a b m n at_a at_b marks = at_a ∙ ap (λ (mark : Bool). edit_of mark plain command) marks ∙ sym at_b
+one_step_at queries plain (Edit now command) (OfQuery reading) a b m n at_a at_b marks = absurd at_a
+one_step_at queries plain (Edit now command) (OfReply reading) a b m n at_a at_b marks = absurd at_a
 
-one_step : OneEventReading → (old : Plain) (event : Event) (a b : Answer) (m n : Plain) → Answers old event a m → Answers old event b n → marked a ≡ marked b → (a ≡ b) × (m ≡ n)
-one_step once old event a b m n at_a at_b marks =
+one_step : OneReading → OneEventReading → (old : Plain) (event : Event) (a b : Answer) (m n : Plain) → Answers old event a m → Answers old event b n → marked a ≡ marked b → (a ≡ b) × (m ≡ n)
+one_step queries once old event a b m n at_a at_b marks =
     let plain = at_plain (moment_of event) old in
     let same : at_b.reading ≡ at_a.reading = once event at_b.reading at_a.reading at_b.reads at_a.reads in
-    let whole : (m, a) ≡ (n, b) = one_step_at plain event at_a.reading a b m n at_a.step (subst (λ (r : Reading). StepsAt plain event r b n) same at_b.step) marks in
+    let whole : (m, a) ≡ (n, b) = one_step_at queries plain event at_a.reading a b m n at_a.step (subst (λ (r : Reading). StepsAt plain event r b n) same at_b.step) marks in
     (ap (λ (p : Plain × Answer). p.1) whole, ap (λ (p : Plain × Answer). p.0) whole)
 
 -- events and marks determine a run
-pub one_end : OneEventReading → (old : Plain) (events : List Event) (a b : List Answer) (m n : Plain) → IsRun old events a m → IsRun old events b n → map marked a ≡ map marked b → (a ≡ b) × (m ≡ n)
-one_end once old [] [] [] m n run_a run_b marks = (refl, run_a ∙ sym run_b)
-one_end once old [] [] (y ∷ b) m n run_a run_b marks = absurd run_b
-one_end once old [] (x ∷ a) b m n run_a run_b marks = absurd run_a
-one_end once old (event ∷ events) [] b m n run_a run_b marks = absurd run_a
-one_end once old (event ∷ events) (x ∷ a) [] m n run_a run_b marks = absurd run_b
-one_end once old (event ∷ events) (x ∷ a) (y ∷ b) m n run_a run_b marks =
+pub one_end : OneReading → OneEventReading → (old : Plain) (events : List Event) (a b : List Answer) (m n : Plain) → IsRun old events a m → IsRun old events b n → map marked a ≡ map marked b → (a ≡ b) × (m ≡ n)
+one_end queries once old [] [] [] m n run_a run_b marks = (refl, run_a ∙ sym run_b)
+one_end queries once old [] [] (y ∷ b) m n run_a run_b marks = absurd run_b
+one_end queries once old [] (x ∷ a) b m n run_a run_b marks = absurd run_a
+one_end queries once old (event ∷ events) [] b m n run_a run_b marks = absurd run_a
+one_end queries once old (event ∷ events) (x ∷ a) [] m n run_a run_b marks = absurd run_b
+one_end queries once old (event ∷ events) (x ∷ a) (y ∷ b) m n run_a run_b marks =
     let first : marked x ≡ marked y = cc marks in
     let others : map marked a ≡ map marked b = cc marks in
-    let step = one_step once old event x y run_a.0 run_b.0 run_a.1 run_b.1 first in
+    let step = one_step queries once old event x y run_a.0 run_b.0 run_a.1 run_b.1 first in
     let mid : run_b.0 ≡ run_a.0 = sym step.1 in
     let P : Plain → Type 0 = λ p. IsRun p events b n in
-    let end = one_end once run_a.0 events a b m n run_a.2 (subst P mid run_b.2) others in
+    let end = one_end queries once run_a.0 events a b m n run_a.2 (subst P mid run_b.2) others in
     (ap (λ (z : Answer). z ∷ a) step.0 ∙ ap (λ (zs : List Answer). y ∷ zs) end.0, end.1)

@@ -17,8 +17,9 @@ use Rattle.lb_core.specs.declared.answer.EditFault.TheVariants.{Servers}
 use Rattle.lb_core.specs.declared.answer.Note.{Note}
 use Rattle.lb_core.specs.declared.answer.Note.TheVariants.{PoolAdded, ServerAdded}
 use Rattle.lb_core.specs.Answer.{marked}
-use Rattle.lb_core.specs.Edit.{Lacks, servers_told, upstream_edited}
-use Rattle.lb_core.specs.Upstream.{Upstreams, backends_of, on_backends}
+use Rattle.lb_core.specs.declared.check.CheckSpec.{CheckSpec}
+use Rattle.lb_core.specs.Edit.{Lacks, servers_told, upstream_edited, upstream_told}
+use Rattle.lb_core.specs.Upstream.{Upstreams, added_checked, backends_of, on_backends}
 use Rattle.lb_core.proofs.ChainEdits.{false_true}
 
 -- a refusal that is not for want of memory comes with and without it
@@ -40,17 +41,17 @@ pool_lacks park name is =
     unlock (list_any (is_named name) park.pools) park faults.NameTaken _ _ (record { 0 = length park.pools }) refl is
     (λ is. unlock (nat_le max_pools (length park.pools)) park faults.TooMany _ _ (record { 0 = length park.pools }) refl is (λ is. refl))
 
-pub may_add_server : (old new : Upstreams) (spec : ServerSpec) (fault : ParkFault) →
-    (new, Err fault) ≡ on_backends old (added_server (lacks {A = ServerId} (Err fault)) (backends_of old) spec) → IsTrue (marked (Refused (Servers fault))) →
-    Lacks (λ mark. upstream_edited ServerAdded old (added_server mark (backends_of old) spec))
-may_add_server old new spec faults.NoMemory is mark =
+pub may_add_server : (old new : Upstreams) (spec : ServerSpec) (check : CheckSpec) (fault : ParkFault) →
+    (new, Err fault) ≡ added_checked (lacks {A = ServerId} (Err fault)) old spec check → IsTrue (marked (Refused (Servers fault))) →
+    Lacks (λ mark. upstream_told ServerAdded (added_checked mark old spec check))
+may_add_server old new spec check faults.NoMemory is mark =
     let done = server_lacks (backends_of old) spec (sym (ap (λ (p : Upstreams × Result ServerId ParkFault). p.1) is)) in
     (ServerAdded (record { 0 = old.next_server }), ap (servers_told ServerAdded) done)
-may_add_server old new spec faults.NoSuchServer is mark = absurd (false_true mark)
-may_add_server old new spec faults.NoSuchPool is mark = absurd (false_true mark)
-may_add_server old new spec faults.NameTaken is mark = absurd (false_true mark)
-may_add_server old new spec faults.TooMany is mark = absurd (false_true mark)
-may_add_server old new spec faults.NoMoreIds is mark = absurd (false_true mark)
+may_add_server old new spec check faults.NoSuchServer is mark = absurd (false_true mark)
+may_add_server old new spec check faults.NoSuchPool is mark = absurd (false_true mark)
+may_add_server old new spec check faults.NameTaken is mark = absurd (false_true mark)
+may_add_server old new spec check faults.TooMany is mark = absurd (false_true mark)
+may_add_server old new spec check faults.NoMoreIds is mark = absurd (false_true mark)
 
 pub may_add_pool : (old new : Upstreams) (name : PoolName) (fault : ParkFault) →
     (new, Err fault) ≡ on_backends old (added_pool (lacks {A = PoolId} (Err fault)) (backends_of old) name) → IsTrue (marked (Refused (Servers fault))) →

@@ -27,22 +27,30 @@ use Rattle.lb_table.specs.declared.entry.Entry.{Entry}
 use Rattle.lb_table.specs.declared.entry.Waiting.{Waiting}
 use Rattle.lb_table.specs.declared.place.Place.{Place}
 use Rattle.lb_table.specs.Place.{at_place}
-use Rattle.lb_table.specs.Table.{entry_at}
+use Rattle.lb_table.specs.Table.{due, entry_at}
+use Rattle.lb_health.specs.declared.health.Changed.{Changed}
+use Rattle.lb_health.specs.declared.health.Changed.TheVariants as changes
+use Rattle.lb_servers.specs.declared.server.Mode.{Mode}
+use Rattle.lb_servers.specs.declared.spec.ServerSpec.{ServerSpec}
 use Rattle.lb_core.specs.declared.asked.Asked.{Asked}
 use Rattle.lb_core.specs.declared.event.Event.{Event}
-use Rattle.lb_core.specs.declared.event.Event.TheVariants.{Query, Reply, Edit}
+use Rattle.lb_core.specs.declared.event.Event.TheVariants.{Query, Reply, Tick, HealthResult, Edit}
 use Rattle.lb_core.specs.declared.command.Command.{Command}
-use Rattle.lb_core.specs.declared.command.Command.TheVariants.{RuleAdd, RuleRemove, RuleMove, ServerAdd, ServerRemove, ServerMode, PoolAdd, PoolPolicy}
+use Rattle.lb_core.specs.declared.command.Command.TheVariants.{RuleAdd, RuleRemove, RuleMove, ServerAdd, ServerRemove, ServerMode, PoolAdd, PoolPolicy, SetTimeout}
 use Rattle.lb_core.specs.declared.answer.Answer.{Answer}
 use Rattle.lb_core.specs.declared.answer.Note.{Note}
 use Rattle.lb_core.specs.declared.answer.Note.TheVariants as notes
 use Rattle.lb_core.specs.Answer.{is_refused, marked}
 use Rattle.lb_core.specs.Plain.{Plain, at_plain, chain_of, upstreams_of, with_chain, with_upstreams}
-use Rattle.lb_core.specs.Upstream.{Upstreams, backends_of, loaded_by, server_of, with_backends}
-use Rattle.lb_core.specs.Edit.{edit_of, place_or_end, pool_edited, rule_added, rule_by, rules_told, server_by, server_edited, servers_told, upstream_changed, upstream_edited}
+use Rattle.lb_core.specs.Upstream.{Upstreams, added_checked, backends_of, checked_by, loaded_by, on_backends, put_into, removed_checked, server_of, unchecked_by, with_backends}
+use Rattle.lb_core.specs.Edit.{edit_of, place_or_end, pool_edited, rule_added, rule_by, rules_told, server_by, server_edited, servers_told, upstream_changed, upstream_edited, upstream_told}
 use Rattle.lb_core.specs.Query.{QuerySteps, ReadSteps, WalkedSteps, is_transfer, walked_of}
 use Rattle.lb_core.specs.Reading.{Reading, OfNone, OfQuery, OfReply, moment_of}
 use Rattle.lb_core.specs.Reply.{held_against, reply_step}
+use Rattle.lb_core.specs.Expiry.{Ends}
+use Rattle.lb_core.specs.Health.{result_step, result_taken, result_told}
+use Rattle.lb_core.specs.declared.check.CheckSpec.{CheckSpec}
+use Rattle.lb_core.proofs.ChainEdits.{false_true}
 use Rattle.lb_core.specs.Step.{RefusalsChangeNothing, StepsAt, asked_at}
 use Rattle.lb_core.proofs.Follows.{Follows, refuses, follows_added, follows_changed_pool, follows_changed_server, follows_moved, follows_pool, follows_removed, follows_removed_server, follows_server}
 use Rattle.lb_core.proofs.Forwards.{ended_plain}
@@ -77,17 +85,40 @@ servers_refuse note (Err fault) = refl
 kept_rules : {A : Type 0} (note : A → Note) (p : Plain) (x y : Rules × Result A ChainFault) → IsSeen p → Follows (chain_of p) x y → is_refused (rules_told note x.1) ≡ true → with_chain x.0 p ≡ p
 kept_rules note p x y seen follows is = ap (λ (c : Rules). with_chain c p) (follows.kept (sym (rules_refuse note x.1) ∙ is)) ∙ own_chain p seen
 
+kept_backends : {A : Type 0} (ups : Upstreams) (x y : Backends × Result A ParkFault) → Follows (backends_of ups) x y → refuses x.1 ≡ true → with_backends x.0 ups ≡ ups
+kept_backends ups x y follows is = ap (λ (b : Backends). with_backends b ups) (follows.kept is) ∙ own_backends ups
+
 kept_upstream : {A : Type 0} (note : A → Note) (ups : Upstreams) (x y : Backends × Result A ParkFault) → Follows (backends_of ups) x y → is_refused (servers_told note x.1) ≡ true → with_backends x.0 ups ≡ ups
-kept_upstream note ups x y follows is = ap (λ (b : Backends). with_backends b ups) (follows.kept (sym (servers_refuse note x.1) ∙ is)) ∙ own_backends ups
+kept_upstream note ups x y follows is = kept_backends ups x y follows (sym (servers_refuse note x.1) ∙ is)
+
+-- with the health check of a server that was refused, and without that of one that was not removed
+kept_checked : (check : CheckSpec) (ups : Upstreams) (done : Upstreams × Result ServerId ParkFault) → (refuses done.1 ≡ true → done.0 ≡ ups) → refuses done.1 ≡ true → (checked_by check done).0 ≡ ups
+kept_checked check ups (left, Ok id) kept is = absurd (false_true is)
+kept_checked check ups (left, Err fault) kept is = kept is
+
+kept_unchecked : (id : ServerId) (ups : Upstreams) (done : Upstreams × Result (Unit {0}) ParkFault) → (refuses done.1 ≡ true → done.0 ≡ ups) → refuses done.1 ≡ true → (unchecked_by id done).0 ≡ ups
+kept_unchecked id ups (left, Ok x) kept is = absurd (false_true is)
+kept_unchecked id ups (left, Err fault) kept is = kept is
+
+kept_new : (mark : Bool) (ups : Upstreams) (spec : ServerSpec) (check : CheckSpec) → refuses (added_checked mark ups spec check).1 ≡ true → (added_checked mark ups spec check).0 ≡ ups
+kept_new mark ups spec check is =
+    kept_checked check ups (on_backends ups (added_server mark (backends_of ups) spec)) (kept_backends ups (added_server mark (backends_of ups) spec) _ (follows_server mark (backends_of ups) spec)) is
+
+kept_removed : (ups : Upstreams) (id : ServerId) → refuses (removed_checked ups id).1 ≡ true → (removed_checked ups id).0 ≡ ups
+kept_removed ups id is =
+    kept_unchecked id ups (on_backends ups (removed_server (backends_of ups) id)) (kept_backends ups (removed_server (backends_of ups) id) _ (follows_removed_server (backends_of ups) id)) is
+
+kept_put : (mode : Mode) (ups : Upstreams) (id : ServerId) → refuses (put_into mode ups id).1 ≡ true → (put_into mode ups id).0 ≡ ups
+kept_put mode ups id is = kept_backends ups (changed_server (with_mode mode) (backends_of ups) id) _ (follows_changed_server (with_mode mode) (backends_of ups) id) is
 
 kept_added : (mark : Bool) (p : Plain) (place : Option ℕ) (rule : Option Rule) → IsSeen p → is_refused (rule_added mark p place rule).1 ≡ true → (rule_added mark p place rule).0 ≡ p
 kept_added mark p place None seen is = refl
 kept_added mark p place (Some rule) seen is = kept_rules notes.RuleAdded p _ _ seen (follows_added mark (chain_of p) (place_or_end place p.rules) rule) is
 
-kept_server : (note : ServerId → Note) (edit : Backends → ServerId → Backends × Result (Unit {0}) ParkFault) (ups : Upstreams) (id : Option ServerId) →
-    ((park : Backends) (id : ServerId) → Follows park (edit park id) (edit park id)) → is_refused (server_edited note edit ups id).1 ≡ true → (server_edited note edit ups id).0 ≡ ups
-kept_server note edit ups None follows is = refl
-kept_server note edit ups (Some id) follows is = kept_upstream (λ _. note id) ups (edit (backends_of ups) id) (edit (backends_of ups) id) (follows (backends_of ups) id) is
+kept_server : (note : ServerId → Note) (edit : Upstreams → ServerId → Upstreams × Result (Unit {0}) ParkFault) (ups : Upstreams) (id : Option ServerId) →
+    ((ups : Upstreams) (id : ServerId) → refuses (edit ups id).1 ≡ true → (edit ups id).0 ≡ ups) → is_refused (server_edited note edit ups id).1 ≡ true → (server_edited note edit ups id).0 ≡ ups
+kept_server note edit ups None keeps is = refl
+kept_server note edit ups (Some id) keeps is = keeps ups id (sym (servers_refuse (λ _. note id) (edit ups id).1) ∙ is)
 
 kept_pool : (note : Note) (edit : Backends → PoolId → Backends × Result (Unit {0}) ParkFault) (ups : Upstreams) (pool : Option PoolId) →
     ((park : Backends) (pool : PoolId) → Follows park (edit park pool) (edit park pool)) → is_refused (pool_edited note edit ups pool).1 ≡ true → (pool_edited note edit ups pool).0 ≡ ups
@@ -103,16 +134,16 @@ kept_command : (mark : Bool) (p : Plain) (command : Command) → IsSeen p → is
 kept_command mark p (RuleAdd place rule) seen is = kept_added mark p place (rule_by (pool_named p.pools) rule) seen is
 kept_command mark p (RuleRemove id) seen is = kept_rules (λ _. notes.RuleRemoved id) p (removed (chain_of p) id) (removed (chain_of p) id) seen (follows_removed (chain_of p) id) is
 kept_command mark p (RuleMove id place) seen is = kept_rules (λ _. notes.RuleMoved id) p (moved mark (chain_of p) id place) (moved false (chain_of p) id place) seen (follows_moved mark (chain_of p) id place) is
-kept_command mark p (ServerAdd spec) seen is =
+kept_command mark p (ServerAdd spec check) seen is =
     let ups = upstreams_of p in
-    kept_changed p (upstream_edited notes.ServerAdded ups (added_server mark (backends_of ups) spec)) (kept_upstream notes.ServerAdded ups _ _ (follows_server mark (backends_of ups) spec) is)
+    kept_changed p (upstream_told notes.ServerAdded (added_checked mark ups spec check)) (kept_new mark ups spec check (sym (servers_refuse notes.ServerAdded (added_checked mark ups spec check).1) ∙ is))
 kept_command mark p (ServerRemove name) seen is =
     let ups = upstreams_of p in
-    kept_changed p (server_edited notes.ServerRemoved removed_server ups (server_by ups name)) (kept_server notes.ServerRemoved removed_server ups (server_by ups name) follows_removed_server is)
+    kept_changed p (server_edited notes.ServerRemoved removed_checked ups (server_by ups name)) (kept_server notes.ServerRemoved removed_checked ups (server_by ups name) kept_removed is)
 kept_command mark p (ServerMode name mode) seen is =
     let ups = upstreams_of p in
     let note : ServerId → Note = λ id. notes.ServerMode id mode in
-    kept_changed p (server_edited note (changed_server (with_mode mode)) ups (server_by ups name)) (kept_server note (changed_server (with_mode mode)) ups (server_by ups name) (follows_changed_server (with_mode mode)) is)
+    kept_changed p (server_edited note (put_into mode) ups (server_by ups name)) (kept_server note (put_into mode) ups (server_by ups name) (kept_put mode) is)
 kept_command mark p (PoolAdd name) seen is =
     let ups = upstreams_of p in
     let note : PoolId → Note = λ _. notes.PoolAdded name in
@@ -120,6 +151,7 @@ kept_command mark p (PoolAdd name) seen is =
 kept_command mark p (PoolPolicy name policy) seen is =
     let ups = upstreams_of p in
     kept_changed p (pool_edited (notes.PoolPolicy name policy) (changed_pool (with_policy policy)) ups (pool_named p.pools name)) (kept_pool (notes.PoolPolicy name policy) (changed_pool (with_policy policy)) ups (pool_named p.pools name) (follows_changed_pool (with_policy policy)) is)
+kept_command mark p (SetTimeout timeout) seen is = absurd (false_true is)
 
 pub left_of : {State : Type 0} (new : State) (answer : Answer) (done : State × Answer) → (new, answer) ≡ done → new ≡ done.0
 left_of {State} new answer done is = ap (λ (d : State × Answer). d.0) is
@@ -160,6 +192,17 @@ taken_reply ups server lane bytes (Err reply_faults.Short) = refl
 taken_reply ups server lane bytes (Err reply_faults.NotReply) = refl
 taken_reply ups server lane bytes (Ok view) = taken_held ups (at_place server lane view.id) bytes view (entry_at ups.outstanding (at_place server lane view.id))
 
+-- no tick and no health result is refused
+taken_tick : (ups after : Upstreams) (now : ℕ) (w : Option Waiting) (answer : Answer) → Ends ups now w answer after → is_refused answer ≡ false
+taken_tick ups after now None answer step = ap is_refused (told_of after answer _ step)
+taken_tick ups after now (Some w) answer step = ap is_refused (told_of after answer _ step.2)
+
+taken_result : (server : ServerId) (change : Option Changed) → is_refused (result_told server change) ≡ false
+taken_result server None = refl
+taken_result server (Some changes.No) = refl
+taken_result server (Some changes.Up) = refl
+taken_result server (Some changes.Down) = refl
+
 kept_step : (p new : Plain) (event : Event) (reading : Reading) (answer : Answer) → IsSeen p → StepsAt p event reading answer new → is_refused answer ≡ true → new ≡ p
 kept_step p new (Query now origin kind word bytes) (OfQuery reading) answer seen step is = kept_query (marked answer) p new (asked_at p.moment origin kind word) bytes reading answer step is
 kept_step p new (Query now origin kind word bytes) (OfReply reading) answer seen step is = absurd step
@@ -168,6 +211,13 @@ kept_step p new (Reply now server lane bytes) (OfReply reading) answer seen step
     absurd (both_ways (is_refused answer) (ap is_refused (told_of new answer (upstream_changed p (reply_step (upstreams_of p) server lane bytes reading)) step) ∙ taken_reply (upstreams_of p) server lane bytes reading) is)
 kept_step p new (Reply now server lane bytes) (OfQuery reading) answer seen step is = absurd step
 kept_step p new (Reply now server lane bytes) OfNone answer seen step is = absurd step
+kept_step p new (Tick now) OfNone answer seen step is = absurd (both_ways (is_refused answer) (taken_tick (upstreams_of p) step.0 p.moment (due p.moment p.outstanding) answer step.1) is)
+kept_step p new (Tick now) (OfQuery reading) answer seen step is = absurd step
+kept_step p new (Tick now) (OfReply reading) answer seen step is = absurd step
+kept_step p new (HealthResult now server ok) OfNone answer seen step is =
+    absurd (both_ways (is_refused answer) (ap is_refused (told_of new answer (upstream_changed p (result_step (upstreams_of p) server ok)) step) ∙ taken_result server (result_taken (upstreams_of p) server ok).1) is)
+kept_step p new (HealthResult now server ok) (OfQuery reading) answer seen step is = absurd step
+kept_step p new (HealthResult now server ok) (OfReply reading) answer seen step is = absurd step
 kept_step p new (Edit now command) OfNone answer seen step is =
     left_of new answer (edit_of (marked answer) p command) step
     ∙ kept_command (marked answer) p command seen (sym (ap is_refused (told_of new answer (edit_of (marked answer) p command) step)) ∙ is)

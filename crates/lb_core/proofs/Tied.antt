@@ -19,13 +19,15 @@ use Rattle.lb_servers.specs.declared.server.Loaded.{Loaded}
 use Rattle.lb_servers.specs.declared.spec.ServerSpec.{ServerSpec}
 use Rattle.lb_servers.specs.Park.{Backends, added_pool, added_server, changed_pool, changed_server, max_pools, max_servers, removed_server, with_server}
 use Rattle.lb_servers.specs.Pool.{change_at, is_named, new_pool}
-use Rattle.lb_servers.specs.Server.{change_if, change_server, is_server, server_named, with_mode, with_one_less, with_one_more}
+use Rattle.lb_servers.specs.Server.{change_if, change_server, is_server, marked, server_named, with_mode, with_one_less, with_one_more}
 use Rattle.lb_servers.specs.Spec.{lacks_pool, new_server, stated_pools}
 use Rattle.lb_table.specs.declared.place.Place.{Place}
 use Rattle.lb_table.specs.declared.entry.Entry.{Entry}
 use Rattle.lb_table.specs.declared.entry.Waiting.{Waiting}
-use Rattle.lb_table.specs.Table.{entered, entry_at, is_at, is_for, taken_at, waits_at}
+use Rattle.lb_table.specs.Table.{due, entered, entry_at, is_at, is_due, is_for, taken_at, waits_at, without_due}
 use Rattle.lb_core.specs.Upstream.{Upstreams, IsAsked, IsTied, backends_of, loaded_by, on_backends, server_of, turned_if, with_backends, with_entry, with_turn}
+use Rattle.lb_core.specs.declared.check.Check.{Check}
+use Rattle.lb_core.specs.Expiry.{without_expired}
 use Rattle.lb_core.specs.Reply.{without}
 use Rattle.lb_core.proofs.Each.{each_append, each_at, each_filter, each_insert, each_remove, each_weaker, all_of_each}
 
@@ -45,10 +47,13 @@ pub on_tied : {A : Type 0} (ups : Upstreams) (park new : Backends) (given : A) (
     backends_of ups ≡ park → (new, given) ≡ edit park → (with_backends new ups, given) ≡ on_backends ups (edit (backends_of ups))
 on_tied ups park new given edit tied is = ap (on_backends ups) is ∙ ap (λ (p : Backends). on_backends ups (edit p)) (sym tied)
 
+-- what a table of servers and a list of queries are together
+abbrev pub seen_as : ℕ → List Check → Backends → List Waiting → Upstreams
+seen_as timeout checks park t = record { timeout = timeout; next_server = park.next; servers = map server_of park.servers; checks = checks; pools = park.pools; outstanding = t }
+
 -- the table of servers with their loads counted anew is the table
-pub counted_tied : (timeout : ℕ) (park : Backends) (t : List Waiting) → IsTied park t →
-    backends_of (record { timeout = timeout; next_server = park.next; servers = map server_of park.servers; pools = park.pools; outstanding = t }) ≡ park
-counted_tied timeout park t tied = ap (λ (servers : List Loaded). record park { servers = servers }) (counted_anew t park.servers tied.loads)
+pub counted_tied : (timeout : ℕ) (checks : List Check) (park : Backends) (t : List Waiting) → IsTied park t → backends_of (seen_as timeout checks park t) ≡ park
+counted_tied timeout checks park t tied = ap (λ (servers : List Loaded). record park { servers = servers }) (counted_anew t park.servers tied.loads)
 
 -- what an edit leaves
 pub left_by : {A : Type 0} (new : Backends) (given : A) (done : Backends × A) → (new, given) ≡ done → new ≡ done.0
@@ -183,18 +188,37 @@ all_one_less t at w server (l ∷ servers) lt there place all =
     (one_less t at w server l (is_server server l) lt there place refl all.0, all_one_less t at w server servers lt there place all.1)
 
 -- a query that is taken out, and counted out at its server
+tied_less : (park : Backends) (t : List Waiting) (at : ℕ) (w : Waiting) (server : ServerId) → at < length t → get_or t at w ≡ w → w.place.server.0 ≡ server.0 → IsTied park t →
+    IsTied (with_server with_one_less server park) (remove t at)
+tied_less park t at w server lt there place tied = record {
+  loads = all_one_less t at w server park.servers lt there place tied.loads;
+  given = given_still park.next with_one_less server park.servers (λ l. refl) tied.given;
+  sent = each_remove (λ w. w.place.server.0 < park.next) t at tied.sent;
+  asked = each_remove (λ w. IsAsked w.entry) t at tied.asked;
+}
+
 pub tied_out : (park : Backends) (t : List Waiting) (place : Place) (entry : Entry) → IsTied park t → entry_at t place ≡ Some entry →
     IsTied (with_server with_one_less place.server park) (taken_at t (waits_at place t))
 tied_out park t place entry tied is =
     let f = found_at (is_at place) (λ w. w.entry) t entry is in
     let server : f.x.place.server.0 ≡ place.server.0 = eq_numbers f.x.place.server.0 place.server.0 (first_true _ _ f.passes) in
-    let out : IsTied (with_server with_one_less place.server park) (remove t f.at) = record {
-      loads = all_one_less t f.at f.x place.server park.servers f.within f.here server tied.loads;
-      given = given_still park.next with_one_less place.server park.servers (λ l. refl) tied.given;
-      sent = each_remove (λ w. w.place.server.0 < park.next) t f.at tied.sent;
-      asked = each_remove (λ w. IsAsked w.entry) t f.at tied.asked;
-    } in
-    subst (λ (at : Option ℕ). IsTied (with_server with_one_less place.server park) (taken_at t at)) (sym f.where_is) out
+    subst (λ (at : Option ℕ). IsTied (with_server with_one_less place.server park) (taken_at t at)) (sym f.where_is) (tied_less park t f.at f.x place.server f.within f.here server tied)
+
+-- the query that is given up first, taken out
+tied_due : (park : Backends) (t : List Waiting) (now : ℕ) (w : Waiting) → IsTied park t → due now t ≡ Some w → IsTied (with_server with_one_less w.place.server park) (without_due now t)
+tied_due park t now w tied is =
+    let f = found_at (is_due now) (λ w. w) t w (ap (option_map (λ w. w)) is) in
+    let server : f.x.place.server.0 ≡ w.place.server.0 = ap (λ (w : Waiting). w.place.server.0) f.gives in
+    subst (λ (at : Option ℕ). IsTied (with_server with_one_less w.place.server park) (taken_at t at)) (sym f.where_is) (tied_less park t f.at f.x w.place.server f.within f.here server tied)
+
+-- where none is, none goes
+pub none_due : (t : List Waiting) (now : ℕ) → due now t ≡ None → without_due now t ≡ t
+none_due t now is =
+    let n = position_or_len (is_due now) t in
+    elim ((slice_get_cases t n).1) [
+      | inl h ↦ absurd (some_none h.0 (sym (find_at (is_due now) t ∙ h.2) ∙ is))
+      | inr h ↦ ap (taken_at t) (cond-false _ _ _ (le-ltb n (length t) h.0))
+    ]
 
 -- a query that is taken out reads
 pub asked_out : (park : Backends) (t : List Waiting) (place : Place) (entry : Entry) → IsTied park t → entry_at t place ≡ Some entry → IsAsked entry
@@ -202,6 +226,12 @@ asked_out park t place entry tied is =
     let f = found_at (is_at place) (λ w. w.entry) t entry is in
     let one : IsAsked f.x.entry = subst (λ (w : Waiting). IsAsked w.entry) f.here (each_at (λ w. IsAsked w.entry) t f.at f.x tied.asked f.within) in
     subst IsAsked f.gives one
+
+pub asked_due : (park : Backends) (t : List Waiting) (now : ℕ) (w : Waiting) → IsTied park t → due now t ≡ Some w → IsAsked w.entry
+asked_due park t now w tied is =
+    let f = found_at (is_due now) (λ w. w) t w (ap (option_map (λ w. w)) is) in
+    let one : IsAsked f.x.entry = subst (λ (w : Waiting). IsAsked w.entry) f.here (each_at (λ w. IsAsked w.entry) t f.at f.x tied.asked f.within) in
+    subst (λ (w : Waiting). IsAsked w.entry) f.gives one
 
 -- edits of the table of servers
 
@@ -259,28 +289,32 @@ tied_removed t park id tied =
     } in
     ties_if t (list_any (is_server id) park.servers) (record park { servers = filter (λ l. not (is_server id l)) park.servers }, Ok tt) (park, Err faults.NoSuchServer) without tied
 
--- a server in another mode keeps its count
-counts_still : (t : List Waiting) (mode : Mode) (b : Bool) (l : Loaded) → Counts t l → Counts t (change_if b (with_mode mode) l)
-counts_still t mode true l counts = counts
-counts_still t mode false l counts = counts
+-- a server that is changed, but not in its number and its count
+counts_still : (t : List Waiting) (change : Loaded → Loaded) (b : Bool) (l : Loaded) → ((l : Loaded) → Counts t l → Counts t (change l)) → Counts t l → Counts t (change_if b change l)
+counts_still t change true l keeps counts = keeps l counts
+counts_still t change false l keeps counts = counts
 
-all_count_still : (t : List Waiting) (mode : Mode) (id : ServerId) (servers : List Loaded) → AllByRecursion (Counts t) servers → AllByRecursion (Counts t) (change_server id (with_mode mode) servers)
-all_count_still t mode id [] all = tt
-all_count_still t mode id (l ∷ servers) all = (counts_still t mode (is_server id l) l all.0, all_count_still t mode id servers all.1)
+all_count_still : (t : List Waiting) (change : Loaded → Loaded) (id : ServerId) (servers : List Loaded) → ((l : Loaded) → Counts t l → Counts t (change l)) →
+    AllByRecursion (Counts t) servers → AllByRecursion (Counts t) (change_server id change servers)
+all_count_still t change id [] keeps all = tt
+all_count_still t change id (l ∷ servers) keeps all = (counts_still t change (is_server id l) l keeps all.0, all_count_still t change id servers keeps all.1)
 
-pub tied_mode : (t : List Waiting) (mode : Mode) (park : Backends) (id : ServerId) → IsTied park t → IsTied (changed_server (with_mode mode) park id).0 t
-tied_mode t mode park id tied =
-    let put : IsTied (record park { servers = change_server id (with_mode mode) park.servers }) t = record {
-      loads = all_count_still t mode id park.servers tied.loads;
-      given = given_still park.next (with_mode mode) id park.servers (λ l. refl) tied.given;
+tied_changed : (t : List Waiting) (change : Loaded → Loaded) (park : Backends) (id : ServerId) → ((l : Loaded) → Counts t l → Counts t (change l)) → ((l : Loaded) → (change l).server.id ≡ l.server.id) →
+    IsTied park t → IsTied (changed_server change park id).0 t
+tied_changed t change park id counts keeps tied =
+    let put : IsTied (record park { servers = change_server id change park.servers }) t = record {
+      loads = all_count_still t change id park.servers counts tied.loads;
+      given = given_still park.next change id park.servers keeps tied.given;
       sent = tied.sent;
       asked = tied.asked;
     } in
-    ties_if t (list_any (is_server id) park.servers) (record park { servers = change_server id (with_mode mode) park.servers }, Ok tt) (park, Err faults.NoSuchServer) put tied
+    ties_if t (list_any (is_server id) park.servers) (record park { servers = change_server id change park.servers }, Ok tt) (park, Err faults.NoSuchServer) put tied
 
--- what a table of servers and a list of queries are together
-abbrev pub seen_as : ℕ → Backends → List Waiting → Upstreams
-seen_as timeout park t = record { timeout = timeout; next_server = park.next; servers = map server_of park.servers; pools = park.pools; outstanding = t }
+pub tied_mode : (t : List Waiting) (mode : Mode) (park : Backends) (id : ServerId) → IsTied park t → IsTied (changed_server (with_mode mode) park id).0 t
+tied_mode t mode park id tied = tied_changed t (with_mode mode) park id (λ l counts. counts) (λ l. refl) tied
+
+pub tied_mark : (t : List Waiting) (up : Bool) (park : Backends) (id : ServerId) → IsTied park t → IsTied (changed_server (marked up) park id).0 t
+tied_mark t up park id tied = tied_changed t (marked up) park id (λ l counts. counts) (λ l. refl) tied
 
 -- a server that is changed in its count alone
 one_server : (change : Loaded → Loaded) (b : Bool) (l : Loaded) → (change l).server ≡ l.server → (change_if b change l).server ≡ l.server
@@ -301,14 +335,14 @@ sent_tied park after turned t new place entry pools tied given asked began turn 
     let one : IsTied after new = subst (λ (n : List Waiting). IsTied after n) (sym is) (subst (λ (p : Backends). IsTied p (entered t place entry)) (sym began) (tied_in park t place entry tied given asked)) in
     subst (λ (p : Backends). IsTied p new) (sym turn) (same_servers new after pools one)
 
-pub sent_seen : (timeout : ℕ) (park after turned : Backends) (t new : List Waiting) (place : Place) (entry : Entry) (pool : PoolId) →
+pub sent_seen : (timeout : ℕ) (checks : List Check) (park after turned : Backends) (t new : List Waiting) (place : Place) (entry : Entry) (pool : PoolId) →
     after ≡ with_server with_one_more place.server park → turned ≡ record after { pools = change_at turned_if pool.0 after.pools } → new ≡ entered t place entry →
-    seen_as timeout turned new ≡ with_entry place entry (with_turn pool (seen_as timeout park t))
-sent_seen timeout park after turned t new place entry pool began turn is =
+    seen_as timeout checks turned new ≡ with_entry place entry (with_turn pool (seen_as timeout checks park t))
+sent_seen timeout checks park after turned t new place entry pool began turn is =
     let whole : turned ≡ record (with_server with_one_more place.server park) { pools = change_at turned_if pool.0 park.pools } = turn ∙ ap (λ (p : Backends). record p { pools = change_at turned_if pool.0 p.pools }) began in
-    ap (λ (p : Backends). seen_as timeout p new) whole
-    ∙ ap (λ (n : List Waiting). seen_as timeout (record (with_server with_one_more place.server park) { pools = change_at turned_if pool.0 park.pools }) n) is
-    ∙ ap (λ (ss : List Server). record (with_entry place entry (with_turn pool (seen_as timeout park t))) { servers = ss }) (still_servers with_one_more place.server park.servers (λ l. refl))
+    ap (λ (p : Backends). seen_as timeout checks p new) whole
+    ∙ ap (λ (n : List Waiting). seen_as timeout checks (record (with_server with_one_more place.server park) { pools = change_at turned_if pool.0 park.pools }) n) is
+    ∙ ap (λ (ss : List Server). record (with_entry place entry (with_turn pool (seen_as timeout checks park t))) { servers = ss }) (still_servers with_one_more place.server park.servers (λ l. refl))
 
 -- a query that goes
 pub taken_tied : (park after : Backends) (t new : List Waiting) (place : Place) (entry : Entry) → IsTied park t → entry_at t place ≡ Some entry →
@@ -316,9 +350,22 @@ pub taken_tied : (park after : Backends) (t new : List Waiting) (place : Place) 
 taken_tied park after t new place entry tied found ended is =
     subst (λ (n : List Waiting). IsTied after n) (sym is) (subst (λ (p : Backends). IsTied p (taken_at t (waits_at place t))) (sym ended) (tied_out park t place entry tied found))
 
-pub taken_seen : (timeout : ℕ) (park after : Backends) (t new : List Waiting) (place : Place) →
-    after ≡ with_server with_one_less place.server park → new ≡ taken_at t (waits_at place t) → seen_as timeout after new ≡ without place (seen_as timeout park t)
-taken_seen timeout park after t new place ended is =
-    ap (λ (p : Backends). seen_as timeout p new) ended
-    ∙ ap (λ (n : List Waiting). seen_as timeout (with_server with_one_less place.server park) n) is
-    ∙ ap (λ (ss : List Server). record (without place (seen_as timeout park t)) { servers = ss }) (still_servers with_one_less place.server park.servers (λ l. refl))
+pub taken_seen : (timeout : ℕ) (checks : List Check) (park after : Backends) (t new : List Waiting) (place : Place) →
+    after ≡ with_server with_one_less place.server park → new ≡ taken_at t (waits_at place t) → seen_as timeout checks after new ≡ without place (seen_as timeout checks park t)
+taken_seen timeout checks park after t new place ended is =
+    ap (λ (p : Backends). seen_as timeout checks p new) ended
+    ∙ ap (λ (n : List Waiting). seen_as timeout checks (with_server with_one_less place.server park) n) is
+    ∙ ap (λ (ss : List Server). record (without place (seen_as timeout checks park t)) { servers = ss }) (still_servers with_one_less place.server park.servers (λ l. refl))
+
+-- the query that is given up first goes
+pub due_tied : (park after : Backends) (t new : List Waiting) (now : ℕ) (w : Waiting) → IsTied park t → due now t ≡ Some w →
+    after ≡ with_server with_one_less w.place.server park → new ≡ without_due now t → IsTied after new
+due_tied park after t new now w tied found ended is =
+    subst (λ (n : List Waiting). IsTied after n) (sym is) (subst (λ (p : Backends). IsTied p (without_due now t)) (sym ended) (tied_due park t now w tied found))
+
+pub due_seen : (timeout : ℕ) (checks : List Check) (park after : Backends) (t new : List Waiting) (now : ℕ) (server : ServerId) →
+    after ≡ with_server with_one_less server park → new ≡ without_due now t → seen_as timeout checks after new ≡ without_expired now (seen_as timeout checks park t)
+due_seen timeout checks park after t new now server ended is =
+    ap (λ (p : Backends). seen_as timeout checks p new) ended
+    ∙ ap (λ (n : List Waiting). seen_as timeout checks (with_server with_one_less server park) n) is
+    ∙ ap (λ (ss : List Server). record (without_expired now (seen_as timeout checks park t)) { servers = ss }) (still_servers with_one_less server park.servers (λ l. refl))

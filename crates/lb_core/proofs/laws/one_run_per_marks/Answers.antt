@@ -2,4 +2,4 @@ use Rattle.lb_core.proofs.OneRunPerMarks.{one_end, one_event_reading}
 use Rattle.lb_core.proofs.laws.one_run_per_marks.Goals as goal
 
 pub returns : goal.returns
-returns c = one_end (one_event_reading c.one_reading.ensures c.one_reply_reading.ensures)
+returns c = one_end c.one_reading.ensures (one_event_reading c.one_reading.ensures c.one_reply_reading.ensures)

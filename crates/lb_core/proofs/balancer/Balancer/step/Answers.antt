@@ -1,4 +1,4 @@
-use Rattle.lb_core.proofs.Steps.{edit_answers, query_answers, reply_answers}
+use Rattle.lb_core.proofs.Steps.{edit_answers, query_answers, reply_answers, result_answers, tick_answers}
 use Rattle.lb_core.proofs.balancer.Balancer.step.Goals as goal
 
 pub returns-in-Query : goal.returns-in-Query
@@ -12,6 +12,18 @@ returns-in-Reply c =
     rw (← c.self.view_is, c.in-Reply.is)
     (reply_answers c.seen_twice.ensures c.self.inside.moment c.in-Reply.now c.max-self-inside-in-Reply.result c.self.inside.chain c.self.inside.upstream c.answer_reply.new.upstream c.in-Reply.server c.in-Reply.lane c.in-Reply.bytes c.answer_reply.result
     c.max-self-inside-in-Reply.ensures c.answer_reply.ensures)
+
+pub returns-in-Tick : goal.returns-in-Tick
+returns-in-Tick c =
+    rw (← c.self.view_is, c.in-Tick.is)
+    (tick_answers c.seen_twice.ensures c.self.inside.moment c.in-Tick.now c.max-self-inside-in-Tick.result c.self.inside.chain c.self.inside.upstream c.answer_tick.new.upstream c.answer_tick.result
+    c.max-self-inside-in-Tick.ensures c.answer_tick.ensures)
+
+pub returns-in-HealthResult : goal.returns-in-HealthResult
+returns-in-HealthResult c =
+    rw (← c.self.view_is, c.in-HealthResult.is)
+    (result_answers c.seen_twice.ensures c.self.inside.moment c.in-HealthResult.now c.max-self-inside-in-HealthResult.result c.self.inside.chain c.self.inside.upstream c.answer_result.new.upstream c.in-HealthResult.server c.in-HealthResult.ok c.answer_result.result
+    c.max-self-inside-in-HealthResult.ensures c.answer_result.ensures)
 
 pub returns-in-Edit : goal.returns-in-Edit
 returns-in-Edit c =

@@ -8,4 +8,4 @@ pub invariant_of-self : goal.invariant_of-self
 invariant_of-self c = subst (λ (p : Backends). IsTied p c.self.inside.table) (sym (left_by _ _ _ c.remove_server.ensures)) (tied_removed c.self.inside.table c.self.inside.park c.args.id c.self.invariant)
 
 pub returns : goal.returns
-returns c = rw (← c.self.view_is) (on_tied _ c.self.inside.park c.remove_server.new.self c.remove_server.result (λ park. removed_server park c.args.id) (counted_tied c.self.inside.timeout c.self.inside.park c.self.inside.table c.self.invariant) c.remove_server.ensures)
+returns c = rw (← c.self.view_is) (on_tied _ c.self.inside.park c.remove_server.new.self c.remove_server.result (λ park. removed_server park c.args.id) (counted_tied c.self.inside.timeout c.self.inside.checks.items c.self.inside.park c.self.inside.table c.self.invariant) c.remove_server.ensures)
