@@ -45,7 +45,6 @@ impl Health {
     pub fn new(fall: NonZeroU8, rise: NonZeroU8) -> Health
         ensures { result ≡ new_standing (non_zero_u8_get fall) (non_zero_u8_get rise) }
     {
-        let _ = (fall.get(), rise.get());
         Health {
             fall,
             rise,
@@ -106,6 +105,7 @@ impl Health {
     pub fn is_short_of_a_change(&self)
         ensures { self.now.against < needed self.now }
     {
-        let _ = self.up;
+        // whoever reads a field knows what is true of them all
+        let _up = self.up;
     }
 }

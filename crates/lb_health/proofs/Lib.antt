@@ -1,0 +1,2 @@
+mod EndsIn
+mod LastOfARow
