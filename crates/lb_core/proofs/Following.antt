@@ -35,7 +35,7 @@ use Rattle.lb_core.specs.declared.answer.Note.TheVariants as notes
 use Rattle.lb_core.specs.Answer.{marked}
 use Rattle.lb_core.specs.Plain.{Plain, at_plain, chain_of, upstreams_of, with_chain}
 use Rattle.lb_core.specs.Upstream.{Upstreams, backends_of}
-use Rattle.lb_core.specs.Edit.{edit_of, place_or_end, pool_edited, rule_added, rule_by, rules_told, server_by, server_edited, servers_told, upstream_changed, upstream_edited}
+use Rattle.lb_core.specs.Edit.{edit_of, place_or_end, pool_edited, rule_added, rule_by, rules_told, server_by, server_edited, servers_told, upstream_changed, upstream_edited, upstream_told}
 use Rattle.lb_core.specs.Query.{QuerySteps, ReadSteps, WalkedSteps, is_transfer, walked_of}
 use Rattle.lb_core.specs.Reading.{Reading, OfNone, OfQuery, OfReply, moment_of}
 use Rattle.lb_core.specs.Reply.{held_against, reply_step}

@@ -124,7 +124,7 @@ one_event_reading queries replies (Edit now command) (OfQuery a) b at_a at_b = a
 one_event_reading queries replies (Edit now command) (OfReply a) b at_a at_b = absurd at_a
 
 -- one view of the octets of a query
-same_view : (a b : QueryView) → Ok a ≡ Ok b → a ≡ b
+same_view : (a b : QueryView) → Ok {E = QueryFault} a ≡ Ok b → a ≡ b
 same_view a b is = cc is
 
 one_tick : OneReading → (ups x y : Upstreams) (now : ℕ) (w : Option Waiting) (a b : Answer) → Ends ups now w a x → Ends ups now w b y → Same x a y b

@@ -2,7 +2,7 @@
 
 ghost use Rattle.std.specs.Prelude.{◌≡◌, false};
 ghost use Rattle.std.specs.Int.NonZero.{non_zero_u8_get};
-ghost use Rattle.lb_core.specs.Upstream.{new_check};
+ghost use Rattle.lb_core.specs.Upstream.{is_check, new_check};
 
 use lb_health::Health;
 use lb_wire::ServerId;
@@ -53,5 +53,12 @@ impl Check {
             health: Health::new(spec.fall, spec.rise),
             must_resolve: spec.must_resolve,
         }
+    }
+
+    /// Whether it is that of a server.
+    pub(crate) fn is(&self, server: ServerId) -> bool
+        ensures { result ≡ is_check server self.now }
+    {
+        self.server.0 == server.0
     }
 }

@@ -1,8 +1,8 @@
 //! Servers with their health, pools and outstanding queries, kept together: each server's count is the number of its
 //! outstanding queries.
 
-ghost use Rattle.std.specs.Prelude.{◌≡◌, ◌<◌, ℕ, IfOk, IfSome, length, option_map};
-ghost use Rattle.std.specs.List.{position};
+ghost use Rattle.std.specs.Prelude.{◌≡◌, ◌<◌, ℕ, IfOk, IfSome, length, not, option_map};
+ghost use Rattle.std.specs.List.{filter, position};
 ghost use Rattle.lb_servers.specs.Park.{added_pool, changed_pool, changed_server, lacks};
 ghost use Rattle.lb_servers.specs.Pool.{pool_named, with_policy, change_at};
 ghost use Rattle.lb_servers.specs.Server.{marked};
@@ -176,18 +176,26 @@ impl Upstream {
         if let Err(_) = self.checks.reserve(1) {
             return Err(self.park.refusal(&spec));
         }
-        let id = self.park.add_server(spec)?;
-        self.checks.push(Check::new(id, check)).unwrap();
-        Ok(id)
+        match self.park.add_server(spec) {
+            Ok(id) => {
+                self.checks.push(Check::new(id, check)).unwrap();
+                Ok(id)
+            }
+            Err(fault) => Err(fault),
+        }
     }
 
     /// Removes a server, and its health check. Its outstanding queries stay.
     pub(crate) fn remove_server(&mut self, id: ServerId) -> Result<(), ParkFault>
         ensures { (self.new, result) ≡ removed_checked self.old id }
     {
-        self.park.remove_server(id)?;
-        self.checks.retain(|check| check.server.0 != id.0);
-        Ok(())
+        match self.park.remove_server(id) {
+            Ok(()) => {
+                remove_check(&mut self.checks, id);
+                Ok(())
+            }
+            Err(fault) => Err(fault),
+        }
     }
 
     /// Puts a server into a mode.
@@ -224,7 +232,14 @@ fn check_of(checks: &[Check], server: ServerId) -> Option<usize>
     ensures at { result ≡ position (is_check server) checks.now }
     ensures within { IfSome result (λ at. at < length checks.now) }
 {
-    checks.iter().position(|check| check.server.0 == server.0)
+    checks.iter().position(|check| check.is(server))
+}
+
+/// Takes the health check of a server out.
+fn remove_check(checks: &mut Vec<Check>, server: ServerId)
+    ensures { checks.new.items ≡ filter (λ check. not (is_check server check)) checks.old.items }
+{
+    checks.retain(|check| !check.is(server));
 }
 
 /// Marks a server up or down, where it is there.

@@ -1,0 +1,48 @@
+use Rattle.std.proofs.Common.{◌∙◌, ◌<◌, false, true, ap, sym, subst, List, length}
+use Rattle.std.specs.List.{position}
+use Rattle.lb_core.specs.declared.check.Check.{Check}
+use Rattle.lb_health.specs.declared.health.Changed.{Changed}
+use Rattle.lb_servers.specs.Park.{Backends}
+use Rattle.lb_core.specs.Upstream.{IsTied, is_check}
+use Rattle.lb_core.specs.Health.{with_change, with_check_at}
+use Rattle.lb_core.proofs.Checks.{mark_seen, result_seen}
+use Rattle.lb_core.proofs.Tied.{seen_as, tied_mark}
+use Rattle.lb_core.proofs.upstream.Upstream.take_result.Goals as goal
+
+pub invariant_of-self-in-Up : goal.invariant_of-self-in-Up
+invariant_of-self-in-Up c = subst (λ (p : Backends). IsTied p c.self.inside.table) (sym c.mark.ensures) (tied_mark c.self.inside.table true c.self.inside.park c.args.server c.self.invariant)
+
+pub invariant_of-self-in-Down : goal.invariant_of-self-in-Down
+invariant_of-self-in-Down c = subst (λ (p : Backends). IsTied p c.self.inside.table) (sym c.mark-in-Down.ensures) (tied_mark c.self.inside.table false c.self.inside.park c.args.server c.self.invariant)
+
+pub returns-in-No : goal.returns-in-No
+returns-in-No c =
+    let checks = c.self.inside.checks.items in
+    let ups = seen_as c.self.inside.timeout checks c.self.inside.park c.self.inside.table in
+    let after = record c.index_mut.result.now { health = c.result-changed.new.self } in
+    rw (← c.self.view_is)
+    (result_seen ups _ c.args.server c.args.ok c.in_ok-at.at c.index_mut.result.now c.result-changed.new.self c.result-changed.result
+    (c.in_ok-at.ensures.at ∙ ap (position (is_check c.args.server)) c.as_slice.ensures.value) (subst (λ (cs : List Check). c.in_ok-at.at < length cs) c.as_slice.ensures.value c.in_ok-at.ensures.within) c.index_mut.ensures.value c.result-changed.ensures
+    (ap (λ (change : Changed). with_change c.args.server change (with_check_at c.in_ok-at.at after ups)) (sym c.in-No.is)))
+
+pub returns-in-Up : goal.returns-in-Up
+returns-in-Up c =
+    let checks = c.self.inside.checks.items in
+    let ups = seen_as c.self.inside.timeout checks c.self.inside.park c.self.inside.table in
+    let after = record c.index_mut.result.now { health = c.result-changed.new.self } in
+    rw (← c.self.view_is)
+    (result_seen ups _ c.args.server c.args.ok c.in_ok-at.at c.index_mut.result.now c.result-changed.new.self c.result-changed.result
+    (c.in_ok-at.ensures.at ∙ ap (position (is_check c.args.server)) c.as_slice.ensures.value) (subst (λ (cs : List Check). c.in_ok-at.at < length cs) c.as_slice.ensures.value c.in_ok-at.ensures.within) c.index_mut.ensures.value c.result-changed.ensures
+    (mark_seen c.self.inside.timeout (with_check_at c.in_ok-at.at after ups).checks c.self.inside.park c.mark.new.park c.self.inside.table true c.args.server c.self.invariant c.mark.ensures
+    ∙ ap (λ (change : Changed). with_change c.args.server change (with_check_at c.in_ok-at.at after ups)) (sym c.in-Up.is)))
+
+pub returns-in-Down : goal.returns-in-Down
+returns-in-Down c =
+    let checks = c.self.inside.checks.items in
+    let ups = seen_as c.self.inside.timeout checks c.self.inside.park c.self.inside.table in
+    let after = record c.index_mut.result.now { health = c.result-changed.new.self } in
+    rw (← c.self.view_is)
+    (result_seen ups _ c.args.server c.args.ok c.in_ok-at.at c.index_mut.result.now c.result-changed.new.self c.result-changed.result
+    (c.in_ok-at.ensures.at ∙ ap (position (is_check c.args.server)) c.as_slice.ensures.value) (subst (λ (cs : List Check). c.in_ok-at.at < length cs) c.as_slice.ensures.value c.in_ok-at.ensures.within) c.index_mut.ensures.value c.result-changed.ensures
+    (mark_seen c.self.inside.timeout (with_check_at c.in_ok-at.at after ups).checks c.self.inside.park c.mark-in-Down.new.park c.self.inside.table false c.args.server c.self.invariant c.mark-in-Down.ensures
+    ∙ ap (λ (change : Changed). with_change c.args.server change (with_check_at c.in_ok-at.at after ups)) (sym c.in-Down.is)))
