@@ -7,7 +7,7 @@ use Rattle.lb_table.proofs.EntryAt.{entry_there}
 use Rattle.lb_table.proofs.table.Table.take.Goals as goal
 
 pub invariant_of-self : goal.invariant_of-self
-invariant_of-self c = subst ByDeadline (sym c.remove-entry.ensures.items) (by_remove c.self.inside.items.items c.in_ok-at.at c.self.invariant)
+invariant_of-self c = subst ByDeadline (sym c.remove-entry.ensures.items) (by_remove c.self.inside.items.items _ c.self.invariant)
 
 pub returns-clause-entry : goal.returns-clause-entry
 returns-clause-entry c =
