@@ -1,5 +1,5 @@
 -- The table of servers and pools, and its edits.
-use Rattle.std.specs.Prelude.{ℕ, ◌+◌, ◌^◌, ◌≤◌, Bool, true, false, not, ◌==◌, nat_le, List, [], ◌∷◌, ◌++◌, length, is_some, Result, Ok, Err, slice_get, if◌then◌else◌}
+use Rattle.std.specs.Prelude.{ℕ, ◌+◌, ◌^◌, ◌≤◌, Bool, true, false, not, ◌==◌, nat_le, List, [], ◌∷◌, ◌++◌, length, Option, None, Some, is_some, Result, Ok, Err, slice_get, if◌then◌else◌}
 use Rattle.std.specs.List.{filter, list_any}
 use Rattle.lb_wire.specs.declared.ids.PoolId.{PoolId}
 use Rattle.lb_wire.specs.declared.ids.ServerId.{ServerId}
@@ -50,6 +50,15 @@ added_server lacking park spec =
     else (if park.next == 2 ^ 64 then (park, Err faults.NoMoreIds)
     else (if lacking then (park, Err faults.NoMemory)
     else (record park { next = park.next + 1; servers = park.servers ++ new_server park.next park.pools spec ∷ [] }, Ok (record { 0 = park.next }))))))
+
+-- the first refusal of such a server, want of memory left out
+abbrev pub server_fault : Backends → ServerSpec → Option ParkFault
+server_fault park spec =
+    if lacks_pool park.pools (stated_pools spec.pools) then Some faults.NoSuchPool
+    else (if is_some (server_named park.servers spec.name) then Some faults.NameTaken
+    else (if nat_le max_servers (length park.servers) then Some faults.TooMany
+    else (if park.next == 2 ^ 64 then Some faults.NoMoreIds
+    else None)))
 
 -- the table without the server of a number
 abbrev pub removed_server : Backends → ServerId → Backends × Result (Unit {0}) ParkFault

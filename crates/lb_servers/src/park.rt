@@ -1,6 +1,6 @@
 //! The table of servers and pools.
 
-ghost use Rattle.std.specs.Prelude.{◌≡◌, ℕ, ◌+◌, ◌<◌, ◌^◌, Bool, IsTrue, IfOk, Ok, Err, length, option_map, slice_get, Result};
+ghost use Rattle.std.specs.Prelude.{◌≡◌, ℕ, ◌+◌, ◌<◌, ◌^◌, Bool, IsTrue, IfNone, IfOk, Ok, Err, length, option_map, slice_get, Result};
 ghost use Rattle.std.specs.List.{All};
 ghost use Rattle.lb_wire.specs.declared.ids.PoolId.{PoolId};
 ghost use Rattle.lb_wire.specs.declared.ids.ServerId.{ServerId};
@@ -9,7 +9,7 @@ ghost use Rattle.lb_servers.specs.declared.server.Loaded.{Loaded};
 ghost use Rattle.lb_servers.specs.Pool.{pool_named, turned, with_policy};
 ghost use Rattle.lb_servers.specs.Server.{is_server, marked, server_named, with_mode, with_one_less, with_one_more};
 ghost use Rattle.lb_servers.specs.Pick.{picked};
-ghost use Rattle.lb_servers.specs.Park.{added_pool, added_server, changed_pool, changed_server, lacks, no_backends, removed_server, with_pool, with_server};
+ghost use Rattle.lb_servers.specs.Park.{added_pool, added_server, changed_pool, changed_server, lacks, no_backends, removed_server, server_fault, with_pool, with_server};
 
 use crate::fault::ParkFault;
 use crate::ident::Ident;
@@ -134,17 +134,8 @@ impl Park {
     pub fn add_server(&mut self, spec: ServerSpec) -> Result<ServerId, ParkFault>
         ensures { (self.new, result) ≡ added_server (lacks result) self.old spec }
     {
-        if spec::lacks_pool(self.pools.as_slice(), spec.pools.as_slice()) {
-            return Err(ParkFault::NoSuchPool);
-        }
-        if self.server_named(&spec.name).is_some() {
-            return Err(ParkFault::NameTaken);
-        }
-        if self.servers.len() >= MAX_SERVERS {
-            return Err(ParkFault::TooMany);
-        }
-        if self.last_server == u64::MAX {
-            return Err(ParkFault::NoMoreIds);
+        if let Some(fault) = self.server_fault(&spec) {
+            return Err(fault);
         }
         let id = self.last_server + 1;
         let server = spec::new_server(id, self.pools.as_slice(), spec);
@@ -156,6 +147,38 @@ impl Park {
             }
             Err(_) => Err(ParkFault::NoMemory),
         }
+    }
+
+    /// Why this server is not added where memory is wanting: the first refusal that applies, and else `NoMemory`. It takes no
+    /// memory.
+    pub fn refusal(&self, spec: &ServerSpec) -> ParkFault
+        ensures { (self.now, Err result) ≡ added_server (lacks {A = ServerId} (Err result)) self.now spec.now }
+    {
+        match self.server_fault(spec) {
+            Some(fault) => fault,
+            None => ParkFault::NoMemory,
+        }
+    }
+
+    /// The first refusal of this server that applies, want of memory left out.
+    fn server_fault(&self, spec: &ServerSpec) -> Option<ParkFault>
+        ensures fault { result ≡ server_fault self.now spec.now }
+        ensures servers { IfNone result (length self.now.servers < 256) }
+        ensures numbers { IfNone result (self.now.next < 2 ^ 64) }
+    {
+        if spec::lacks_pool(self.pools.as_slice(), spec.pools.as_slice()) {
+            return Some(ParkFault::NoSuchPool);
+        }
+        if self.server_named(&spec.name).is_some() {
+            return Some(ParkFault::NameTaken);
+        }
+        if self.servers.len() >= MAX_SERVERS {
+            return Some(ParkFault::TooMany);
+        }
+        if self.last_server == u64::MAX {
+            return Some(ParkFault::NoMoreIds);
+        }
+        None
     }
 
     /// Removes the server with a number; `NoSuchServer` where there is none, and then nothing changes. It takes no memory.

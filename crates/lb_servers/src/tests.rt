@@ -43,6 +43,14 @@ fn add(alloc: Global, park: &mut Park, name: &str, order: u16, pools: &[&str]) -
     }
 }
 
+/// The number of the refusal of a server of order 1 where memory is wanting; 0 where the spec could not be made.
+fn refusal(alloc: Global, park: &Park, name: &str, pools: &[&str]) -> u8 {
+    match spec(alloc, name, 1, pools) {
+        Some(spec) => park.refusal(&spec).number(),
+        None => 0,
+    }
+}
+
 fn add_pool(park: &mut Park, name: &str) -> Result<u8, u8> {
     let Some(name) = pool_name(name) else {
         return Err(0);
@@ -198,11 +206,15 @@ fn servers_are_refused_in_order(rt: HostRuntime) -> Result<(), Fail> {
     assert_eq!(rt; add(alloc, &mut park, "s1", 1, &["-", "none"]), Err(2));
     assert_eq!(rt; add(alloc, &mut park, "s1", 1, &[]), Err(3));
     assert_eq!(rt; add(alloc, &mut park, "t", 1, &[]), Err(4));
+    assert_eq!(rt; refusal(alloc, &park, "s1", &["-", "none"]), 2);
+    assert_eq!(rt; refusal(alloc, &park, "s1", &[]), 3);
+    assert_eq!(rt; refusal(alloc, &park, "t", &[]), 4);
     let gone = ServerId(256);
     park.remove_server(gone)?;
     assert_eq!(rt; number(park.remove_server(gone)), 1);
     assert_eq!(rt; number(park.set_mode(gone, Mode::Up)), 1);
     assert_eq!(rt; number(park.mark(gone, true)), 1);
+    assert_eq!(rt; refusal(alloc, &park, "t", &[]), 5);
     assert_eq!(rt; add(alloc, &mut park, "t", 1, &[]), Ok(257));
     let name = Ident::parse("t").ok_or(ParkFault::NoSuchServer)?;
     assert_eq!(rt;

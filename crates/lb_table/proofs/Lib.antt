@@ -1,2 +1,3 @@
 pub mod FirstFree
 pub mod EntryAt
+pub mod ByDeadline

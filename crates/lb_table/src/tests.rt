@@ -123,6 +123,32 @@ fn by_deadline_and_then_by_entry(rt: HostRuntime) -> Result<(), Fail> {
     Ok(())
 }
 
+/// Who asked the query that is taken out as given up by now.
+fn taken(table: &mut Table, now: u64) -> Option<u64> {
+    let waiting = table.take_due(now)?;
+    Some(waiting.entry.origin.slot)
+}
+
+#[test]
+fn given_up_by_deadline_and_then_by_entry(rt: HostRuntime) -> Result<(), Fail> {
+    let alloc = rt.alloc();
+    let mut table = Table::new(alloc);
+    assert_eq!(rt; taken(&mut table, 0), None);
+    let _never = enter(&mut table, ONE, UDP, 0, entry(alloc, 1, u64::MAX, 1)?)?;
+    let _second = enter(&mut table, ONE, UDP, 0, entry(alloc, 2, 1000, 2000)?)?;
+    let _third = enter(&mut table, TWO, TCP, 0, entry(alloc, 3, 2500, 500)?)?;
+    let _first = enter(&mut table, ONE, TCP, 0, entry(alloc, 4, 0, 500)?)?;
+    assert_eq!(rt; taken(&mut table, 499), None);
+    assert_eq!(rt; taken(&mut table, 3000), Some(4));
+    assert_eq!(rt; taken(&mut table, 2999), None);
+    assert_eq!(rt; table.len(), 3);
+    assert_eq!(rt; taken(&mut table, 3000), Some(2));
+    assert_eq!(rt; taken(&mut table, 3000), Some(3));
+    assert_eq!(rt; taken(&mut table, u64::MAX), None);
+    assert_eq!(rt; table.len(), 1);
+    Ok(())
+}
+
 #[test]
 fn a_copy_is_equal(rt: HostRuntime) -> Result<(), Fail> {
     let alloc = rt.alloc();
