@@ -30,7 +30,9 @@ fn answers_to_a_probe(rt: HostRuntime) {
     assert!(rt; judge(&good, 0x1234, false) && judge(&good, 0x1234, true));
     assert!(rt; !judge(&failed, 0x1234, false));
     assert!(rt; judge(&unknown, 0x1234, false) && !judge(&unknown, 0x1234, true));
-    assert!(rt; !judge(&good, 0x1235, false) && !judge(&unknown, 0x1235, false));
+    for octets in [&good, &failed, &unknown] {
+        assert!(rt; !judge(octets, 0x1235, false));
+    }
     assert!(rt; !judge(PROBE, 0x1234, false));
 }
 
