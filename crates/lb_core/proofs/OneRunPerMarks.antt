@@ -123,14 +123,15 @@ one_event_reading queries replies (Edit now command) OfNone (OfReply b) at_a at_
 one_event_reading queries replies (Edit now command) (OfQuery a) b at_a at_b = absurd at_a
 one_event_reading queries replies (Edit now command) (OfReply a) b at_a at_b = absurd at_a
 
--- one view of the octets of a query
-same_view : (a b : QueryView) → Ok {E = QueryFault} a ≡ Ok b → a ≡ b
-same_view a b is = cc is
+-- the view that octets read as
+abbrev view_or : QueryView → Result QueryView QueryFault → QueryView
+view_or other (Ok view) = view
+view_or other (Err fault) = other
 
 one_tick : OneReading → (ups x y : Upstreams) (now : ℕ) (w : Option Waiting) (a b : Answer) → Ends ups now w a x → Ends ups now w b y → Same x a y b
 one_tick queries ups x y now None a b at_a at_b = at_a ∙ sym at_b
 one_tick queries ups x y now (Some w) a b at_a at_b =
-    let view : at_a.0 ≡ at_b.0 = same_view at_a.0 at_b.0 (queries w.entry.asked (Ok at_a.0) (Ok at_b.0) at_a.1 at_b.1) in
+    let view : at_a.0 ≡ at_b.0 = ap (view_or at_a.0) (queries w.entry.asked (Ok at_a.0) (Ok at_b.0) at_a.1 at_b.1) in
     at_a.2 ∙ ap (λ (v : QueryView). (without_expired now ups, Expired w.entry.origin (failure_of v))) view ∙ sym at_b.2
 
 -- an event, what it reads as and its mark determine a step

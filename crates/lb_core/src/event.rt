@@ -26,7 +26,9 @@ pub enum Event {
         bytes: Octets,
     },
     /// Time has passed: one query that is given up by now is ended.
-    Tick { now: u64 },
+    Tick {
+        now: u64,
+    },
     /// A probe of a server was answered as it should be, or failed.
     HealthResult {
         now: u64,

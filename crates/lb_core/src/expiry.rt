@@ -19,7 +19,7 @@ pub(crate) fn answer_tick(upstream: &mut Upstream, moment: u64) -> Answer
     ensures { Expires upstream.old moment result upstream.new }
 {
     match upstream.take_due(moment) {
-        Some(entry) => expired(entry),
+        Some(waiting) => expired(waiting.entry),
         None => Answer::Quiet,
     }
 }

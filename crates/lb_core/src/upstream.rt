@@ -127,14 +127,14 @@ impl Upstream {
 
     /// Takes the query of least deadline out that is given up by now, of equal ones the one that was sent first. Its server
     /// may have been removed.
-    pub(crate) fn take_due(&mut self, now: u64) -> Option<Entry>
-        ensures entry { result ≡ option_map (λ w. w.entry) (due now self.old.outstanding) }
-        ensures asked { IfSome result (λ entry. IsAsked entry) }
+    pub(crate) fn take_due(&mut self, now: u64) -> Option<Waiting>
+        ensures due { result ≡ due now self.old.outstanding }
+        ensures asked { IfSome result (λ w. IsAsked w.entry) }
         ensures without { self.new ≡ without_expired now self.old }
     {
-        let Waiting { place, entry } = self.table.take_due(now)?;
-        self.park.ended(place.server);
-        Some(entry)
+        let waiting = self.table.take_due(now)?;
+        self.park.ended(waiting.place.server);
+        Some(waiting)
     }
 
     /// Takes a result of a server, and marks the server where that changes its health. None where no server has this number.

@@ -1,4 +1,6 @@
-use Rattle.std.proofs.Common.{◌∙◌, [], ◌∷◌, ◌++◌, ap, sym, subst, Ok, Err, List}
+use Rattle.std.proofs.Common.{◌∙◌, [], ◌∷◌, ◌++◌, ap, sym, subst, Ok, Err, List, Result}
+use Rattle.std.specs.Bool.{if◌then◌else◌}
+use Rattle.std.specs.Result.{is_ok}
 use Rattle.lb_wire.specs.declared.ids.ServerId.{ServerId}
 use Rattle.lb_servers.specs.Park.{Backends, lacks}
 use Rattle.lb_core.specs.declared.check.Check.{Check}
@@ -20,7 +22,7 @@ invariant_of-self-in-Ok c =
 pub returns-in-Ok : goal.returns-in-Ok
 returns-in-Ok c =
     rw (← c.self.view_is)
-    (ap (λ (cs : List Check). (seen_as c.self.inside.timeout cs c.add_server.new.self c.self.inside.table, Ok c.in-Ok.id)) (c.push.ensures.items ∙ ap (λ (cs : List Check). cs ++ c.new.result ∷ []) c.in_default.ensures.items ∙ ap (λ (one : Check). c.self.inside.checks.items ++ one ∷ []) c.new.ensures)
+    (ap (λ (cs : List Check). (seen_as c.self.inside.timeout cs c.add_server.new.self c.self.inside.table, Ok c.in-Ok.id)) (c.push.ensures.items ∙ ap (λ (pushed : Result _ _). if is_ok pushed then c.reserve.new.self.items ++ c.new.result ∷ [] else c.reserve.new.self.items) c.unwrap.ensures ∙ ap (λ (cs : List Check). cs ++ c.new.result ∷ []) c.in_default.ensures.items ∙ ap (λ (one : Check). c.self.inside.checks.items ++ one ∷ []) c.new.ensures)
     ∙ added_seen c.self.inside.timeout c.self.inside.checks.items c.self.inside.park c.add_server.new.self c.self.inside.table c.args.spec c.args.check (Ok c.in-Ok.id) c.self.invariant c.in-Ok.ensures)
 
 pub returns-in-Err-add_server : goal.returns-in-Err-add_server
