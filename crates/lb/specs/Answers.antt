@@ -21,7 +21,7 @@ use Rattle.lb_servers.specs.declared.pool.PoolName.TheVariants.{Default, Named}
 use Rattle.lb_servers.specs.declared.server.Mode.{Mode}
 use Rattle.lb_servers.specs.declared.server.Mode.TheVariants.{Up, Down, Auto}
 use Rattle.lb_core.specs.declared.answer.Answer.{Answer}
-use Rattle.lb_core.specs.declared.answer.Answer.TheVariants.{Dropped, Local, Forward, Deliver, Ignored, Edited, Refused, NoMemory}
+use Rattle.lb_core.specs.declared.answer.Answer.TheVariants.{Dropped, Local, Forward, Deliver, Expired, Quiet, Ignored, Edited, Refused, NoMemory}
 use Rattle.lb_core.specs.declared.answer.DropReason.{DropReason}
 use Rattle.lb_core.specs.declared.answer.DropReason.TheVariants as drops
 use Rattle.lb_core.specs.declared.answer.LocalReason.{LocalReason}
@@ -29,7 +29,7 @@ use Rattle.lb_core.specs.declared.answer.LocalReason.TheVariants as locals
 use Rattle.lb_core.specs.declared.answer.IgnoreReason.{IgnoreReason}
 use Rattle.lb_core.specs.declared.answer.IgnoreReason.TheVariants as ignores
 use Rattle.lb_core.specs.declared.answer.Note.{Note}
-use Rattle.lb_core.specs.declared.answer.Note.TheVariants.{RuleAdded, RuleRemoved, RuleMoved, ServerAdded, ServerRemoved, ServerMode, PoolAdded, PoolPolicy}
+use Rattle.lb_core.specs.declared.answer.Note.TheVariants.{RuleAdded, RuleRemoved, RuleMoved, ServerAdded, ServerRemoved, ServerMode, PoolAdded, PoolPolicy, TimeoutSet, ServerUp, ServerDown}
 use Rattle.lb_core.specs.declared.answer.EditFault.TheVariants.{Rules, Servers}
 
 -- octets as digits in lower case, and none as a dash
@@ -51,12 +51,13 @@ local_text (locals.Rule id) = codes "rule"
 local_text locals.NoServer = codes "noserver"
 local_text locals.LaneFull = codes "lanefull"
 
--- why a reply is ignored
+-- why a reply or a health result is ignored
 abbrev pub ignored_text : IgnoreReason → List ℕ
 ignored_text ignores.Short = codes "short"
 ignored_text ignores.NotReply = codes "notreply"
 ignored_text ignores.Unknown = codes "unknown"
 ignored_text ignores.Mismatch = codes "mismatch"
+ignored_text ignores.NoServer = codes "noserver"
 
 -- a transport
 abbrev pub kind_text : Kind → List ℕ
@@ -95,7 +96,11 @@ forward_text server lane id bytes = codes "forward " ++ decimal server.0 ++ code
 abbrev pub deliver_text : Origin → List ℕ → Kept → List ℕ
 deliver_text origin bytes kept = codes "deliver " ++ decimal origin.slot ++ codes " " ++ kept_text kept ++ codes " " ++ hex_text bytes
 
--- a command that was carried out
+-- a query that was given up: the client's slot and the octets
+abbrev pub expired_text : Origin → List ℕ → List ℕ
+expired_text origin bytes = codes "expired " ++ decimal origin.slot ++ codes " " ++ hex_text bytes
+
+-- a command that was carried out, or a server that changed
 abbrev pub edited_text : Note → List ℕ
 edited_text (RuleAdded id) = codes "edited rule " ++ decimal id.0 ++ codes " added"
 edited_text (RuleRemoved id) = codes "edited rule " ++ decimal id.0 ++ codes " removed"
@@ -105,6 +110,9 @@ edited_text (ServerRemoved id) = codes "edited server " ++ decimal id.0 ++ codes
 edited_text (ServerMode id mode) = codes "edited server " ++ decimal id.0 ++ codes " mode " ++ mode_text mode
 edited_text (PoolAdded name) = codes "edited pool " ++ pool_text name ++ codes " added"
 edited_text (PoolPolicy name policy) = codes "edited pool " ++ pool_text name ++ codes " policy " ++ policy_text policy
+edited_text (TimeoutSet timeout) = codes "edited timeout " ++ decimal timeout
+edited_text (ServerUp id) = codes "edited server " ++ decimal id.0 ++ codes " up"
+edited_text (ServerDown id) = codes "edited server " ++ decimal id.0 ++ codes " down"
 
 -- a refusal by the list of rules: its number and its name
 abbrev pub rules_text : ChainFault → List ℕ
@@ -130,6 +138,8 @@ line_of (Dropped reason) = codes "dropped " ++ drop_text reason
 line_of (Local bytes reason) = codes "local " ++ local_text reason ++ codes " " ++ hex_text bytes
 line_of (Forward server lane id bytes) = forward_text server lane id bytes
 line_of (Deliver origin bytes kept) = deliver_text origin bytes kept
+line_of (Expired origin bytes) = expired_text origin bytes
+line_of Quiet = codes "quiet"
 line_of (Ignored reason) = codes "ignored " ++ ignored_text reason
 line_of (Edited note) = edited_text note
 line_of (Refused (Rules fault)) = rules_text fault

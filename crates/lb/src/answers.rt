@@ -1,7 +1,7 @@
 //! Writing answers as lines.
 
 ghost use Rattle.std.specs.Prelude.{◌≡◌, IfOk, string_bytes};
-ghost use Rattle.lb.specs.Answers.{deliver_text, drop_text, edited_text, forward_text, hex_text, ignored_text, kept_text, kind_text, line_of, local_text, mode_text, policy_text, pool_text, rules_text, servers_text};
+ghost use Rattle.lb.specs.Answers.{deliver_text, drop_text, edited_text, expired_text, forward_text, hex_text, ignored_text, kept_text, kind_text, line_of, local_text, mode_text, policy_text, pool_text, rules_text, servers_text};
 
 use lb_chain::ChainFault;
 use lb_core::{Answer, DropReason, EditFault, IgnoreReason, LocalReason, Note};
@@ -25,6 +25,8 @@ pub fn answer_line(alloc: Global, answer: &Answer) -> Result<String, AllocError>
         }
         Answer::Forward(server, lane, id, bytes) => forward_line(alloc, *server, *lane, *id, bytes),
         Answer::Deliver(origin, bytes, kept) => deliver_line(alloc, origin, bytes, *kept),
+        Answer::Expired(origin, bytes) => expired_line(alloc, origin, bytes),
+        Answer::Quiet => String::from_str(alloc, "quiet"),
         Answer::Ignored(reason) => {
             let why = ignored_word(*reason);
             format!(in alloc; "ignored {why}")
@@ -70,7 +72,16 @@ fn deliver_line(
     format!(in alloc; "deliver {slot} {kept} {bytes}")
 }
 
-/// The line of a command that was carried out.
+/// The line of a query that was given up.
+fn expired_line(alloc: Global, origin: &Origin, bytes: &Octets) -> Result<String, AllocError>
+    ensures { IfOk result (λ text. string_bytes text ≡ expired_text origin.now bytes.now) }
+{
+    let slot = origin.slot;
+    let bytes = hex_of(alloc, bytes)?;
+    format!(in alloc; "expired {slot} {bytes}")
+}
+
+/// The line of a command that was carried out, or of a server that changed.
 fn edited_line(alloc: Global, note: &Note) -> Result<String, AllocError>
     ensures { IfOk result (λ text. string_bytes text ≡ edited_text note.now) }
 {
@@ -108,6 +119,18 @@ fn edited_line(alloc: Global, note: &Note) -> Result<String, AllocError>
             let name = pool_word(name);
             let policy = policy_word(*policy);
             format!(in alloc; "edited pool {name} policy {policy}")
+        }
+        Note::TimeoutSet(timeout) => {
+            let millis = timeout.as_millis();
+            format!(in alloc; "edited timeout {millis}")
+        }
+        Note::ServerUp(id) => {
+            let id = id.0;
+            format!(in alloc; "edited server {id} up")
+        }
+        Note::ServerDown(id) => {
+            let id = id.0;
+            format!(in alloc; "edited server {id} down")
         }
     }
 }
@@ -164,7 +187,7 @@ fn local_word(reason: LocalReason) -> &'static str
     }
 }
 
-/// The word for why a reply is ignored.
+/// The word for why a reply or a health result is ignored.
 fn ignored_word(reason: IgnoreReason) -> &'static str
     ensures { result.now ≡ ignored_text reason }
 {
@@ -173,6 +196,7 @@ fn ignored_word(reason: IgnoreReason) -> &'static str
         IgnoreReason::NotReply => "notreply",
         IgnoreReason::Unknown => "unknown",
         IgnoreReason::Mismatch => "mismatch",
+        IgnoreReason::NoServer => "noserver",
     }
 }
 

@@ -1,6 +1,6 @@
 //! How long a query takes that is forwarded, together with its reply.
 
-use lb_core::{Answer, Balancer, Command, Event};
+use lb_core::{Answer, Balancer, CheckSpec, Command, Event};
 use lb_servers::{Ident, ServerSpec};
 use lb_wire::{Addr, Kind, Lane, Octets, Origin, ServerId};
 use std::alloc::{AllocError, Global};
@@ -54,7 +54,7 @@ fn waiting(alloc: Global, outstanding: u16) -> Result<Balancer, AllocError> {
         return Err(AllocError);
     };
     let spec = ServerSpec::new(alloc, name, Addr::V4([127, 0, 0, 1]), 5301);
-    let command = Command::ServerAdd(spec);
+    let command = Command::ServerAdd(spec, CheckSpec::new());
     if !matches!(
         balancer.step(Event::Edit { now: 0, command }),
         Answer::Edited(_)
