@@ -16,11 +16,12 @@ mod wanted;
 use crate::{Answer, Balancer, EditFault, Event};
 use lb_chain::ChainFault;
 use lb_servers::ParkFault;
+use messages::Message;
 use std::alloc::Global;
 use std::process::Abort;
 use std::test::Fail;
 use told::Told;
-use wanted::Wanted;
+use wanted::{Wanted, is};
 
 /// A line of a row.
 type Line = (Told, Wanted);
@@ -37,10 +38,22 @@ fn play_on<T: Abort + AllocGlobal>(
     balancer: &mut Balancer,
     row: &[Line],
 ) -> Result<(), Fail> {
-    for (place, (told, wanted)) in row.iter().enumerate() {
-        let answer = tell(balancer, rt.alloc(), *told)?;
-        assert!(rt; wanted.is(&answer), "line {place}: {answer:?}");
+    for (place, line) in row.iter().enumerate() {
+        play_line(rt, balancer, place, *line)?;
     }
+    Ok(())
+}
+
+/// Tells a balancer the line at this place, counted from 0, and compares the answer.
+fn play_line<T: Abort + AllocGlobal>(
+    rt: &T,
+    balancer: &mut Balancer,
+    place: usize,
+    line: Line,
+) -> Result<(), Fail> {
+    let (told, wanted) = line;
+    let answer = tell(balancer, rt.alloc(), told)?;
+    assert!(rt; wanted.is(&answer), "line {place}: {answer:?}");
     Ok(())
 }
 
@@ -58,10 +71,10 @@ fn step(balancer: &mut Balancer, event: Event) -> Answer {
     balancer.step(event)
 }
 
-/// Whether memory was wanting.
+/// Whether memory was wanting. A query is then answered ServFail.
 fn is_wanting(answer: &Answer) -> bool {
     match answer {
-        Answer::NoMemory(_) => true,
+        Answer::NoMemory(bytes) => is(bytes, Message::ServFail) || is(bytes, Message::Ipv6ServFail),
         Answer::Refused(EditFault::Rules(fault)) => *fault == ChainFault::NoMemory,
         Answer::Refused(EditFault::Servers(fault)) => *fault == ParkFault::NoMemory,
         _ => false,

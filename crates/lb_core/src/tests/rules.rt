@@ -3,7 +3,7 @@
 use super::messages::Message;
 use super::told::{Action, PLAIN, Query, STREAM, Selector, Told};
 use super::wanted::{NO_SERVER, Wanted};
-use super::{Line, is_wanting, play, play_on};
+use super::{Line, is_wanting, play, play_line, play_on};
 use crate::{Balancer, LocalReason, run};
 use Selector::{All, Masks, MaxQps, NotMaxQps, Qtype, Suffix, SuffixAndMaxQps};
 use Told::{Ask, AskAt, AskOf, Rule, RuleAt, RuleMove, RuleRemove};
@@ -11,6 +11,7 @@ use Wanted::{DroppedBy, Local, LocalBy, RuleAdded, RuleMoved, RuleRemoved, Rules
 use lb_chain::ChainFault;
 use lb_wire::{Addr, RecordType};
 use std::alloc::AllocError;
+use std::process::Abort;
 use std::test::Fail;
 
 /// `QUERY` is refused by a rule.
@@ -38,7 +39,9 @@ fn a_run_of_a_rule_and_three_queries(rt: HostRuntime) -> Result<(), Fail> {
         events.push(told.event(alloc)?)?;
     }
     let mut balancer = Balancer::new(alloc)?;
-    let answers = run(alloc, &mut balancer, events).map_err(|refused| refused.0)?;
+    let Ok(answers) = run(alloc, &mut balancer, events) else {
+        return Err(Fail::from(AllocError));
+    };
     assert_eq!(rt; answers.len(), A_RUN.len());
     for ((_, wanted), answer) in A_RUN.iter().zip(answers.iter()) {
         if is_wanting(answer) {
@@ -163,23 +166,34 @@ const LIMITER: Told = Rule(MaxQps(5), Action::None);
 
 const RULE: Told = Rule(All, Action::None);
 
+const FULL_OF_LIMITERS: &[Line] = &[(LIMITER, RulesRefuse(ChainFault::TooManyLimiters))];
+
 const FULL: &[Line] = &[
     (RULE, RulesRefuse(ChainFault::TooManyRules)),
     // A query is walked to the end of the list.
     (Ask(PLAIN), NO_SERVER),
 ];
 
+/// Adds rules of these numbers.
+fn add_rules<T: Abort + AllocGlobal>(
+    rt: &T,
+    balancer: &mut Balancer,
+    rule: Told,
+    first: usize,
+    last: usize,
+) -> Result<(), Fail> {
+    for id in first..=last {
+        play_line(rt, balancer, id, (rule, RuleAdded(id as u64)))?;
+    }
+    Ok(())
+}
+
 #[test]
 fn lists_that_are_full(rt: HostRuntime) -> Result<(), Fail> {
     let mut balancer = Balancer::new(rt.alloc())?;
-    for id in 1..=16u64 {
-        play_on(&rt, &mut balancer, &[(LIMITER, RuleAdded(id))])?;
-    }
-    let full = RulesRefuse(ChainFault::TooManyLimiters);
-    play_on(&rt, &mut balancer, &[(LIMITER, full)])?;
-    for id in 17..=4096u64 {
-        play_on(&rt, &mut balancer, &[(RULE, RuleAdded(id))])?;
-    }
+    add_rules(&rt, &mut balancer, LIMITER, 1, 16)?;
+    play_on(&rt, &mut balancer, FULL_OF_LIMITERS)?;
+    add_rules(&rt, &mut balancer, RULE, 17, 4096)?;
     play_on(&rt, &mut balancer, FULL)
 }
 
@@ -213,19 +227,26 @@ const OTHER: Query = Query {
 
 const OTHER_LATER: Query = Query { now: 2000, ..OTHER };
 
+const LIMITED: &[Line] = &[(Rule(MaxQps(1), Action::Refuse), RuleAdded(1))];
+
 const ONE_MORE: &[Line] = &[(Ask(OTHER), REFUSED_BY_1), (Ask(OTHER_LATER), NO_SERVER)];
+
+/// Asks from 10.0.high.0 to 10.0.high.255.
+fn ask_from<T: Abort + AllocGlobal>(rt: &T, balancer: &mut Balancer, high: u8) -> Result<(), Fail> {
+    for low in 0..=255u8 {
+        let source = Addr::V4([10, 0, high, low]);
+        let query = Ask(Query { source, ..PLAIN });
+        play_line(rt, balancer, usize::from(low), (query, NO_SERVER))?;
+    }
+    Ok(())
+}
 
 #[test]
 fn one_address_more_than_4096(rt: HostRuntime) -> Result<(), Fail> {
     let mut balancer = Balancer::new(rt.alloc())?;
-    let limiter = Rule(MaxQps(1), Action::Refuse);
-    play_on(&rt, &mut balancer, &[(limiter, RuleAdded(1))])?;
+    play_on(&rt, &mut balancer, LIMITED)?;
     for high in 0..16u8 {
-        for low in 0..=255u8 {
-            let source = Addr::V4([10, 0, high, low]);
-            let query = Ask(Query { source, ..PLAIN });
-            play_on(&rt, &mut balancer, &[(query, NO_SERVER)])?;
-        }
+        ask_from(&rt, &mut balancer, high)?;
     }
     play_on(&rt, &mut balancer, ONE_MORE)
 }

@@ -2,9 +2,9 @@
 
 use super::messages::Message;
 use super::told::{Action, PLAIN, Query, STREAM, Selector, Told};
-use super::wanted::{NO_SERVER, TCP, UDP, Wanted, is};
-use super::{Line, play, play_on, step};
-use crate::{Answer, Balancer, IgnoreReason};
+use super::wanted::{NO_SERVER, TCP, UDP, Wanted};
+use super::{Line, play, play_line, play_on};
+use crate::{Balancer, IgnoreReason};
 use IgnoreReason::{Mismatch, NotReply, Short, Unknown};
 use Selector::{All, MaxQps, Qtype};
 use Told::{
@@ -17,7 +17,7 @@ use Wanted::{
 };
 use lb_servers::{Mode, ParkFault, Policy};
 use lb_wire::RecordType;
-use std::alloc::Global;
+use std::process::Abort;
 use std::test::Fail;
 
 const FIRST_AVAILABLE: &[Line] = &[
@@ -133,13 +133,18 @@ const POOLS: &[&str] = &[
     "p55", "p56", "p57", "p58", "p59", "p60", "p61", "p62", "p63",
 ];
 
+fn add_pools<T: Abort + AllocGlobal>(rt: &T, balancer: &mut Balancer) -> Result<(), Fail> {
+    for (place, name) in POOLS.iter().enumerate() {
+        play_line(rt, balancer, place, (Pool(*name), PoolAdded(*name)))?;
+    }
+    Ok(())
+}
+
 #[test]
 fn pools_and_servers_refused(rt: HostRuntime) -> Result<(), Fail> {
     let mut balancer = Balancer::new(rt.alloc())?;
     play_on(&rt, &mut balancer, REFUSED)?;
-    for name in POOLS {
-        play_on(&rt, &mut balancer, &[(Pool(*name), PoolAdded(*name))])?;
-    }
+    add_pools(&rt, &mut balancer)?;
     play_on(&rt, &mut balancer, FULL)
 }
 
@@ -237,6 +242,9 @@ fn replies_as_their_clients_get_them(rt: HostRuntime) -> Result<(), Fail> {
     play(&rt, DELIVERED)
 }
 
+/// Where memory is wanting for a rule, no number is given. Where it is wanting for a query, no pass, no turn and no
+/// outstanding query is counted: a pass more would have the third query's answer come at the second, a turn would send it
+/// to the other server, and an entry would take its ID.
 const LIMITED: &[Line] = &[
     (Server("s1", 1), ServerAdded(1)),
     (Server("s2", 1), ServerAdded(2)),
@@ -245,28 +253,12 @@ const LIMITED: &[Line] = &[
         PolicySet(Policy::RoundRobin),
     ),
     (Rule(MaxQps(2), Action::Drop), RuleAdded(1)),
+    (Ask(PLAIN), Sent(1, UDP, 16, Message::Sent16)),
+    (Ask(PLAIN), Sent(2, UDP, 16, Message::Sent16)),
+    (Ask(PLAIN), DroppedBy(1)),
 ];
 
-/// Whether a query is sent to this server, where memory was wanting at the second time; then it is first answered ServFail.
-fn is_sent_at_last(balancer: &mut Balancer, alloc: Global, server: u64) -> Result<bool, Fail> {
-    let mut answer = step(balancer, Ask(PLAIN).event(alloc)?);
-    if let Answer::NoMemory(bytes) = &answer {
-        if !is(bytes, Message::ServFail) {
-            return Ok(false);
-        }
-        answer = step(balancer, Ask(PLAIN).event(alloc)?);
-    }
-    Ok(Sent(server, UDP, 16, Message::Sent16).is(&answer))
-}
-
-/// Where memory is wanting for a rule, no number is given. Where it is wanting for a query, no pass, no turn and no
-/// outstanding query is counted: a pass more would have the third query's answer come at the second, a turn would send it
-/// to the other server, and an entry would take its ID.
 #[test]
 fn wanting_memory_a_query_counts_nothing(rt: HostRuntime) -> Result<(), Fail> {
-    let mut balancer = Balancer::new(rt.alloc())?;
-    play_on(&rt, &mut balancer, LIMITED)?;
-    assert!(rt; is_sent_at_last(&mut balancer, rt.alloc(), 1)?);
-    assert!(rt; is_sent_at_last(&mut balancer, rt.alloc(), 2)?);
-    play_on(&rt, &mut balancer, &[(Ask(PLAIN), DroppedBy(1))])
+    play(&rt, LIMITED)
 }
