@@ -7,9 +7,9 @@ use lb_core::{
     StatedAction, StatedRule, run,
 };
 use lb_servers::{Ident, Mode, ParkFault, Policy, PoolName};
-use lb_terms::Term;
+use lb_terms::{Term, TermFault};
 use lb_wire::{Addr, Kept, Kind, Lane, Octets, Origin, Rcode, RecordType, RuleId, ServerId};
-use std::alloc::AllocError;
+use std::alloc::{AllocError, Global};
 use std::io;
 use std::io::{Cursor, ErrorKind, Read, Write};
 use std::process::Abort;
@@ -117,46 +117,51 @@ const ORIGIN: Origin = Origin {
     port: 0,
 };
 
-#[test]
-fn typed_events_are_answered(rt: HostRuntime) -> Result<(), Fail> {
-    let alloc = rt.alloc();
-    let mut events = Vec::new(alloc);
-    events.push(Event::Edit {
+/// A rule that refuses queries for addresses.
+fn rule_event() -> Result<Event, TermFault> {
+    let term = Term::Qtype(RecordType::A).checked()?;
+    let action = StatedAction::Rcode(Rcode::Refused);
+    Ok(Event::Edit {
         now: 0,
-        command: Command::RuleAdd(
-            None,
-            StatedRule {
-                term: Term::Qtype(RecordType::A).checked()?,
-                action: StatedAction::Rcode(Rcode::Refused),
-            },
-        ),
-    })?;
-    events.push(Event::Query {
+        command: Command::RuleAdd(None, StatedRule { term, action }),
+    })
+}
+
+/// `QUERY` from a client.
+fn query_event(alloc: Global) -> Result<Event, Fail> {
+    Ok(Event::Query {
         now: 1000,
         origin: ORIGIN,
         kind: Kind::Datagram,
         word: 16,
         bytes: Octets::from_vec(hex::decode(alloc, QUERY)?),
-    })?;
+    })
+}
+
+/// The answers of a new balancer to the rule and the query.
+fn typed_answers(alloc: Global) -> Result<Vec<Answer>, Fail> {
+    let mut events = Vec::new(alloc);
+    events.push(rule_event()?)?;
+    events.push(query_event(alloc)?)?;
     let mut balancer = Balancer::new(alloc)?;
-    let Ok(answers) = run(alloc, &mut balancer, events) else {
-        return Err(Fail::from(AllocError));
-    };
-    let edited = matches!(
-        answers.first(),
-        Some(Answer::Edited(Note::RuleAdded(RuleId(1))))
-    );
-    assert!(rt; edited);
-    let ruled = matches!(
-        answers.get(1),
-        Some(Answer::Local(_, LocalReason::Rule(RuleId(1))))
-    );
-    assert!(rt; ruled);
-    assert_eq!(rt; answers.len(), 2);
-    for answer in answers.iter().skip(1) {
-        let text = answer_line(alloc, answer)?;
-        assert_eq!(rt; text.as_str(), REFUSED);
+    match run(alloc, &mut balancer, events) {
+        Ok(answers) => Ok(answers),
+        Err(_) => Err(Fail::from(AllocError)),
     }
+}
+
+/// Whether an answer is given by rule 1.
+fn is_by_rule_1(answer: &Answer) -> bool {
+    matches!(answer, Answer::Local(_, LocalReason::Rule(RuleId(1))))
+}
+
+#[test]
+fn typed_events_are_answered(rt: HostRuntime) -> Result<(), Fail> {
+    let answers = typed_answers(rt.alloc())?;
+    assert_eq!(rt; answers.len(), 2);
+    expect_line(&rt, &answers[0], "edited rule 1 added")?;
+    expect_line(&rt, &answers[1], REFUSED)?;
+    assert!(rt; is_by_rule_1(&answers[1]));
     Ok(())
 }
 

@@ -1,167 +1,82 @@
-//! Typed events and their answers, written out by hand from RFC 1035 and RFC 6891.
+//! Rows of typed events, with the answers written out by hand from RFC 1035 and RFC 6891.
 //!
-//! They are for refused allocations too: `rt try --test --fail-alloc N`. A query, a server or a pool that met want of memory
-//! is handed in again and then gets the answer that it gets with ample memory, so that nothing was changed by it. Another
-//! want of memory ends a test with an error, and no assertion fails by it.
+//! A row is a list of lines, each with what the balancer is told and the answer that is wanted. One player tells them to a
+//! new balancer in turn, so that a test is proved with one call and not with all of the lines.
+//!
+//! Rows are for refused allocations too: `rt try --test --fail-alloc N`. What met want of memory is told again and then gets
+//! the answer that it gets with ample memory, so that nothing was changed by it. Want of memory before the balancer is told
+//! ends a test with an error, and no assertion fails by it.
 
 mod messages;
 mod rules;
 mod servers;
+mod told;
+mod wanted;
 
-use crate::{
-    Answer, Balancer, Command, DropReason, EditFault, Event, LocalReason, Note, StatedAction,
-    StatedRule,
-};
+use crate::{Answer, Balancer, EditFault, Event};
 use lb_chain::ChainFault;
-use lb_servers::{Ident, ParkFault, PoolName};
-use lb_terms::{Term, TermFault};
-use lb_wire::{Addr, Kind, Octets, Origin, RuleId};
+use lb_servers::ParkFault;
 use messages::Message;
-use std::alloc::{AllocError, Global};
+use std::alloc::Global;
+use std::process::Abort;
 use std::test::Fail;
+use told::Told;
+use wanted::{Wanted, is};
 
-const ONE: Addr = Addr::V4([192, 0, 2, 1]);
+/// A line of a row.
+type Line = (Told, Wanted);
 
-/// A query that comes in.
-#[derive(Clone, Copy)]
-struct Query {
-    now: u64,
-    source: Addr,
-    kind: Kind,
-    word: u16,
-    bytes: Message,
+/// Tells a new balancer the lines of a row, and compares the answers.
+fn play<T: Abort + AllocGlobal>(rt: &T, row: &[Line]) -> Result<(), Fail> {
+    let mut balancer = Balancer::new(rt.alloc())?;
+    play_on(rt, &mut balancer, row)
 }
 
-/// A datagram from 192.0.2.1 that asks for example.com A.
-const PLAIN: Query = Query {
-    now: 1000,
-    source: ONE,
-    kind: Kind::Datagram,
-    word: 16,
-    bytes: Message::Query,
-};
-
-/// The same with other octets.
-fn of(bytes: Message) -> Query {
-    Query { bytes, ..PLAIN }
-}
-
-/// The same at another moment.
-fn at(now: u64) -> Query {
-    Query { now, ..PLAIN }
-}
-
-/// Where a query from an address came from.
-fn origin(source: Addr) -> Origin {
-    Origin {
-        front: 0,
-        slot: 7,
-        source,
-        port: 0,
+/// Tells a balancer the lines of a row, and compares the answers.
+fn play_on<T: Abort + AllocGlobal>(
+    rt: &T,
+    balancer: &mut Balancer,
+    row: &[Line],
+) -> Result<(), Fail> {
+    for (place, line) in row.iter().enumerate() {
+        play_line(rt, balancer, place, *line)?;
     }
+    Ok(())
 }
 
-fn octets(alloc: Global, message: Message) -> Result<Octets, AllocError> {
-    Ok(Octets::from_vec(Vec::from_slice(alloc, message.octets())?))
+/// Tells a balancer the line at this place, counted from 0, and compares the answer.
+fn play_line<T: Abort + AllocGlobal>(
+    rt: &T,
+    balancer: &mut Balancer,
+    place: usize,
+    line: Line,
+) -> Result<(), Fail> {
+    let (told, wanted) = line;
+    let answer = tell(balancer, rt.alloc(), told)?;
+    assert!(rt; wanted.is(&answer), "line {place}: {answer:?}");
+    Ok(())
 }
 
-impl Query {
-    fn event(self, alloc: Global) -> Result<Event, AllocError> {
-        Ok(Event::Query {
-            now: self.now,
-            origin: origin(self.source),
-            kind: self.kind,
-            word: self.word,
-            bytes: octets(alloc, self.bytes)?,
-        })
+/// The answer to what the balancer is told; where memory was wanting, told again.
+fn tell(balancer: &mut Balancer, alloc: Global, told: Told) -> Result<Answer, Fail> {
+    let answer = step(balancer, told.event(alloc)?);
+    if is_wanting(&answer) {
+        return Ok(step(balancer, told.event(alloc)?));
     }
+    Ok(answer)
 }
 
-/// The answer to a query; where memory was wanting, to the same query handed in again.
-fn ask(balancer: &mut Balancer, alloc: Global, query: Query) -> Result<Answer, AllocError> {
-    match balancer.step(query.event(alloc)?) {
-        Answer::NoMemory(_) => Ok(balancer.step(query.event(alloc)?)),
-        answer => Ok(answer),
-    }
+/// The answer to an event. It has no clause, so that what calls it is proved without the meaning of a step.
+fn step(balancer: &mut Balancer, event: Event) -> Answer {
+    balancer.step(event)
 }
 
-fn tell(balancer: &mut Balancer, command: Command) -> Answer {
-    balancer.step(Event::Edit { now: 0, command })
-}
-
-/// The command that adds a rule at a place, or behind the others.
-fn adding(place: Option<usize>, term: Term, action: StatedAction) -> Result<Command, TermFault> {
-    let term = term.checked()?;
-    Ok(Command::RuleAdd(place, StatedRule { term, action }))
-}
-
-/// What an edit did; the answer where it was not carried out.
-fn done(answer: Answer) -> Result<Note, Answer> {
+/// Whether memory was wanting. A query is then answered ServFail.
+fn is_wanting(answer: &Answer) -> bool {
     match answer {
-        Answer::Edited(note) => Ok(note),
-        refused => Err(refused),
-    }
-}
-
-/// Adds a rule behind the others, and gives its number.
-fn add_rule(balancer: &mut Balancer, term: Term, action: StatedAction) -> Result<RuleId, Fail> {
-    match done(tell(balancer, adding(None, term, action)?))? {
-        Note::RuleAdded(id) => Ok(id),
-        _ => Err(Fail::from("no rule was added")),
-    }
-}
-
-fn ident(text: &str) -> Result<Ident, &'static str> {
-    Ident::parse(text).ok_or("no name")
-}
-
-fn named(text: &str) -> Result<PoolName, &'static str> {
-    Ok(PoolName::Named(ident(text)?))
-}
-
-/// Whether octets are those of a message.
-fn is(octets: &Octets, message: Message) -> bool {
-    octets.as_slice() == message.octets()
-}
-
-/// Whether an answer is one of the balancer's own, of these octets.
-fn is_local(answer: &Answer, why: LocalReason, message: Message) -> bool {
-    match answer {
-        Answer::Local(bytes, reason) => *reason == why && is(bytes, message),
-        _ => false,
-    }
-}
-
-/// Whether an answer is one of the balancer's own by a rule, of these octets.
-fn is_local_by(answer: &Answer, rule: u64, message: Message) -> bool {
-    is_local(answer, LocalReason::Rule(RuleId(rule)), message)
-}
-
-/// Whether `QUERY` was to go to a server, and none was there.
-fn is_no_server(answer: &Answer) -> bool {
-    is_local(answer, LocalReason::NoServer, Message::ServFail)
-}
-
-/// Whether a rule had a query dropped.
-fn is_dropped_by(answer: &Answer, rule: u64) -> bool {
-    match answer {
-        Answer::Dropped(why) => *why == DropReason::Rule(RuleId(rule)),
-        _ => false,
-    }
-}
-
-/// Whether the list of rules refused an edit so.
-fn is_rules_fault(answer: &Answer, fault: ChainFault) -> bool {
-    match answer {
-        Answer::Refused(told) => *told == EditFault::Rules(fault),
-        _ => false,
-    }
-}
-
-/// Whether the table of servers and pools refused an edit so.
-fn is_park_fault(answer: &Answer, fault: ParkFault) -> bool {
-    match answer {
-        Answer::Refused(told) => *told == EditFault::Servers(fault),
+        Answer::NoMemory(bytes) => is(bytes, Message::ServFail) || is(bytes, Message::Ipv6ServFail),
+        Answer::Refused(EditFault::Rules(fault)) => *fault == ChainFault::NoMemory,
+        Answer::Refused(EditFault::Servers(fault)) => *fault == ParkFault::NoMemory,
         _ => false,
     }
 }

@@ -22,8 +22,10 @@ pub(super) enum Message {
     Spoofed,
     RefusedOpt,
     FormErr,
-    /// The refusal of `TRANSFER`.
+    /// The refusal of `TRANSFER`, and ServFail to `BAD_EXAMPLE` and to `IPV6`.
     RefusedTransfer,
+    BadServFail,
+    Ipv6ServFail,
     /// `QUERY` as it is sent under the IDs 16, 17, 18, 65,535 and 0, and under 16 with RD 0.
     Sent16,
     Sent17,
@@ -79,6 +81,10 @@ impl Message {
             Message::FormErr => b"\x12\x34\x81\x81\x00\x00\x00\x00\x00\x00\x00\x00",
             Message::RefusedTransfer =>
                 b"\x12\x34\x81\x85\x00\x01\x00\x00\x00\x00\x00\x00\x07example\x03com\x00\x00\xfc\x00\x01",
+            Message::BadServFail =>
+                b"\x12\x34\x81\x82\x00\x01\x00\x00\x00\x00\x00\x00\x0abadexample\x03com\x00\x00\x01\x00\x01",
+            Message::Ipv6ServFail =>
+                b"\x12\x34\x81\x82\x00\x01\x00\x00\x00\x00\x00\x00\x07example\x03com\x00\x00\x1c\x00\x01",
             Message::Sent16 =>
                 b"\x00\x10\x01\x00\x00\x01\x00\x00\x00\x00\x00\x00\x07example\x03com\x00\x00\x01\x00\x01",
             Message::Sent17 =>

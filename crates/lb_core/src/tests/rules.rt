@@ -1,264 +1,252 @@
 //! Rules, before any server is there.
 
 use super::messages::Message;
-use super::{
-    PLAIN, Query, add_rule, adding, ask, at, done, is_dropped_by, is_local, is_local_by,
-    is_no_server, is_rules_fault, of, tell,
-};
-use crate::{Answer, Balancer, Command, Event, LocalReason, Note, StatedAction, run};
-use lb_chain::{Addrs, ChainFault};
-use lb_masks::{Group, Mask};
-use lb_name::Name;
-use lb_terms::{Names, Term};
-use lb_wire::{Addr, Kind, Rcode, RecordType, RuleId};
-use std::alloc::{AllocError, Global};
+use super::told::{Action, PLAIN, Query, STREAM, Selector, Told};
+use super::wanted::{NO_SERVER, Wanted};
+use super::{Line, is_wanting, play, play_line, play_on};
+use crate::{Balancer, LocalReason, run};
+use Selector::{All, Masks, MaxQps, NotMaxQps, Qtype, Suffix, SuffixAndMaxQps};
+use Told::{Ask, AskAt, AskOf, Rule, RuleAt, RuleMove, RuleRemove};
+use Wanted::{DroppedBy, Local, LocalBy, RuleAdded, RuleMoved, RuleRemoved, RulesRefuse};
+use lb_chain::ChainFault;
+use lb_wire::{Addr, RecordType};
+use std::alloc::AllocError;
+use std::process::Abort;
 use std::test::Fail;
 
-/// suffix(example.com)
-fn under_example(alloc: Global) -> Result<Term, Fail> {
-    let mut names = Vec::new(alloc);
-    names.push(Name::parse_text("example.com")?)?;
-    Ok(Term::Suffix(Names::from_vec(names)))
-}
+/// `QUERY` is refused by a rule.
+const REFUSED_BY_1: Wanted = LocalBy(1, Message::Refused);
 
-/// masks(192.0.2.0/24)
-fn of_documentation(alloc: Global) -> Result<Term, Fail> {
-    let mut masks = Vec::new(alloc);
-    masks.push(Mask::parse("192.0.2.0/24")?)?;
-    Ok(Term::Masks(Group::from_vec(masks)))
-}
+const REFUSED_BY_2: Wanted = LocalBy(2, Message::Refused);
 
-/// maxqps(N)
-fn rate(queries: u16) -> Term {
-    Term::MaxQps(queries, 32, 64)
-}
+const MALFORMED: Wanted = Local(LocalReason::Malformed, Message::FormErr);
 
-fn refusal() -> StatedAction {
-    StatedAction::Rcode(Rcode::Refused)
-}
-
-/// Whether `QUERY` was refused by a rule.
-fn is_refused_by(answer: &Answer, rule: u64) -> bool {
-    is_local_by(answer, rule, Message::Refused)
-}
-
-/// Moves a rule, and tells whether the answer says so.
-fn moves(balancer: &mut Balancer, id: u64, place: usize) -> Result<bool, Fail> {
-    let note = done(tell(balancer, Command::RuleMove(RuleId(id), place)))?;
-    Ok(matches!(note, Note::RuleMoved(moved) if moved.0 == id))
-}
+const A_RUN: &[Line] = &[
+    (Rule(Qtype(RecordType::A), Action::Refuse), RuleAdded(1)),
+    (AskOf(Message::Query), REFUSED_BY_1),
+    (
+        AskOf(Message::Transfer),
+        Local(LocalReason::Transfer, Message::RefusedTransfer),
+    ),
+    (AskOf(Message::QueryOpts), MALFORMED),
+];
 
 #[test]
 fn a_run_of_a_rule_and_three_queries(rt: HostRuntime) -> Result<(), Fail> {
     let alloc = rt.alloc();
-    let mut balancer = Balancer::new(alloc)?;
     let mut events = Vec::new(alloc);
-    events.push(Event::Edit {
-        now: 0,
-        command: adding(None, Term::Qtype(RecordType::A), refusal())?,
-    })?;
-    for bytes in [Message::Query, Message::Transfer, Message::QueryOpts] {
-        events.push(of(bytes).event(alloc)?)?;
+    for (told, _) in A_RUN {
+        events.push(told.event(alloc)?)?;
     }
-    let answers = run(alloc, &mut balancer, events).map_err(|refused| refused.0)?;
-    assert_eq!(rt; answers.len(), 4);
-    if is_rules_fault(&answers[0], ChainFault::NoMemory) {
+    let mut balancer = Balancer::new(alloc)?;
+    let Ok(answers) = run(alloc, &mut balancer, events) else {
         return Err(Fail::from(AllocError));
+    };
+    assert_eq!(rt; answers.len(), A_RUN.len());
+    for ((_, wanted), answer) in A_RUN.iter().zip(answers.iter()) {
+        if is_wanting(answer) {
+            return Err(Fail::from(AllocError));
+        }
+        assert!(rt; wanted.is(answer), "{answer:?}");
     }
-    assert!(rt; matches!(answers[0], Answer::Edited(Note::RuleAdded(RuleId(1)))));
-    assert!(rt; is_refused_by(&answers[1], 1));
-    assert!(rt; is_local(&answers[2], LocalReason::Transfer, Message::RefusedTransfer));
-    assert!(rt; is_local(&answers[3], LocalReason::Malformed, Message::FormErr));
     Ok(())
 }
+
+const UNDER_A_SUFFIX: &[Line] = &[
+    (Rule(Qtype(RecordType::AAAA), Action::Drop), RuleAdded(1)),
+    (Rule(Suffix, Action::Drop), RuleAdded(2)),
+    (
+        AskOf(Message::BadExample),
+        Local(LocalReason::NoServer, Message::BadServFail),
+    ),
+    (AskOf(Message::Query), DroppedBy(2)),
+    (AskOf(Message::Upper), DroppedBy(2)),
+    (AskOf(Message::Below), DroppedBy(2)),
+];
 
 #[test]
 fn names_under_a_suffix(rt: HostRuntime) -> Result<(), Fail> {
-    let alloc = rt.alloc();
-    let mut balancer = Balancer::new(alloc)?;
-    add_rule(
-        &mut balancer,
-        Term::Qtype(RecordType::AAAA),
-        StatedAction::Drop,
-    )?;
-    let id = add_rule(&mut balancer, under_example(alloc)?, StatedAction::Drop)?;
-    assert_eq!(rt; id, RuleId(2));
-    let other = ask(&mut balancer, alloc, of(Message::BadExample))?;
-    assert!(rt; matches!(other, Answer::Local(_, LocalReason::NoServer)));
-    for bytes in [Message::Query, Message::Upper, Message::Below] {
-        assert!(rt; is_dropped_by(&ask(&mut balancer, alloc, of(bytes))?, 2));
-    }
-    Ok(())
+    play(&rt, UNDER_A_SUFFIX)
 }
+
+const WINDOW: &[Line] = &[
+    (Rule(MaxQps(2), Action::Refuse), RuleAdded(1)),
+    (AskAt(1000), NO_SERVER),
+    (AskAt(1500), NO_SERVER),
+    (AskAt(1999), REFUSED_BY_1),
+    (AskAt(2000), NO_SERVER),
+    (AskAt(2001), REFUSED_BY_1),
+];
 
 #[test]
 fn a_window_of_a_second(rt: HostRuntime) -> Result<(), Fail> {
-    let alloc = rt.alloc();
-    let mut balancer = Balancer::new(alloc)?;
-    add_rule(&mut balancer, rate(2), refusal())?;
-    for (now, over) in [
-        (1000, false),
-        (1500, false),
-        (1999, true),
-        (2000, false),
-        (2001, true),
-    ] {
-        let answer = ask(&mut balancer, alloc, at(now))?;
-        assert_eq!(rt; is_refused_by(&answer, 1), over, "at {now}");
-        assert_eq!(rt; is_no_server(&answer), !over, "at {now}");
-    }
-    Ok(())
+    play(&rt, WINDOW)
 }
+
+const MOVED: &[Line] = &[
+    (Rule(Suffix, Action::Allow), RuleAdded(1)),
+    (Rule(MaxQps(1), Action::Refuse), RuleAdded(2)),
+    (Ask(PLAIN), NO_SERVER),
+    (Ask(PLAIN), NO_SERVER),
+    (Ask(PLAIN), NO_SERVER),
+    (RuleMove(2, 0), RuleMoved(2)),
+    (Ask(PLAIN), NO_SERVER),
+    (Ask(PLAIN), REFUSED_BY_2),
+    // It keeps what it counted.
+    (RuleMove(2, 1), RuleMoved(2)),
+    (RuleMove(2, 0), RuleMoved(2)),
+    (AskAt(1500), REFUSED_BY_2),
+];
 
 #[test]
 fn a_moved_rule_counts_from_then_on(rt: HostRuntime) -> Result<(), Fail> {
-    let alloc = rt.alloc();
-    let mut balancer = Balancer::new(alloc)?;
-    add_rule(&mut balancer, under_example(alloc)?, StatedAction::Allow)?;
-    add_rule(&mut balancer, rate(1), refusal())?;
-    for _ in 0..3 {
-        assert!(rt; is_no_server(&ask(&mut balancer, alloc, PLAIN)?));
-    }
-    assert!(rt; moves(&mut balancer, 2, 0)?);
-    assert!(rt; is_no_server(&ask(&mut balancer, alloc, PLAIN)?));
-    assert!(rt; is_refused_by(&ask(&mut balancer, alloc, PLAIN)?, 2));
-    // It keeps what it counted.
-    assert!(rt; moves(&mut balancer, 2, 1)?);
-    assert!(rt; moves(&mut balancer, 2, 0)?);
-    assert!(rt; is_refused_by(&ask(&mut balancer, alloc, at(1500))?, 2));
-    Ok(())
+    play(&rt, MOVED)
 }
+
+const OUTSIDE: Query = Query {
+    source: Addr::V4([192, 0, 3, 1]),
+    ..PLAIN
+};
+
+const MASKS: &[Line] = &[
+    (Rule(Masks, Action::Refuse), RuleAdded(1)),
+    (Ask(PLAIN), REFUSED_BY_1),
+    (Ask(OUTSIDE), NO_SERVER),
+    (AskOf(Message::QueryOpt), LocalBy(1, Message::RefusedOpt)),
+    (AskOf(Message::QueryOpts), MALFORMED),
+];
 
 #[test]
 fn addresses_under_masks_and_an_opt(rt: HostRuntime) -> Result<(), Fail> {
-    let alloc = rt.alloc();
-    let mut balancer = Balancer::new(alloc)?;
-    add_rule(&mut balancer, of_documentation(alloc)?, refusal())?;
-    assert!(rt; is_refused_by(&ask(&mut balancer, alloc, PLAIN)?, 1));
-    let source = Addr::V4([192, 0, 3, 1]);
-    assert!(rt; is_no_server(&ask(&mut balancer, alloc, Query { source, ..PLAIN })?));
-    let answer = ask(&mut balancer, alloc, of(Message::QueryOpt))?;
-    assert!(rt; is_local_by(&answer, 1, Message::RefusedOpt));
-    let answer = ask(&mut balancer, alloc, of(Message::QueryOpts))?;
-    assert!(rt; is_local(&answer, LocalReason::Malformed, Message::FormErr));
-    Ok(())
+    play(&rt, MASKS)
 }
+
+const SPOOF: &[Line] = &[
+    (Rule(MaxQps(1), Action::None), RuleAdded(1)),
+    (Rule(All, Action::Spoof), RuleAdded(2)),
+    (Ask(PLAIN), LocalBy(2, Message::Spoofed)),
+];
 
 #[test]
 fn addresses_that_a_rule_states(rt: HostRuntime) -> Result<(), Fail> {
-    let alloc = rt.alloc();
-    let mut balancer = Balancer::new(alloc)?;
-    add_rule(&mut balancer, rate(1), StatedAction::None)?;
-    let six = Addr::V6([0x20, 1, 0xd, 0xb8, 0, 0, 0, 0, 0, 0, 0, 0, 0, 0, 0, 7]);
-    let addrs = Addrs::from_slice(&[Addr::V4([192, 0, 2, 7]), six]).ok_or("too many")?;
-    add_rule(&mut balancer, Term::All, StatedAction::Spoof(addrs))?;
-    assert!(rt; is_local_by(&ask(&mut balancer, alloc, PLAIN)?, 2, Message::Spoofed));
-    Ok(())
+    play(&rt, SPOOF)
 }
+
+const TC: &[Line] = &[
+    (Rule(All, Action::Tc), RuleAdded(1)),
+    (Ask(PLAIN), LocalBy(1, Message::Truncated)),
+    (Ask(STREAM), NO_SERVER),
+];
 
 #[test]
 fn tc_ends_the_walk_of_a_datagram(rt: HostRuntime) -> Result<(), Fail> {
-    let alloc = rt.alloc();
-    let mut balancer = Balancer::new(alloc)?;
-    add_rule(&mut balancer, Term::All, StatedAction::Tc)?;
-    assert!(rt; is_local_by(&ask(&mut balancer, alloc, PLAIN)?, 1, Message::Truncated));
-    let kind = Kind::Stream;
-    assert!(rt; is_no_server(&ask(&mut balancer, alloc, Query { kind, ..PLAIN })?));
-    Ok(())
+    play(&rt, TC)
 }
+
+const RULES_REFUSED: &[Line] = &[
+    (RuleRemove(9), RulesRefuse(ChainFault::NoSuchRule)),
+    (RuleMove(9, 5), RulesRefuse(ChainFault::NoSuchRule)),
+    (
+        RuleAt(1, All, Action::Drop),
+        RulesRefuse(ChainFault::BadPlace),
+    ),
+    (RuleAt(0, All, Action::Drop), RuleAdded(1)),
+    (RuleMove(1, 1), RulesRefuse(ChainFault::BadPlace)),
+    (RuleRemove(1), RuleRemoved(1)),
+    // The number is not given again.
+    (Rule(All, Action::None), RuleAdded(2)),
+];
 
 #[test]
 fn edits_that_are_refused(rt: HostRuntime) -> Result<(), Fail> {
-    let mut balancer = Balancer::new(rt.alloc())?;
-    let gone = tell(&mut balancer, Command::RuleRemove(RuleId(9)));
-    assert!(rt; is_rules_fault(&gone, ChainFault::NoSuchRule));
-    let gone = tell(&mut balancer, Command::RuleMove(RuleId(9), 5));
-    assert!(rt; is_rules_fault(&gone, ChainFault::NoSuchRule));
-    let past = tell(
-        &mut balancer,
-        adding(Some(1), Term::All, StatedAction::Drop)?,
-    );
-    assert!(rt; is_rules_fault(&past, ChainFault::BadPlace));
-    let first = done(tell(
-        &mut balancer,
-        adding(Some(0), Term::All, StatedAction::Drop)?,
-    ))?;
-    assert!(rt; matches!(first, Note::RuleAdded(RuleId(1))));
-    let past = tell(&mut balancer, Command::RuleMove(RuleId(1), 1));
-    assert!(rt; is_rules_fault(&past, ChainFault::BadPlace));
-    let removed = tell(&mut balancer, Command::RuleRemove(RuleId(1)));
-    assert!(rt; matches!(removed, Answer::Edited(Note::RuleRemoved(RuleId(1)))));
-    // The number is not given again.
-    assert_eq!(rt;
-        add_rule(&mut balancer, Term::All, StatedAction::None)?,
-        RuleId(2)
-    );
+    play(&rt, RULES_REFUSED)
+}
+
+const LIMITER: Told = Rule(MaxQps(5), Action::None);
+
+const RULE: Told = Rule(All, Action::None);
+
+const FULL_OF_LIMITERS: &[Line] = &[(LIMITER, RulesRefuse(ChainFault::TooManyLimiters))];
+
+const FULL: &[Line] = &[
+    (RULE, RulesRefuse(ChainFault::TooManyRules)),
+    // A query is walked to the end of the list.
+    (Ask(PLAIN), NO_SERVER),
+];
+
+/// Adds rules of these numbers.
+fn add_rules<T: Abort + AllocGlobal>(
+    rt: &T,
+    balancer: &mut Balancer,
+    rule: Told,
+    first: usize,
+    last: usize,
+) -> Result<(), Fail> {
+    for id in first..=last {
+        play_line(rt, balancer, id, (rule, RuleAdded(id as u64)))?;
+    }
     Ok(())
 }
 
 #[test]
 fn lists_that_are_full(rt: HostRuntime) -> Result<(), Fail> {
-    let alloc = rt.alloc();
-    let mut balancer = Balancer::new(alloc)?;
-    for id in 1..=16u64 {
-        assert_eq!(rt;
-            add_rule(&mut balancer, rate(5), StatedAction::None)?,
-            RuleId(id)
-        );
-    }
-    let full = tell(&mut balancer, adding(None, rate(5), StatedAction::None)?);
-    assert!(rt; is_rules_fault(&full, ChainFault::TooManyLimiters));
-    for id in 17..=4096u64 {
-        assert_eq!(rt;
-            add_rule(&mut balancer, Term::All, StatedAction::None)?,
-            RuleId(id)
-        );
-    }
-    let full = tell(&mut balancer, adding(None, Term::All, StatedAction::None)?);
-    assert!(rt; is_rules_fault(&full, ChainFault::TooManyRules));
-    // A query is walked to the end of the list.
-    assert!(rt; is_no_server(&ask(&mut balancer, alloc, PLAIN)?));
-    Ok(())
+    let mut balancer = Balancer::new(rt.alloc())?;
+    add_rules(&rt, &mut balancer, LIMITER, 1, 16)?;
+    play_on(&rt, &mut balancer, FULL_OF_LIMITERS)?;
+    add_rules(&rt, &mut balancer, RULE, 17, 4096)?;
+    play_on(&rt, &mut balancer, FULL)
 }
+
+const NOT: &[Line] = &[
+    (Rule(NotMaxQps, Action::Refuse), RuleAdded(1)),
+    (Ask(PLAIN), REFUSED_BY_1),
+    (Ask(PLAIN), NO_SERVER),
+];
+
+const AND: &[Line] = &[
+    (Rule(SuffixAndMaxQps, Action::Refuse), RuleAdded(1)),
+    // It is not tested past the first member that does not hold.
+    (
+        AskOf(Message::BadExample),
+        Local(LocalReason::NoServer, Message::BadServFail),
+    ),
+    (Ask(PLAIN), NO_SERVER),
+    (Ask(PLAIN), REFUSED_BY_1),
+];
 
 #[test]
 fn limiters_under_not_and_under_and(rt: HostRuntime) -> Result<(), Fail> {
-    let alloc = rt.alloc();
-    let mut balancer = Balancer::new(alloc)?;
-    let inner = Box::new(alloc, rate(1)).map_err(AllocError::from)?;
-    add_rule(&mut balancer, Term::Not(inner), refusal())?;
-    assert!(rt; is_refused_by(&ask(&mut balancer, alloc, PLAIN)?, 1));
-    assert!(rt; is_no_server(&ask(&mut balancer, alloc, PLAIN)?));
-    // An `and` is not tested past the first member that does not hold.
-    let mut balancer = Balancer::new(alloc)?;
-    let mut members = Vec::new(alloc);
-    members.push(under_example(alloc)?)?;
-    members.push(rate(1))?;
-    add_rule(&mut balancer, Term::And(members), refusal())?;
-    let other = ask(&mut balancer, alloc, of(Message::BadExample))?;
-    assert!(rt; matches!(other, Answer::Local(_, LocalReason::NoServer)));
-    assert!(rt; is_no_server(&ask(&mut balancer, alloc, PLAIN)?));
-    assert!(rt; is_refused_by(&ask(&mut balancer, alloc, PLAIN)?, 1));
+    play(&rt, NOT)?;
+    play(&rt, AND)
+}
+
+const OTHER: Query = Query {
+    source: Addr::V4([10, 9, 9, 9]),
+    ..PLAIN
+};
+
+const OTHER_LATER: Query = Query { now: 2000, ..OTHER };
+
+const LIMITED: &[Line] = &[(Rule(MaxQps(1), Action::Refuse), RuleAdded(1))];
+
+const ONE_MORE: &[Line] = &[(Ask(OTHER), REFUSED_BY_1), (Ask(OTHER_LATER), NO_SERVER)];
+
+/// Asks from 10.0.high.0 to 10.0.high.255.
+fn ask_from<T: Abort + AllocGlobal>(rt: &T, balancer: &mut Balancer, high: u8) -> Result<(), Fail> {
+    for low in 0..=255u8 {
+        let source = Addr::V4([10, 0, high, low]);
+        let query = Ask(Query { source, ..PLAIN });
+        play_line(rt, balancer, usize::from(low), (query, NO_SERVER))?;
+    }
     Ok(())
 }
 
 #[test]
 fn one_address_more_than_4096(rt: HostRuntime) -> Result<(), Fail> {
-    let alloc = rt.alloc();
-    let mut balancer = Balancer::new(alloc)?;
-    add_rule(&mut balancer, rate(1), refusal())?;
+    let mut balancer = Balancer::new(rt.alloc())?;
+    play_on(&rt, &mut balancer, LIMITED)?;
     for high in 0..16u8 {
-        for low in 0..=255u8 {
-            let source = Addr::V4([10, 0, high, low]);
-            assert!(rt; is_no_server(&ask(&mut balancer, alloc, Query { source, ..PLAIN })?));
-        }
+        ask_from(&rt, &mut balancer, high)?;
     }
-    let other = Query {
-        source: Addr::V4([10, 9, 9, 9]),
-        ..PLAIN
-    };
-    assert!(rt; is_refused_by(&ask(&mut balancer, alloc, other)?, 1));
-    let later = Query { now: 2000, ..other };
-    assert!(rt; is_no_server(&ask(&mut balancer, alloc, later)?));
-    Ok(())
+    play_on(&rt, &mut balancer, ONE_MORE)
 }
