@@ -8,6 +8,7 @@
 //! ends a test with an error, and no assertion fails by it.
 
 mod messages;
+mod passing;
 mod rules;
 mod servers;
 mod told;

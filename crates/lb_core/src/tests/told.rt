@@ -1,7 +1,7 @@
 //! What the balancer is told in a line.
 
 use super::messages::Message;
-use crate::{Command, Event, StatedAction, StatedRule};
+use crate::{CheckSpec, Command, Event, StatedAction, StatedRule, Timeout};
 use lb_chain::Addrs;
 use lb_masks::{Group, Mask};
 use lb_name::Name;
@@ -9,6 +9,7 @@ use lb_servers::{Ident, Mode, Policy, PoolName, PoolNames, ServerSpec};
 use lb_terms::{Names, Term};
 use lb_wire::{Addr, Kind, Lane, Octets, Origin, Rcode, RecordType, RuleId, ServerId};
 use std::alloc::{AllocError, Global};
+use std::num::NonZeroU8;
 use std::test::Fail;
 
 /// The client of the queries.
@@ -21,15 +22,17 @@ const HERE: Addr = Addr::V4([127, 0, 0, 1]);
 #[derive(Clone, Copy)]
 pub(super) struct Query {
     pub(super) now: u64,
+    pub(super) slot: u64,
     pub(super) source: Addr,
     pub(super) kind: Kind,
     pub(super) word: u16,
     pub(super) bytes: Message,
 }
 
-/// A datagram from 192.0.2.1 that asks for example.com A.
+/// A datagram from 192.0.2.1, slot 7, that asks for example.com A.
 pub(super) const PLAIN: Query = Query {
     now: 1000,
+    slot: 7,
     source: ONE,
     kind: Kind::Datagram,
     word: 16,
@@ -50,8 +53,13 @@ pub(super) enum Told {
     /// The query `PLAIN` with other octets, or at another moment.
     AskOf(Message),
     AskAt(u64),
+    /// The query `PLAIN` of another slot.
+    AskBy(u64),
     /// A reply from the server with this number, at the moment 2000.
     Reply(u64, Lane, Message),
+    Tick(u64),
+    /// A probe of the server with this number was answered, or failed, at the moment 1000.
+    Health(u64, bool),
     /// A rule behind the others, and at a place.
     Rule(Selector, Action),
     RuleAt(usize, Selector, Action),
@@ -59,12 +67,16 @@ pub(super) enum Told {
     RuleMove(u64, usize),
     /// A server of this order in the default pool.
     Server(&'static str, u16),
+    /// A server that goes down at so many failures, and comes up at so many successes.
+    ServerChecked(&'static str, u8, u8),
     /// A server in this pool alone.
     ServerOf(&'static str, &'static str),
     ServerRemove(&'static str),
     ServerMode(&'static str, Mode),
     Pool(&'static str),
     PoolPolicy(&'static str, Policy),
+    /// So many milliseconds.
+    Timeout(u32),
 }
 
 /// What a rule asks of a query.
@@ -105,17 +117,22 @@ impl Told {
             Told::Ask(query) => query.event(alloc),
             Told::AskOf(bytes) => Query { bytes, ..PLAIN }.event(alloc),
             Told::AskAt(now) => Query { now, ..PLAIN }.event(alloc),
+            Told::AskBy(slot) => Query { slot, ..PLAIN }.event(alloc),
             Told::Reply(server, lane, message) => reply(alloc, server, lane, message),
+            Told::Tick(now) => Ok(Event::Tick { now }),
+            Told::Health(server, ok) => Ok(health(server, ok)),
             Told::Rule(selector, action) => rule(alloc, None, selector, action),
             Told::RuleAt(place, selector, action) => rule(alloc, Some(place), selector, action),
             Told::RuleRemove(id) => edit(Command::RuleRemove(RuleId(id))),
             Told::RuleMove(id, place) => edit(Command::RuleMove(RuleId(id), place)),
             Told::Server(name, order) => server(alloc, name, order),
+            Told::ServerChecked(name, fall, rise) => server_checked(alloc, name, fall, rise),
             Told::ServerOf(name, pool) => server_of(alloc, name, pool),
             Told::ServerRemove(name) => edit(Command::ServerRemove(ident(name)?)),
             Told::ServerMode(name, mode) => edit(Command::ServerMode(ident(name)?, mode)),
             Told::Pool(name) => edit(Command::PoolAdd(named(name)?)),
             Told::PoolPolicy(name, policy) => edit(Command::PoolPolicy(named(name)?, policy)),
+            Told::Timeout(millis) => edit(Command::SetTimeout(timeout(millis)?)),
         }
     }
 }
@@ -124,7 +141,7 @@ impl Query {
     fn event(self, alloc: Global) -> Result<Event, Fail> {
         Ok(Event::Query {
             now: self.now,
-            origin: origin(self.source),
+            origin: origin(self.slot, self.source),
             kind: self.kind,
             word: self.word,
             bytes: octets(alloc, self.bytes)?,
@@ -132,11 +149,11 @@ impl Query {
     }
 }
 
-/// Where a query from an address came from.
-pub(super) fn origin(source: Addr) -> Origin {
+/// Where a query of a slot and an address came from.
+pub(super) fn origin(slot: u64, source: Addr) -> Origin {
     Origin {
         front: 0,
-        slot: 7,
+        slot,
         source,
         port: 0,
     }
@@ -153,6 +170,14 @@ fn reply(alloc: Global, server: u64, lane: Lane, message: Message) -> Result<Eve
         lane,
         bytes: octets(alloc, message)?,
     })
+}
+
+fn health(server: u64, ok: bool) -> Event {
+    Event::HealthResult {
+        now: 1000,
+        server: ServerId(server),
+        ok,
+    }
 }
 
 fn edit(command: Command) -> Result<Event, Fail> {
@@ -173,7 +198,21 @@ fn rule(
 fn server(alloc: Global, name: &str, order: u16) -> Result<Event, Fail> {
     let mut spec = ServerSpec::new(alloc, ident(name)?, HERE, 5301);
     spec.order = order;
-    edit(Command::ServerAdd(spec))
+    edit(Command::ServerAdd(spec, CheckSpec::new()))
+}
+
+fn server_checked(alloc: Global, name: &str, fall: u8, rise: u8) -> Result<Event, Fail> {
+    let spec = ServerSpec::new(alloc, ident(name)?, HERE, 5301);
+    let check = CheckSpec {
+        fall: NonZeroU8::new(fall).ok_or("no number of failures")?,
+        rise: NonZeroU8::new(rise).ok_or("no number of successes")?,
+        must_resolve: false,
+    };
+    edit(Command::ServerAdd(spec, check))
+}
+
+fn timeout(millis: u32) -> Result<Timeout, &'static str> {
+    Timeout::from_millis(millis).ok_or("no timeout")
 }
 
 fn server_of(alloc: Global, name: &str, pool: &str) -> Result<Event, Fail> {
@@ -181,7 +220,7 @@ fn server_of(alloc: Global, name: &str, pool: &str) -> Result<Event, Fail> {
     pools.push(named(pool)?)?;
     let mut spec = ServerSpec::new(alloc, ident(name)?, HERE, 5302);
     spec.pools = PoolNames::from_vec(pools).ok_or("too many pools")?;
-    edit(Command::ServerAdd(spec))
+    edit(Command::ServerAdd(spec, CheckSpec::new()))
 }
 
 fn ident(text: &str) -> Result<Ident, &'static str> {

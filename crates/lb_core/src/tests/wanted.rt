@@ -29,6 +29,9 @@ pub(super) enum Wanted {
     Sent(u64, Lane, u16, Message),
     /// The reply goes to the client that asked, in these octets.
     Delivered(Message),
+    /// The client in this slot gets these octets.
+    Expired(u64, Message),
+    Quiet,
     Ignored(IgnoreReason),
     RuleAdded(u64),
     RuleRemoved(u64),
@@ -39,6 +42,10 @@ pub(super) enum Wanted {
     PoolAdded(&'static str),
     /// The default pool has this policy.
     PolicySet(Policy),
+    /// In milliseconds.
+    TimeoutSet(u32),
+    ServerUp(u64),
+    ServerDown(u64),
     /// The list of rules refuses the edit.
     RulesRefuse(ChainFault),
     /// The table of servers and pools refuses it.
@@ -56,6 +63,8 @@ impl Wanted {
             Answer::Local(bytes, why) => self.is_local(bytes, *why),
             Answer::Forward(server, lane, id, bytes) => self.is_sent(server.0, *lane, *id, bytes),
             Answer::Deliver(to, bytes, kept) => self.is_delivered(*to, bytes, *kept),
+            Answer::Expired(to, bytes) => self.is_expired(*to, bytes),
+            Answer::Quiet => matches!(self, Wanted::Quiet),
             Answer::Ignored(why) => matches!(self, Wanted::Ignored(reason) if reason == *why),
             Answer::Edited(note) => self.is_note(note),
             Answer::Refused(fault) => self.is_fault(*fault),
@@ -89,8 +98,15 @@ impl Wanted {
     fn is_delivered(self, to: Origin, bytes: &Octets, kept: Kept) -> bool {
         match self {
             Wanted::Delivered(message) => {
-                to == origin(ONE) && kept == Kept::No && is(bytes, message)
+                to == origin(7, ONE) && kept == Kept::No && is(bytes, message)
             }
+            _ => false,
+        }
+    }
+
+    fn is_expired(self, to: Origin, bytes: &Octets) -> bool {
+        match self {
+            Wanted::Expired(slot, message) => to == origin(slot, ONE) && is(bytes, message),
             _ => false,
         }
     }
@@ -111,6 +127,9 @@ impl Wanted {
             (Wanted::PolicySet(policy), Note::PoolPolicy(PoolName::Default, told)) => {
                 *told == policy
             }
+            (Wanted::TimeoutSet(millis), Note::TimeoutSet(told)) => told.as_millis() == millis,
+            (Wanted::ServerUp(id), Note::ServerUp(told)) => told.0 == id,
+            (Wanted::ServerDown(id), Note::ServerDown(told)) => told.0 == id,
             _ => false,
         }
     }
