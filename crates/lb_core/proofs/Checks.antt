@@ -1,12 +1,10 @@
 -- The health checks beside the table of servers.
-use Rattle.std.proofs.Common.{◌≡◌, ℕ, ◌<◌, Bool, true, false, List, length, get_or, set, Option, Some, None, Result, Ok, Err, refl, sym, ◌∙◌, ap}
-use Rattle.std.specs.Prelude.{slice_get}
+use Rattle.std.proofs.Common.{◌≡◌, ℕ, ◌<◌, Bool, List, length, get_or, Some, Result, refl, sym, ◌∙◌, ap}
 use Rattle.std.specs.List.{position}
 use Rattle.std.proofs.lemmas.Option.{slice_get_read}
 use Rattle.lb_wire.specs.declared.ids.ServerId.{ServerId}
 use Rattle.lb_health.specs.Health.{Standing, result_of}
 use Rattle.lb_health.specs.declared.health.Changed.{Changed}
-use Rattle.lb_health.specs.declared.health.Changed.TheVariants as changes
 use Rattle.lb_servers.specs.declared.fault.ParkFault.{ParkFault}
 use Rattle.lb_servers.specs.declared.spec.ServerSpec.{ServerSpec}
 use Rattle.lb_servers.specs.Park.{Backends, added_server, changed_server, lacks, removed_server}
@@ -15,7 +13,7 @@ use Rattle.lb_table.specs.declared.entry.Waiting.{Waiting}
 use Rattle.lb_core.specs.declared.check.Check.{Check}
 use Rattle.lb_core.specs.declared.check.CheckSpec.{CheckSpec}
 use Rattle.lb_core.specs.Upstream.{Upstreams, IsTied, added_checked, checked_by, is_check, removed_checked, unchecked_by, with_backends, with_check, with_mark, without_check}
-use Rattle.lb_core.specs.Health.{after_result, result_at, result_by, result_taken, with_change, with_check_at}
+use Rattle.lb_core.specs.Health.{result_at, result_by, result_taken, with_change, with_check_at}
 use Rattle.lb_core.proofs.Tied.{counted_tied, on_tied, seen_as}
 
 -- a server that is marked in the table

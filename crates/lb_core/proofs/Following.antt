@@ -17,7 +17,7 @@ use Rattle.lb_chain.specs.declared.walked.Walked.{Walked}
 use Rattle.lb_chain.specs.Edits.{Rules, moved, removed}
 use Rattle.lb_chain.specs.Seen.{SeenTwice}
 use Rattle.lb_servers.specs.declared.fault.ParkFault.{ParkFault}
-use Rattle.lb_servers.specs.Park.{Backends, added_pool, added_server, changed_pool, changed_server, max_pools, max_servers, removed_server}
+use Rattle.lb_servers.specs.Park.{Backends, added_pool, added_server, changed_pool, max_pools, max_servers, removed_server}
 use Rattle.lb_servers.specs.Pool.{pool_named, with_policy}
 use Rattle.lb_servers.specs.Server.{change_server, is_server, marked as marked_as, server_named, with_mode}
 use Rattle.lb_table.specs.declared.entry.Entry.{Entry}

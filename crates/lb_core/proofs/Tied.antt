@@ -1,6 +1,6 @@
 -- Each server's count is the number of its outstanding queries, through each change of the table of servers and of the
 -- outstanding list.
-use Rattle.std.proofs.Common.{◌≡◌, ℕ, ◌+◌, ◌-◌, ◌<◌, ◌^◌, ◌==◌, ◌&&◌, Bool, true, false, not, IsTrue, List, [], ◌∷◌, ◌++◌, length, map, get_or, Option, Some, None, cond, inl, inr, refl, sym, ◌∙◌, ap, subst, arith, nat_le, ltb, Ok, Err}
+use Rattle.std.proofs.Common.{◌≡◌, ℕ, ◌+◌, ◌<◌, ◌^◌, ◌==◌, ◌&&◌, Bool, true, false, not, IsTrue, List, [], ◌∷◌, ◌++◌, length, map, get_or, Option, Some, None, cond, inl, inr, refl, sym, ◌∙◌, ap, subst, arith, nat_le, Ok, Err}
 use Rattle.std.specs.Prelude.{if◌then◌else◌, is_some, slice_get, option_map}
 use Rattle.std.specs.List.{AllByRecursion, All, count_by, filter, find, insert, list_any, position, position_or_len, remove}
 use Rattle.std.proofs.lemmas.Bool.Decides.{nat_tests}
@@ -121,10 +121,10 @@ pub record FoundAt {X Y : Type 0} (p : X → Bool) (f : X → Y) (xs : List X) (
   pub passes : p x ≡ true
   pub gives : f x ≡ y
 
-none_some : {X : Type 0} (x : X) → None ≡ Some x → ⊥
+pub none_some : {X : Type 0} (x : X) → None ≡ Some x → ⊥
 none_some x is = cc is
 
-some_same : {X : Type 0} (x y : X) → Some x ≡ Some y → x ≡ y
+pub some_same : {X : Type 0} (x y : X) → Some x ≡ Some y → x ≡ y
 some_same x y is = cc is
 
 -- what is found stands at the first place that passes

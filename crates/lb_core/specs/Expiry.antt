@@ -1,5 +1,5 @@
 -- Expiry: a query that no server answered in time is answered ServFail.
-use Rattle.std.specs.Prelude.{◌≡◌, ℕ, Option, None, Some, Ok}
+use Rattle.std.specs.Prelude.{ℕ, Option, None, Some, Ok}
 use Rattle.lb_wire.specs.Query.{Reads}
 use Rattle.lb_wire.specs.declared.query.QueryView.{QueryView}
 use Rattle.lb_table.specs.declared.entry.Waiting.{Waiting}

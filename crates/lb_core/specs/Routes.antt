@@ -1,6 +1,6 @@
 -- What decides where a query goes: the rules with their passes, and the pools by name. No server and no outstanding query
 -- has a part in it.
-use Rattle.std.specs.Prelude.{ℕ, ◌+◌, max, Bool, true, false, ◌||◌, List, [], ◌∷◌, ◌++◌, map, Option, None, Some, option_map, Ok}
+use Rattle.std.specs.Prelude.{ℕ, max, Bool, true, false, ◌||◌, List, [], ◌∷◌, ◌++◌, map, Option, None, Some, option_map, Ok}
 use Rattle.std.specs.List.{position}
 use Rattle.lb_wire.specs.declared.ids.PoolId.{PoolId}
 use Rattle.lb_wire.specs.declared.query.QueryView.{QueryView}

@@ -1,7 +1,7 @@
 //! What holds of every step and of every run. Each function is a law: its contract is the statement, and a call does
 //! nothing but bring it to the caller's proof.
 
-ghost use Rattle.lb_core.specs.Runs.{OneRunPerMarks};
+ghost use Rattle.lb_core.specs.Runs.{OneRunPerMarks, TicksEndTheDue};
 ghost use Rattle.lb_core.specs.Step.{RefusalsChangeNothing, RoutesFollow};
 
 use lb_chain::seen_twice;
@@ -26,6 +26,14 @@ pub fn refusals_change_nothing()
 /// answer: no server and no outstanding query has a part in it.
 pub fn routes_follow()
     ensures { RoutesFollow }
+{
+    seen_twice();
+}
+
+/// Ticks at one moment, until there is nothing to tell, end exactly the queries that are given up by then, in the order in
+/// which they are given up, each once, and change nothing else.
+pub fn ticks_end_the_due()
+    ensures { TicksEndTheDue }
 {
     seen_twice();
 }

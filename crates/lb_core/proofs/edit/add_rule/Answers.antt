@@ -1,4 +1,4 @@
-use Rattle.std.proofs.Common.{sym, ap, ◌∙◌, false, Err, Ok, Option, Some}
+use Rattle.std.proofs.Common.{sym, ap, ◌∙◌, false, Err, Ok, Option}
 use Rattle.lb_wire.specs.declared.ids.RuleId.{RuleId}
 use Rattle.lb_chain.specs.Edits.{lacks}
 use Rattle.lb_chain.specs.declared.rule.Rule.{Rule}

@@ -1,7 +1,6 @@
 use Rattle.std.proofs.Common.{◌∙◌, [], ◌∷◌, ◌++◌, ap, sym, subst, Ok, Err, List, Result}
 use Rattle.std.specs.Bool.{if◌then◌else◌}
 use Rattle.std.specs.Result.{is_ok}
-use Rattle.lb_wire.specs.declared.ids.ServerId.{ServerId}
 use Rattle.lb_servers.specs.Park.{Backends, lacks}
 use Rattle.lb_core.specs.declared.check.Check.{Check}
 use Rattle.lb_core.specs.Upstream.{IsTied}
