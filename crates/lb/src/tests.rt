@@ -4,7 +4,7 @@ use crate::rows::{REFUSED_BY_TYPE, ROWS};
 use crate::{answer_line, replay};
 use lb_core::{
     Answer, Balancer, Command, DropReason, EditFault, Event, IgnoreReason, LocalReason, Note,
-    StatedAction, StatedRule, run,
+    StatedAction, StatedRule, Timeout, run,
 };
 use lb_servers::{Ident, Mode, ParkFault, Policy, PoolName};
 use lb_terms::{Term, TermFault};
@@ -216,15 +216,19 @@ fn answers_to_messages_have_their_lines(rt: HostRuntime) -> Result<(), Fail> {
         (IgnoreReason::NotReply, "ignored notreply"),
         (IgnoreReason::Unknown, "ignored unknown"),
         (IgnoreReason::Mismatch, "ignored mismatch"),
+        (IgnoreReason::NoServer, "ignored noserver"),
     ] {
         expect_line(&rt, &Answer::Ignored(reason), line)?;
     }
-    Ok(())
+    expect_line(&rt, &Answer::Quiet, "quiet")?;
+    let expired = Answer::Expired(ORIGIN, octets(&rt)?);
+    expect_line(&rt, &expired, "expired 7 0fa0")
 }
 
 #[test]
 fn answers_to_edits_have_their_lines(rt: HostRuntime) -> Result<(), Fail> {
     let named = Ident::parse("cache-1").map_or(PoolName::Default, PoolName::Named);
+    let timeout = Timeout::from_millis(500).ok_or("no timeout")?;
     for (note, line) in [
         (Note::ServerAdded(ServerId(2)), "edited server 2 added"),
         (Note::ServerRemoved(ServerId(2)), "edited server 2 removed"),
@@ -240,6 +244,9 @@ fn answers_to_edits_have_their_lines(rt: HostRuntime) -> Result<(), Fail> {
             Note::ServerMode(ServerId(2), Mode::Auto),
             "edited server 2 mode auto",
         ),
+        (Note::ServerUp(ServerId(2)), "edited server 2 up"),
+        (Note::ServerDown(ServerId(2)), "edited server 2 down"),
+        (Note::TimeoutSet(timeout), "edited timeout 500"),
         (Note::PoolAdded(named), "edited pool cache-1 added"),
         (
             Note::PoolPolicy(PoolName::Default, Policy::FirstAvailable),
