@@ -222,7 +222,8 @@ fn answers_to_messages_have_their_lines(rt: HostRuntime) -> Result<(), Fail> {
     }
     expect_line(&rt, &Answer::Quiet, "quiet")?;
     let expired = Answer::Expired(ORIGIN, octets(&rt)?);
-    expect_line(&rt, &expired, "expired 7 0fa0")
+    expect_line(&rt, &expired, "expired 7 0fa0")?;
+    Ok(())
 }
 
 #[test]
