@@ -100,19 +100,23 @@ deliver_text origin bytes kept = codes "deliver " ++ decimal origin.slot ++ code
 abbrev pub expired_text : Origin → List ℕ → List ℕ
 expired_text origin bytes = codes "expired " ++ decimal origin.slot ++ codes " " ++ hex_text bytes
 
+-- what was done with the rule, or became of the server, of a number
+abbrev pub numbered_text : List ℕ → ℕ → List ℕ → List ℕ
+numbered_text what id done = codes "edited " ++ what ++ codes " " ++ decimal id ++ codes " " ++ done
+
 -- a command that was carried out, or a server that changed
 abbrev pub edited_text : Note → List ℕ
-edited_text (RuleAdded id) = codes "edited rule " ++ decimal id.0 ++ codes " added"
-edited_text (RuleRemoved id) = codes "edited rule " ++ decimal id.0 ++ codes " removed"
-edited_text (RuleMoved id) = codes "edited rule " ++ decimal id.0 ++ codes " moved"
-edited_text (ServerAdded id) = codes "edited server " ++ decimal id.0 ++ codes " added"
-edited_text (ServerRemoved id) = codes "edited server " ++ decimal id.0 ++ codes " removed"
+edited_text (RuleAdded id) = numbered_text (codes "rule") id.0 (codes "added")
+edited_text (RuleRemoved id) = numbered_text (codes "rule") id.0 (codes "removed")
+edited_text (RuleMoved id) = numbered_text (codes "rule") id.0 (codes "moved")
+edited_text (ServerAdded id) = numbered_text (codes "server") id.0 (codes "added")
+edited_text (ServerRemoved id) = numbered_text (codes "server") id.0 (codes "removed")
 edited_text (ServerMode id mode) = codes "edited server " ++ decimal id.0 ++ codes " mode " ++ mode_text mode
 edited_text (PoolAdded name) = codes "edited pool " ++ pool_text name ++ codes " added"
 edited_text (PoolPolicy name policy) = codes "edited pool " ++ pool_text name ++ codes " policy " ++ policy_text policy
 edited_text (TimeoutSet timeout) = codes "edited timeout " ++ decimal timeout
-edited_text (ServerUp id) = codes "edited server " ++ decimal id.0 ++ codes " up"
-edited_text (ServerDown id) = codes "edited server " ++ decimal id.0 ++ codes " down"
+edited_text (ServerUp id) = numbered_text (codes "server") id.0 (codes "up")
+edited_text (ServerDown id) = numbered_text (codes "server") id.0 (codes "down")
 
 -- a refusal by the list of rules: its number and its name
 abbrev pub rules_text : ChainFault → List ℕ

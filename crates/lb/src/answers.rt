@@ -1,7 +1,7 @@
 //! Writing answers as lines.
 
 ghost use Rattle.std.specs.Prelude.{◌≡◌, IfOk, string_bytes};
-ghost use Rattle.lb.specs.Answers.{deliver_text, drop_text, edited_text, expired_text, forward_text, hex_text, ignored_text, kept_text, kind_text, line_of, local_text, mode_text, policy_text, pool_text, rules_text, servers_text};
+ghost use Rattle.lb.specs.Answers.{deliver_text, drop_text, edited_text, expired_text, forward_text, hex_text, ignored_text, kept_text, kind_text, line_of, local_text, mode_text, numbered_text, policy_text, pool_text, rules_text, servers_text};
 
 use lb_chain::ChainFault;
 use lb_core::{Answer, DropReason, EditFault, IgnoreReason, LocalReason, Note};
@@ -86,26 +86,11 @@ fn edited_line(alloc: Global, note: &Note) -> Result<String, AllocError>
     ensures { IfOk result (λ text. string_bytes text ≡ edited_text note.now) }
 {
     match note {
-        Note::RuleAdded(id) => {
-            let id = id.0;
-            format!(in alloc; "edited rule {id} added")
-        }
-        Note::RuleRemoved(id) => {
-            let id = id.0;
-            format!(in alloc; "edited rule {id} removed")
-        }
-        Note::RuleMoved(id) => {
-            let id = id.0;
-            format!(in alloc; "edited rule {id} moved")
-        }
-        Note::ServerAdded(id) => {
-            let id = id.0;
-            format!(in alloc; "edited server {id} added")
-        }
-        Note::ServerRemoved(id) => {
-            let id = id.0;
-            format!(in alloc; "edited server {id} removed")
-        }
+        Note::RuleAdded(id) => numbered_line(alloc, "rule", id.0, "added"),
+        Note::RuleRemoved(id) => numbered_line(alloc, "rule", id.0, "removed"),
+        Note::RuleMoved(id) => numbered_line(alloc, "rule", id.0, "moved"),
+        Note::ServerAdded(id) => numbered_line(alloc, "server", id.0, "added"),
+        Note::ServerRemoved(id) => numbered_line(alloc, "server", id.0, "removed"),
         Note::ServerMode(id, mode) => {
             let id = id.0;
             let mode = mode_word(*mode);
@@ -124,15 +109,16 @@ fn edited_line(alloc: Global, note: &Note) -> Result<String, AllocError>
             let millis = timeout.as_millis();
             format!(in alloc; "edited timeout {millis}")
         }
-        Note::ServerUp(id) => {
-            let id = id.0;
-            format!(in alloc; "edited server {id} up")
-        }
-        Note::ServerDown(id) => {
-            let id = id.0;
-            format!(in alloc; "edited server {id} down")
-        }
+        Note::ServerUp(id) => numbered_line(alloc, "server", id.0, "up"),
+        Note::ServerDown(id) => numbered_line(alloc, "server", id.0, "down"),
     }
+}
+
+/// The line that tells what was done with the rule, or became of the server, of a number.
+fn numbered_line(alloc: Global, what: &str, id: u64, done: &str) -> Result<String, AllocError>
+    ensures { IfOk result (λ text. string_bytes text ≡ numbered_text what.now id done.now) }
+{
+    format!(in alloc; "edited {what} {id} {done}")
 }
 
 /// The line of a refusal by the list of rules: its number and its name.

@@ -54,7 +54,7 @@ fn waiting(alloc: Global, outstanding: u16) -> Result<Balancer, AllocError> {
         return Err(AllocError);
     };
     let spec = ServerSpec::new(alloc, name, Addr::V4([127, 0, 0, 1]), 5301);
-    let command = Command::ServerAdd(spec, CheckSpec::new());
+    let command = Command::ServerAdd(spec, CheckSpec::default());
     if !matches!(
         balancer.step(Event::Edit { now: 0, command }),
         Answer::Edited(_)

@@ -19,10 +19,10 @@ pub struct CheckSpec {
     pub must_resolve: bool,
 }
 
-impl CheckSpec {
+impl Default for CheckSpec {
     /// What holds where nothing is stated: each failure takes the server down, each success brings it up, and no name has
     /// to be resolved.
-    pub fn new() -> CheckSpec
+    fn default() -> CheckSpec
         ensures fall { non_zero_u8_get result.fall ≡ 1 }
         ensures rise { non_zero_u8_get result.rise ≡ 1 }
         ensures resolve { result.must_resolve ≡ false }

@@ -198,7 +198,7 @@ fn rule(
 fn server(alloc: Global, name: &str, order: u16) -> Result<Event, Fail> {
     let mut spec = ServerSpec::new(alloc, ident(name)?, HERE, 5301);
     spec.order = order;
-    edit(Command::ServerAdd(spec, CheckSpec::new()))
+    edit(Command::ServerAdd(spec, CheckSpec::default()))
 }
 
 fn server_checked(alloc: Global, name: &str, fall: u8, rise: u8) -> Result<Event, Fail> {
@@ -220,7 +220,7 @@ fn server_of(alloc: Global, name: &str, pool: &str) -> Result<Event, Fail> {
     pools.push(named(pool)?)?;
     let mut spec = ServerSpec::new(alloc, ident(name)?, HERE, 5302);
     spec.pools = PoolNames::from_vec(pools).ok_or("too many pools")?;
-    edit(Command::ServerAdd(spec, CheckSpec::new()))
+    edit(Command::ServerAdd(spec, CheckSpec::default()))
 }
 
 fn ident(text: &str) -> Result<Ident, &'static str> {
