@@ -63,7 +63,7 @@ left_by {A} new given done is = ap (λ (d : Backends × A). d.0) is
 eq_round : (a b : ℕ) → (a == b) ≡ (b == a)
 eq_round a b = grind (arith, nat_tests)
 
-eq_numbers : (a b : ℕ) → (a == b) ≡ true → a ≡ b
+pub eq_numbers : (a b : ℕ) → (a == b) ≡ true → a ≡ b
 eq_numbers a b is = grind (arith, nat_tests, is)
 
 -- a count with one more query
@@ -83,7 +83,7 @@ all_one_more t at w server [] place all = tt
 all_one_more t at w server (l ∷ servers) place all = (one_more t at w server l (is_server server l) place refl all.0, all_one_more t at w server servers place all.1)
 
 -- a changed server keeps its number
-same_number : (change : Loaded → Loaded) (b : Bool) (l : Loaded) → (change l).server.id ≡ l.server.id → (change_if b change l).server.id ≡ l.server.id
+pub same_number : (change : Loaded → Loaded) (b : Bool) (l : Loaded) → (change l).server.id ≡ l.server.id → (change_if b change l).server.id ≡ l.server.id
 same_number change true l is = is
 same_number change false l is = refl
 

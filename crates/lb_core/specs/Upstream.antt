@@ -155,3 +155,21 @@ pub record IsTied (park : Backends) (outstanding : List Waiting) : Type 0 where
   pub given : AllByRecursion (λ l. l.server.id.0 < park.next) park.servers
   pub sent : AllByRecursion (λ w. w.place.server.0 < park.next) outstanding
   pub asked : AllByRecursion (λ w. IsAsked w.entry) outstanding
+
+-- each server has one health check, in the order of the servers, with its number; and its mark is what its health says
+abbrev pub IsChecked : List Server → List Check → Type 0
+IsChecked [] [] = Unit {0}
+IsChecked (s ∷ ss) (c ∷ cs) = (c.server ≡ s.id) × (c.health.up ≡ s.marked_up) × IsChecked ss cs
+IsChecked [] (c ∷ cs) = ⊥
+IsChecked (s ∷ ss) [] = ⊥
+
+-- the servers stand by number, each number once
+abbrev pub ByNumber : List Server → Type 0
+ByNumber [] = Unit {0}
+ByNumber (s ∷ ss) = AllByRecursion (λ o. s.id.0 < o.id.0) ss × ByNumber ss
+
+-- what ties the servers to their health checks and to the outstanding queries
+pub record IsUpstream (park : Backends) (checks : List Check) (outstanding : List Waiting) : Type 0 where
+  pub tied : IsTied park outstanding
+  pub by_number : ByNumber (map server_of park.servers)
+  pub checked : IsChecked (map server_of park.servers) checks

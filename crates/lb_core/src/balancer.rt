@@ -3,6 +3,7 @@
 ghost use Rattle.std.specs.Prelude.{◌≡◌, IfOk};
 ghost use Rattle.lb_core.specs.Plain.{empty};
 ghost use Rattle.lb_core.specs.Step.{Answers};
+ghost use Rattle.lb_core.specs.Upstream.{ByNumber, IsChecked};
 
 use crate::answer::Answer;
 use crate::asked::Asked;
@@ -55,6 +56,15 @@ impl Balancer {
             chain: Chain::new(alloc),
             upstream: Upstream::new(alloc)?,
         })
+    }
+
+    /// A law: each server has one health check with its number, and its mark is what its health says; the servers stand by
+    /// number. It does nothing.
+    pub fn law_of_health(&self)
+        ensures numbers { ByNumber self.now.servers }
+        ensures checks { IsChecked self.now.servers self.now.checks }
+    {
+        self.upstream.law_of_health();
     }
 
     /// Answers one event. It can lack memory at a query with passes, a spoofed answer or a pool to be sent by, at a rule

@@ -1,5 +1,5 @@
 //! Servers with their health, pools and outstanding queries, kept together: each server's count is the number of its
-//! outstanding queries.
+//! outstanding queries, and its mark is what its health says.
 
 ghost use Rattle.std.specs.Prelude.{◌≡◌, ◌<◌, ℕ, IfOk, IfSome, length, not, option_map};
 ghost use Rattle.std.specs.List.{filter, position};
@@ -8,7 +8,7 @@ ghost use Rattle.lb_servers.specs.Pool.{pool_named, with_policy, change_at};
 ghost use Rattle.lb_servers.specs.Server.{marked};
 ghost use Rattle.lb_table.specs.Place.{at_place};
 ghost use Rattle.lb_table.specs.Table.{due, entry_at};
-ghost use Rattle.lb_core.specs.Upstream.{added_checked, backends_of, no_upstreams, on_backends, picked_of, put_into, removed_checked, IsAsked, SendsBy, takes_turns as takes_turns_of, turned_if, is_check};
+ghost use Rattle.lb_core.specs.Upstream.{added_checked, backends_of, no_upstreams, on_backends, picked_of, put_into, removed_checked, ByNumber, IsAsked, IsChecked, SendsBy, takes_turns as takes_turns_of, turned_if, is_check};
 ghost use Rattle.lb_core.specs.Edit.{server_by};
 ghost use Rattle.lb_core.specs.Expiry.{without_expired};
 ghost use Rattle.lb_core.specs.Health.{result_taken};
@@ -40,13 +40,13 @@ pub(crate) struct Upstream {
 
 impl Model for Upstream {
     ghost use Rattle.std.specs.Prelude.{map};
-    ghost use Rattle.lb_core.specs.Upstream.{IsTied, Upstreams, server_of};
+    ghost use Rattle.lb_core.specs.Upstream.{IsUpstream, Upstreams, server_of};
 
     ghost Value = { Upstreams };
 
     ghost view = { λ u. record { timeout = u.timeout; next_server = u.park.next; servers = map server_of u.park.servers; checks = u.checks.items; pools = u.park.pools; outstanding = u.table } };
 
-    ghost invariant = { λ u. IsTied u.park u.table };
+    ghost invariant = { λ u. IsUpstream u.park u.checks.items u.table };
 }
 
 impl Upstream {
@@ -60,6 +60,16 @@ impl Upstream {
             checks: Vec::new(alloc),
             table: Table::new(alloc),
         })
+    }
+
+    /// A law: each server has one health check with its number, and its mark is what its health says; the servers stand by
+    /// number. It does nothing.
+    pub(crate) fn law_of_health(&self)
+        ensures numbers { ByNumber self.now.servers }
+        ensures checks { IsChecked self.now.servers self.now.checks }
+    {
+        // Read, so that what these keep true together is at hand.
+        let _ = self.checks.len();
     }
 
     /// How long a query waits for its reply, in milliseconds.

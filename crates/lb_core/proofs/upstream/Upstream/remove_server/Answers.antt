@@ -1,22 +1,23 @@
 use Rattle.std.proofs.Common.{◌∙◌, ap, sym, subst, Ok, Err, List}
-use Rattle.lb_servers.specs.Park.{Backends}
 use Rattle.lb_core.specs.declared.check.Check.{Check}
-use Rattle.lb_core.specs.Upstream.{IsTied}
+use Rattle.lb_core.specs.Upstream.{IsUpstream}
 use Rattle.lb_core.proofs.Checks.{removed_seen}
-use Rattle.lb_core.proofs.Tied.{left_by, seen_as, tied_removed}
+use Rattle.lb_core.proofs.ChecksKeep.{removed_keeps}
+use Rattle.lb_core.proofs.Tied.{seen_as}
 use Rattle.lb_core.proofs.upstream.Upstream.remove_server.Goals as goal
 
 pub invariant_of-self : goal.invariant_of-self
 invariant_of-self c =
-    subst (λ (p : Backends). IsTied p c.self.inside.table) (sym (left_by c.remove_server.new.self c.remove_server.result _ c.remove_server.ensures)) (tied_removed c.self.inside.table c.self.inside.park c.args.id c.self.invariant)
+    subst (λ (cs : List Check). IsUpstream c.remove_server.new.self cs c.self.inside.table) (sym c.remove_check.ensures)
+    (removed_keeps c.self.inside.checks.items c.self.inside.table c.self.inside.park c.remove_server.new.self c.args.id (Ok tt) c.in-Ok.ensures c.self.invariant)
 
 pub returns-in-Ok : goal.returns-in-Ok
 returns-in-Ok c =
     rw (← c.self.view_is)
     (ap (λ (cs : List Check). (seen_as c.self.inside.timeout cs c.remove_server.new.self c.self.inside.table, Ok tt)) c.remove_check.ensures
-    ∙ removed_seen c.self.inside.timeout c.self.inside.checks.items c.self.inside.park c.remove_server.new.self c.self.inside.table c.args.id (Ok tt) c.self.invariant c.in-Ok.ensures)
+    ∙ removed_seen c.self.inside.timeout c.self.inside.checks.items c.self.inside.park c.remove_server.new.self c.self.inside.table c.args.id (Ok tt) c.self.invariant.tied c.in-Ok.ensures)
 
 pub returns-in-Err : goal.returns-in-Err
 returns-in-Err c =
     rw (← c.self.view_is)
-    (removed_seen c.self.inside.timeout c.self.inside.checks.items c.self.inside.park c.remove_server.new.self c.self.inside.table c.args.id (Err c.in-Err.fault) c.self.invariant c.in-Err.ensures)
+    (removed_seen c.self.inside.timeout c.self.inside.checks.items c.self.inside.park c.remove_server.new.self c.self.inside.table c.args.id (Err c.in-Err.fault) c.self.invariant.tied c.in-Err.ensures)
