@@ -65,7 +65,7 @@ use Rattle.lb_core.specs.Edit.{action_by}
 use Rattle.lb_core.specs.Forward.{PickForwards, sent}
 use Rattle.lb_core.specs.Query.{EndDecides, RuleDecides, default_pool, with_passes}
 use Rattle.lb_core.specs.Routes.{RoutePool, carried_out, left_by, passed_unless, route_named, route_of, routes_of, with_added, with_rules}
-use Rattle.lb_core.specs.Upstream.{checked_by, is_check, on_backends, picked_of, put_into, removed_checked, takes_turns, turned_if, unchecked_by, with_mark, with_turn}
+use Rattle.lb_core.specs.Upstream.{with_backends, checked_by, is_check, on_backends, picked_of, put_into, removed_checked, takes_turns, turned_if, unchecked_by, with_mark, with_turn}
 use Rattle.lb_core.specs.Expiry.{Ends}
 use Rattle.lb_core.specs.Health.{after_result, result_at, result_by, result_step, with_change, with_check_at}
 use Rattle.lb_core.specs.declared.check.Check.{Check}
@@ -86,30 +86,34 @@ turn_keeps : (b : Bool) (p : Pool) → route_of (if b then turned p else p) ≡ 
 turn_keeps true p = refl
 turn_keeps false p = refl
 
--- forwarding changes no pool's name
-sent_names : (ups : Upstreams) (asked : Asked) (bytes : List ℕ) (view : QueryView) (no_recurse : Bool) (server : ServerId) (id : Option ℕ) → (sent ups asked bytes view no_recurse server id).0.pools ≡ ups.pools
+-- what routes see of what stands upstream
+abbrev seen_of : Upstreams → ℕ × List RoutePool
+seen_of ups = (ups.next_cache, map route_of ups.pools)
+
+-- forwarding changes nothing of it
+sent_names : (ups : Upstreams) (asked : Asked) (bytes : List ℕ) (view : QueryView) (no_recurse : Bool) (server : ServerId) (id : Option ℕ) → seen_of (sent ups asked bytes view no_recurse server id).0 ≡ seen_of ups
 sent_names ups asked bytes view no_recurse server None = refl
 sent_names ups asked bytes view no_recurse server (Some id) = refl
 
 pick_names : (ups after : Upstreams) (asked : Asked) (bytes : List ℕ) (view : QueryView) (no_recurse : Bool) (pool : PoolId) (server : Option ServerId) (answer : Answer) →
-    PickForwards ups asked bytes view no_recurse pool server answer after → map route_of after.pools ≡ map route_of ups.pools
-pick_names ups after asked bytes view no_recurse pool None answer is = ap (λ (u : Upstreams). map route_of u.pools) (left_of after answer _ is)
+    PickForwards ups asked bytes view no_recurse pool server answer after → seen_of after ≡ seen_of ups
+pick_names ups after asked bytes view no_recurse pool None answer is = ap seen_of (left_of after answer _ is)
 pick_names ups after asked bytes view no_recurse pool (Some server) answer is =
-    ap (λ (u : Upstreams). map route_of u.pools) (left_of after answer (sent (with_turn pool ups) asked bytes view no_recurse server is.0) is.2)
-    ∙ ap (λ (pools : List Pool). map route_of pools) (sent_names (with_turn pool ups) asked bytes view no_recurse server is.0)
-    ∙ still_named turned_if pool.0 ups.pools (λ p. turn_keeps (takes_turns (Some p.policy)) p)
+    ap seen_of (left_of after answer (sent (with_turn pool ups) asked bytes view no_recurse server is.0) is.2)
+    ∙ sent_names (with_turn pool ups) asked bytes view no_recurse server is.0
+    ∙ ap (λ (pools : List RoutePool). (ups.next_cache, pools)) (still_named turned_if pool.0 ups.pools (λ p. turn_keeps (takes_turns (Some p.policy)) p))
 
 rule_names : (ups after : Upstreams) (asked : Asked) (bytes : List ℕ) (view : QueryView) (no_recurse : Bool) (rule : RuleId) (verdict : Verdict) (answer : Answer) →
-    RuleDecides ups asked bytes view no_recurse rule verdict answer after → map route_of after.pools ≡ map route_of ups.pools
+    RuleDecides ups asked bytes view no_recurse rule verdict answer after → seen_of after ≡ seen_of ups
 rule_names ups after asked bytes view no_recurse rule verdicts.Allow answer is = pick_names ups after asked bytes view no_recurse default_pool (picked_of ups default_pool) answer is
 rule_names ups after asked bytes view no_recurse rule (verdicts.Pool pool) answer is = pick_names ups after asked bytes view no_recurse pool (picked_of ups pool) answer is
-rule_names ups after asked bytes view no_recurse rule verdicts.Drop answer is = ap (λ (u : Upstreams). map route_of u.pools) (left_of after answer _ is)
-rule_names ups after asked bytes view no_recurse rule (verdicts.Rcode rcode) answer is = ap (λ (u : Upstreams). map route_of u.pools) (left_of after answer _ is)
-rule_names ups after asked bytes view no_recurse rule verdicts.Tc answer is = ap (λ (u : Upstreams). map route_of u.pools) (left_of after answer _ is)
-rule_names ups after asked bytes view no_recurse rule (verdicts.Spoof addrs) answer is = ap (λ (u : Upstreams). map route_of u.pools) (left_of after answer _ is)
+rule_names ups after asked bytes view no_recurse rule verdicts.Drop answer is = ap seen_of (left_of after answer _ is)
+rule_names ups after asked bytes view no_recurse rule (verdicts.Rcode rcode) answer is = ap seen_of (left_of after answer _ is)
+rule_names ups after asked bytes view no_recurse rule verdicts.Tc answer is = ap seen_of (left_of after answer _ is)
+rule_names ups after asked bytes view no_recurse rule (verdicts.Spoof addrs) answer is = ap seen_of (left_of after answer _ is)
 
 end_names : (ups after : Upstreams) (asked : Asked) (bytes : List ℕ) (view : QueryView) (walked : Walked) (rule : Option RuleId) (answer : Answer) →
-    EndDecides ups asked bytes view walked rule answer after → map route_of after.pools ≡ map route_of ups.pools
+    EndDecides ups asked bytes view walked rule answer after → seen_of after ≡ seen_of ups
 end_names ups after asked bytes view walked None answer is = pick_names ups after asked bytes view walked.no_recurse default_pool (picked_of ups default_pool) answer is
 end_names ups after asked bytes view walked (Some rule) answer is = rule_names ups after asked bytes view walked.no_recurse rule walked.verdict answer is
 
@@ -123,7 +127,7 @@ walk_follows true p new asked bytes view answer step = ap routes_of (left_of new
 walk_follows false p new asked bytes view answer step =
     let walked = walked_of p asked view in
     ap routes_of step.2
-    ∙ ap (λ (pools : List RoutePool). record (routes_of (with_passes asked walked p)) { pools = pools }) (end_names (upstreams_of p) step.0 asked bytes view walked walked.rule answer step.1)
+    ∙ ap (λ (seen : ℕ × List RoutePool). record (routes_of (with_passes asked walked p)) { next_cache = seen.0; pools = seen.1 }) (end_names (upstreams_of p) step.0 asked bytes view walked walked.rule answer step.1)
 
 read_follows : (transfer mark : Bool) (p new : Plain) (asked : Asked) (bytes : List ℕ) (view : QueryView) (answer : Answer) →
     ReadSteps transfer mark p asked bytes view answer new → routes_of new ≡ passed_unless (transfer || mark) (routes_of p) asked view
@@ -137,23 +141,23 @@ query_follows p new now origin kind word bytes (Err query_faults.NotQuery) answe
 query_follows p new now origin kind word bytes (Err query_faults.Malformed) answer step = ap routes_of (left_of new answer _ step)
 query_follows p new now origin kind word bytes (Ok view) answer step = read_follows (is_transfer view.qtype.0) (marked answer) p new (asked_at p.moment origin kind word) bytes view answer step
 
--- a reply changes no pool
-pools_if : (b : Bool) (x y : Upstreams × Answer) (pools : List Pool) → x.0.pools ≡ pools → y.0.pools ≡ pools → (if b then x else y).0.pools ≡ pools
-pools_if true x y pools first second = first
-pools_if false x y pools first second = second
+-- a reply changes nothing of it
+pools_if : (b : Bool) (x y : Upstreams × Answer) (seen : ℕ × List RoutePool) → seen_of x.0 ≡ seen → seen_of y.0 ≡ seen → seen_of (if b then x else y).0 ≡ seen
+pools_if true x y seen first second = first
+pools_if false x y seen first second = second
 
-held_pools : (ups : Upstreams) (place : Place) (bytes : List ℕ) (view : ReplyView) (entry : Option Entry) → (held_against ups place bytes view entry).0.pools ≡ ups.pools
+held_pools : (ups : Upstreams) (place : Place) (bytes : List ℕ) (view : ReplyView) (entry : Option Entry) → seen_of (held_against ups place bytes view entry).0 ≡ seen_of ups
 held_pools ups place bytes view None = refl
-held_pools ups place bytes view (Some entry) = pools_if (belongs view entry.name entry.qtype entry.qclass) _ _ ups.pools refl refl
+held_pools ups place bytes view (Some entry) = pools_if (belongs view entry.name entry.qtype entry.qclass) _ _ (seen_of ups) refl refl
 
-reply_pools : (ups : Upstreams) (server : ServerId) (lane : Lane) (bytes : List ℕ) (reading : Result ReplyView ReplyFault) → (reply_step ups server lane bytes reading).0.pools ≡ ups.pools
+reply_pools : (ups : Upstreams) (server : ServerId) (lane : Lane) (bytes : List ℕ) (reading : Result ReplyView ReplyFault) → seen_of (reply_step ups server lane bytes reading).0 ≡ seen_of ups
 reply_pools ups server lane bytes (Err reply_faults.Short) = refl
 reply_pools ups server lane bytes (Err reply_faults.NotReply) = refl
 reply_pools ups server lane bytes (Ok view) = held_pools ups (at_place server lane view.id) bytes view (entry_at ups.outstanding (at_place server lane view.id))
 
 -- the routes with what stands upstream changed
-upstream_routes : (p : Plain) (done : Upstreams × Answer) → map route_of done.0.pools ≡ map route_of p.pools → routes_of (upstream_changed p done).0 ≡ routes_of p
-upstream_routes p done is = ap (λ (pools : List RoutePool). record (routes_of p) { pools = pools }) is
+upstream_routes : (p : Plain) (done : Upstreams × Answer) → seen_of done.0 ≡ seen_of (upstreams_of p) → routes_of (upstream_changed p done).0 ≡ routes_of p
+upstream_routes p done is = ap (λ (seen : ℕ × List RoutePool). record (routes_of p) { next_cache = seen.0; pools = seen.1 }) is
 
 -- a pool is found by its name as it is among the routes
 where_named : (name : PoolName) (pools : List Pool) → position_or_len (λ pool. same_name pool.name name) (map route_of pools) ≡ position_or_len (is_named name) pools
@@ -204,7 +208,7 @@ unfolding FollowsBy
 by_fault note p now command fault = refl
 
 by_done : {A : Type 0} (note : A → Note) (p : Plain) (now : ℕ) (command : Command) (park : Backends) (v : A) →
-    record (routes_of p) { pools = map route_of park.pools } ≡ carried_out (routes_of p) command → FollowsBy note p now command (park, Ok v)
+    record (routes_of p) { next_cache = park.next_cache; pools = map route_of park.pools } ≡ carried_out (routes_of p) command → FollowsBy note p now command (park, Ok v)
 unfolding FollowsBy
 by_done note p now command park v is = is
 
@@ -298,30 +302,30 @@ edit_follows mark p now (PoolAdd name) seen = pool_added mark p now name
 edit_follows mark p now (PoolPolicy name policy) seen = policy_put p now name policy (pool_named p.pools name)
 edit_follows mark p now (SetTimeout timeout) seen = refl
 
--- no tick and no health result changes a pool
-tick_pools : (ups after : Upstreams) (now : ℕ) (w : Option Waiting) (answer : Answer) → Ends ups now w answer after → after.pools ≡ ups.pools
-tick_pools ups after now None answer step = ap (λ (u : Upstreams). u.pools) (left_of after answer _ step)
-tick_pools ups after now (Some w) answer step = ap (λ (u : Upstreams). u.pools) (left_of after answer _ step.2)
+-- nor does a tick or a health result
+tick_pools : (ups after : Upstreams) (now : ℕ) (w : Option Waiting) (answer : Answer) → Ends ups now w answer after → seen_of after ≡ seen_of ups
+tick_pools ups after now None answer step = ap seen_of (left_of after answer _ step)
+tick_pools ups after now (Some w) answer step = ap seen_of (left_of after answer _ step.2)
 
-same_pools_if : {A : Type 0} (b : Bool) (x y : Backends × A) (pools : List Pool) → x.0.pools ≡ pools → y.0.pools ≡ pools → (if b then x else y).0.pools ≡ pools
-same_pools_if true x y pools first second = first
-same_pools_if false x y pools first second = second
+same_seen_if : {A : Type 0} (ups : Upstreams) (b : Bool) (x y : Backends × A) (seen : ℕ × List RoutePool) → seen_of (with_backends x.0 ups) ≡ seen → seen_of (with_backends y.0 ups) ≡ seen → seen_of (with_backends (if b then x else y).0 ups) ≡ seen
+same_seen_if ups true x y seen first second = first
+same_seen_if ups false x y seen first second = second
 
-mark_pools : (up : Bool) (server : ServerId) (ups : Upstreams) → (with_mark up server ups).pools ≡ ups.pools
+mark_pools : (up : Bool) (server : ServerId) (ups : Upstreams) → seen_of (with_mark up server ups) ≡ seen_of ups
 mark_pools up server ups =
     let park = backends_of ups in
-    same_pools_if (list_any (is_server server) park.servers) (record park { servers = change_server server (marked_as up) park.servers }, Ok tt) (park, Err park_faults.NoSuchServer) ups.pools refl refl
+    same_seen_if ups (list_any (is_server server) park.servers) (record park { servers = change_server server (marked_as up) park.servers }, Ok tt) (park, Err park_faults.NoSuchServer) (seen_of ups) refl refl
 
-change_pools : (server : ServerId) (change : Changed) (ups : Upstreams) → (with_change server change ups).pools ≡ ups.pools
+change_pools : (server : ServerId) (change : Changed) (ups : Upstreams) → seen_of (with_change server change ups) ≡ seen_of ups
 change_pools server changes.No ups = refl
 change_pools server changes.Up ups = mark_pools true server ups
 change_pools server changes.Down ups = mark_pools false server ups
 
-result_pools_by : (ups : Upstreams) (server : ServerId) (ok : Bool) (at : ℕ) (check : Option Check) → (result_by ups server ok at check).0.pools ≡ ups.pools
+result_pools_by : (ups : Upstreams) (server : ServerId) (ok : Bool) (at : ℕ) (check : Option Check) → seen_of (result_by ups server ok at check).0 ≡ seen_of ups
 result_pools_by ups server ok at None = refl
 result_pools_by ups server ok at (Some check) = change_pools server (result_of check.health ok).1 (with_check_at at (after_result ok check) ups)
 
-result_pools : (ups : Upstreams) (server : ServerId) (ok : Bool) (at : Option ℕ) → (result_at ups server ok at).0.pools ≡ ups.pools
+result_pools : (ups : Upstreams) (server : ServerId) (ok : Bool) (at : Option ℕ) → seen_of (result_at ups server ok at).0 ≡ seen_of ups
 result_pools ups server ok None = refl
 result_pools ups server ok (Some at) = result_pools_by ups server ok at (slice_get ups.checks at)
 
@@ -331,17 +335,17 @@ step_follows p new (Query now origin kind word bytes) (OfReply reading) answer s
 step_follows p new (Query now origin kind word bytes) OfNone answer seen step = absurd step
 step_follows p new (Reply now server lane bytes) (OfReply reading) answer seen step =
     ap routes_of (left_of new answer (upstream_changed p (reply_step (upstreams_of p) server lane bytes reading)) step)
-    ∙ upstream_routes p (reply_step (upstreams_of p) server lane bytes reading) (ap (λ (pools : List Pool). map route_of pools) (reply_pools (upstreams_of p) server lane bytes reading))
+    ∙ upstream_routes p (reply_step (upstreams_of p) server lane bytes reading) (reply_pools (upstreams_of p) server lane bytes reading)
 step_follows p new (Reply now server lane bytes) (OfQuery reading) answer seen step = absurd step
 step_follows p new (Reply now server lane bytes) OfNone answer seen step = absurd step
 step_follows p new (Tick now) OfNone answer seen step =
     ap routes_of step.2
-    ∙ upstream_routes p (step.0, answer) (ap (λ (pools : List Pool). map route_of pools) (tick_pools (upstreams_of p) step.0 p.moment (due p.moment p.outstanding) answer step.1))
+    ∙ upstream_routes p (step.0, answer) (tick_pools (upstreams_of p) step.0 p.moment (due p.moment p.outstanding) answer step.1)
 step_follows p new (Tick now) (OfQuery reading) answer seen step = absurd step
 step_follows p new (Tick now) (OfReply reading) answer seen step = absurd step
 step_follows p new (HealthResult now server ok) OfNone answer seen step =
     ap routes_of (left_of new answer (upstream_changed p (result_step (upstreams_of p) server ok)) step)
-    ∙ upstream_routes p (result_step (upstreams_of p) server ok) (ap (λ (pools : List Pool). map route_of pools) (result_pools (upstreams_of p) server ok (position (is_check server) p.checks)))
+    ∙ upstream_routes p (result_step (upstreams_of p) server ok) (result_pools (upstreams_of p) server ok (position (is_check server) p.checks))
 step_follows p new (HealthResult now server ok) (OfQuery reading) answer seen step = absurd step
 step_follows p new (HealthResult now server ok) (OfReply reading) answer seen step = absurd step
 step_follows p new (Edit now command) OfNone answer seen step =

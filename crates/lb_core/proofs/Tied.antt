@@ -49,7 +49,7 @@ on_tied ups park new given edit tied is = ap (on_backends ups) is ∙ ap (λ (p 
 
 -- what a table of servers and a list of queries are together
 abbrev pub seen_as : ℕ → List Check → Backends → List Waiting → Upstreams
-seen_as timeout checks park t = record { timeout = timeout; next_server = park.next; servers = map server_of park.servers; checks = checks; pools = park.pools; outstanding = t }
+seen_as timeout checks park t = record { timeout = timeout; next_server = park.next; next_cache = park.next_cache; servers = map server_of park.servers; checks = checks; pools = park.pools; outstanding = t }
 
 -- the table of servers with their loads counted anew is the table
 pub counted_tied : (timeout : ℕ) (checks : List Check) (park : Backends) (t : List Waiting) → IsTied park t → backends_of (seen_as timeout checks park t) ≡ park

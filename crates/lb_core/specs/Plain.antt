@@ -26,14 +26,14 @@ pub record Plain : Type 0 where
   pub pools : List Pool
   pub outstanding : List Waiting
 
--- the plain state of a chain and of what stands upstream, at a moment; no cache has a number yet
+-- the plain state of a chain and of what stands upstream, at a moment
 abbrev pub plain_of : ℕ → Rules → Upstreams → Plain
 plain_of moment chain ups = record {
   moment = moment;
   timeout = ups.timeout;
   next_rule = chain.next;
   next_server = ups.next_server;
-  next_cache = 1;
+  next_cache = ups.next_cache;
   rules = seen_rules moment chain.rules;
   servers = ups.servers;
   checks = ups.checks;
@@ -69,6 +69,7 @@ abbrev pub upstreams_of : Plain → Upstreams
 upstreams_of plain = record {
   timeout = plain.timeout;
   next_server = plain.next_server;
+  next_cache = plain.next_cache;
   servers = plain.servers;
   checks = plain.checks;
   pools = plain.pools;
@@ -79,6 +80,7 @@ abbrev pub with_upstreams : Upstreams → Plain → Plain
 with_upstreams ups plain = record plain {
   timeout = ups.timeout;
   next_server = ups.next_server;
+  next_cache = ups.next_cache;
   servers = ups.servers;
   checks = ups.checks;
   pools = ups.pools;

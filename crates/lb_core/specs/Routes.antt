@@ -2,6 +2,7 @@
 -- has a part in it.
 use Rattle.std.specs.Prelude.{ℕ, max, Bool, true, false, ◌||◌, List, [], ◌∷◌, ◌++◌, map, Option, None, Some, option_map, Ok}
 use Rattle.std.specs.List.{position}
+use Rattle.lb_wire.specs.declared.ids.CacheId.{CacheId}
 use Rattle.lb_wire.specs.declared.ids.PoolId.{PoolId}
 use Rattle.lb_wire.specs.declared.query.QueryView.{QueryView}
 use Rattle.lb_chain.specs.declared.numbered.Numbered.{Numbered}
@@ -26,9 +27,10 @@ use Rattle.lb_core.specs.Edit.{place_or_end, rule_by}
 use Rattle.lb_core.specs.Answer.{marked}
 use Rattle.lb_core.specs.Reading.{Reading, OfQuery, moment_of}
 
--- a pool, as routes see it
+-- a pool, as routes see it: its name and its cache
 pub record RoutePool : Type 0 where
   pub name : PoolName
+  pub cache : Option CacheId
 
 -- the latest moment told, the next rule and cache numbers, the rules in their order with the passes that count, and the
 -- pools by number
@@ -40,7 +42,7 @@ pub record Routes : Type 0 where
   pub pools : List RoutePool
 
 abbrev pub route_of : Pool → RoutePool
-route_of pool = record { name = pool.name }
+route_of pool = record { name = pool.name; cache = pool.cache }
 
 -- the routes of a plain state
 abbrev pub routes_of : Plain → Routes
@@ -71,7 +73,7 @@ abbrev pub carried_out : Routes → Command → Routes
 carried_out routes (RuleAdd place stated) = with_added routes place (rule_by (route_named routes.pools) stated)
 carried_out routes (RuleRemove id) = with_rules (removed (chain_in routes) id).0 routes
 carried_out routes (RuleMove id place) = with_rules (moved false (chain_in routes) id place).0 routes
-carried_out routes (PoolAdd name) = record routes { pools = routes.pools ++ record { name = name } ∷ [] }
+carried_out routes (PoolAdd name) = record routes { pools = routes.pools ++ record { name = name; cache = None } ∷ [] }
 carried_out routes _ = routes
 
 -- a query that was walked through the rules, its passes counted; or one that was not walked, or met want of memory

@@ -31,12 +31,13 @@ use Rattle.lb_table.specs.Table.{FirstFree, entered, is_for}
 use Rattle.lb_core.specs.declared.check.Check.{Check}
 use Rattle.lb_core.specs.declared.check.CheckSpec.{CheckSpec}
 
--- how long a query waits, in milliseconds; the next server number (2^64 once all are given); the servers, their health checks
+-- how long a query waits, in milliseconds; the next server and cache numbers (2^64 once all are given); the servers, their health checks
 -- and the pools, by number; and the outstanding queries by deadline, those of one deadline in the order in which they were
 -- sent
 pub record Upstreams : Type 0 where
   pub timeout : ℕ
   pub next_server : ℕ
+  pub next_cache : ℕ
   pub servers : List Server
   pub checks : List Check
   pub pools : List Pool
@@ -48,7 +49,7 @@ first_timeout = 2000
 
 -- at first: no server, and the default pool
 abbrev pub no_upstreams : Upstreams
-no_upstreams = record { timeout = first_timeout; next_server = no_backends.next; servers = []; checks = []; pools = no_backends.pools; outstanding = [] }
+no_upstreams = record { timeout = first_timeout; next_server = no_backends.next; next_cache = no_backends.next_cache; servers = []; checks = []; pools = no_backends.pools; outstanding = [] }
 
 -- a server with its load: how many of the outstanding queries wait for it, by whatever lane, counted anew
 abbrev pub loaded_by : List Waiting → Server → Loaded
@@ -59,11 +60,11 @@ server_of l = l.server
 
 -- the table of servers and pools, each server with its load
 abbrev pub backends_of : Upstreams → Backends
-backends_of ups = record { next = ups.next_server; servers = map (loaded_by ups.outstanding) ups.servers; pools = ups.pools }
+backends_of ups = record { next = ups.next_server; next_cache = ups.next_cache; servers = map (loaded_by ups.outstanding) ups.servers; pools = ups.pools }
 
 -- another table of servers and pools in place of the one that is there
 abbrev pub with_backends : Backends → Upstreams → Upstreams
-with_backends park ups = record ups { next_server = park.next; servers = map server_of park.servers; pools = park.pools }
+with_backends park ups = record ups { next_server = park.next; next_cache = park.next_cache; servers = map server_of park.servers; pools = park.pools }
 
 -- what an edit of the table of servers and pools leaves and gives
 abbrev pub on_backends : {A : Type 0} → Upstreams → Backends × A → Upstreams × A

@@ -44,7 +44,7 @@ impl Model for Upstream {
 
     ghost Value = { Upstreams };
 
-    ghost view = { λ u. record { timeout = u.timeout; next_server = u.park.next; servers = map server_of u.park.servers; checks = u.checks.items; pools = u.park.pools; outstanding = u.table } };
+    ghost view = { λ u. record { timeout = u.timeout; next_server = u.park.next; next_cache = u.park.next_cache; servers = map server_of u.park.servers; checks = u.checks.items; pools = u.park.pools; outstanding = u.table } };
 
     ghost invariant = { λ u. IsUpstream u.park u.checks.items u.table };
 }

@@ -1,6 +1,7 @@
 -- The table of servers and pools, and its edits.
 use Rattle.std.specs.Prelude.{ℕ, ◌+◌, ◌^◌, ◌≤◌, Bool, true, false, not, ◌==◌, nat_le, List, [], ◌∷◌, ◌++◌, length, Option, None, Some, is_some, Result, Ok, Err, slice_get, if◌then◌else◌}
 use Rattle.std.specs.List.{filter, list_any}
+use Rattle.lb_wire.specs.declared.ids.CacheId.{CacheId}
 use Rattle.lb_wire.specs.declared.ids.PoolId.{PoolId}
 use Rattle.lb_wire.specs.declared.ids.ServerId.{ServerId}
 use Rattle.lb_servers.specs.declared.fault.ParkFault.{ParkFault}
@@ -10,21 +11,22 @@ use Rattle.lb_servers.specs.declared.pool.PoolName.TheVariants as names
 use Rattle.lb_servers.specs.declared.pool.Pool.{Pool}
 use Rattle.lb_servers.specs.declared.server.Loaded.{Loaded}
 use Rattle.lb_servers.specs.declared.spec.ServerSpec.{ServerSpec}
-use Rattle.lb_servers.specs.Pool.{change_at, is_named, new_pool}
+use Rattle.lb_servers.specs.Pool.{cache_at, change_at, is_named, new_pool, with_cache}
 use Rattle.lb_servers.specs.Ranks.{StandAt, by_order}
 use Rattle.lb_servers.specs.Server.{change_server, is_server, server_named}
 use Rattle.lb_servers.specs.Spec.{lacks_pool, new_server, stated_pools}
 
--- the next server number (2^64 once all are given), the servers by number, each with how many queries it has
+-- the next server and cache numbers (2^64 once all are given), the servers by number, each with how many queries it has
 -- outstanding, and the pools by number, which is their place: the default pool is the first
 pub record Backends : Type 0 where
   pub next : ℕ
+  pub next_cache : ℕ
   pub servers : List Loaded
   pub pools : List Pool
 
 -- at first: no server, and the default pool
 abbrev pub no_backends : Backends
-no_backends = record { next = 1; servers = []; pools = new_pool names.Default ∷ [] }
+no_backends = record { next = 1; next_cache = 1; servers = []; pools = new_pool names.Default ∷ [] }
 
 -- the most servers, and the most pools, the default one counted
 abbrev pub max_servers : ℕ
@@ -77,6 +79,22 @@ abbrev pub changed_pool : (Pool → Pool) → Backends → PoolId → Backends �
 changed_pool change park pool =
     if is_some (slice_get park.pools pool.0) then (record park { pools = change_at change pool.0 park.pools }, Ok tt)
     else (park, Err faults.NoSuchPool)
+
+-- whether a pool can be given a cache: it is there, and a cache number is left
+abbrev pub cache_ready_of : Backends → PoolId → Result (Unit {0}) ParkFault
+cache_ready_of park pool =
+    if is_some (slice_get park.pools pool.0) then (if park.next_cache == 2 ^ 64 then Err faults.NoMoreIds else Ok tt)
+    else Err faults.NoSuchPool
+
+-- the table with a new cache in the place of the one that a pool has
+abbrev pub attached : Backends → PoolId → Backends × CacheId
+attached park pool =
+    let cache : CacheId = record { 0 = park.next_cache } in
+    (record park { next_cache = park.next_cache + 1; pools = change_at (with_cache (Some cache)) pool.0 park.pools }, cache)
+
+-- the table without the cache of a pool, and which one it was
+abbrev pub detached : Backends → PoolId → Backends × Option CacheId
+detached park pool = (record park { pools = change_at (with_cache None) pool.0 park.pools }, cache_at park.pools pool.0)
 
 -- the table with the server, or the pool, of a number changed, where it is there
 abbrev pub with_server : (Loaded → Loaded) → ServerId → Backends → Backends

@@ -6,10 +6,10 @@ ghost use Rattle.lb_wire.specs.declared.ids.PoolId.{PoolId};
 ghost use Rattle.lb_wire.specs.declared.ids.ServerId.{ServerId};
 ghost use Rattle.lb_servers.specs.declared.fault.ParkFault.{ParkFault};
 ghost use Rattle.lb_servers.specs.declared.server.Loaded.{Loaded};
-ghost use Rattle.lb_servers.specs.Pool.{pool_named, turned, with_policy};
+ghost use Rattle.lb_servers.specs.Pool.{cache_at, pool_named, turned, with_policy};
 ghost use Rattle.lb_servers.specs.Server.{is_server, marked, server_named, with_mode, with_one_less, with_one_more};
 ghost use Rattle.lb_servers.specs.Pick.{picked};
-ghost use Rattle.lb_servers.specs.Park.{added_pool, added_server, changed_pool, changed_server, lacks, no_backends, removed_server, server_fault, with_pool, with_server};
+ghost use Rattle.lb_servers.specs.Park.{added_pool, added_server, attached, cache_ready_of, changed_pool, detached, changed_server, lacks, no_backends, removed_server, server_fault, with_pool, with_server};
 
 use crate::fault::ParkFault;
 use crate::ident::Ident;
@@ -18,16 +18,18 @@ use crate::pool::{self, MAX_POOLS, Policy, Pool, PoolName};
 use crate::ranks::{MAX_SERVERS, Ranks};
 use crate::server::{self, Loaded, Mode};
 use crate::spec::{self, ServerSpec};
-use lb_wire::{PoolId, ServerId};
+use lb_wire::{CacheId, PoolId, ServerId};
 use std::alloc::{AllocError, Global};
 use std::marker::Model;
 
-/// The table of servers (backends) and pools. A contract sees it as the next server number, the list of servers by number,
-/// each with how many queries it has outstanding, and the list of pools by number.
+/// The table of servers (backends) and pools. A contract sees it as the next server and cache numbers, the list of servers by
+/// number, each with how many queries it has outstanding, and the list of pools by number.
 #[derive(Debug, Drop)]
 pub struct Park {
     /// The last number given to a server, 0 at first.
     last_server: u64,
+    /// The last number given to a cache, 0 at first.
+    last_cache: u64,
     servers: Vec<Loaded>,
     pools: Vec<Pool>,
     /// The places of the servers by order, made anew after each edit that adds or removes one.
@@ -40,7 +42,7 @@ impl Model for Park {
 
     ghost Value = { Backends };
 
-    ghost view = { λ p. record { next = p.last_server + 1; servers = p.servers.items; pools = p.pools.items } };
+    ghost view = { λ p. record { next = p.last_server + 1; next_cache = p.last_cache + 1; servers = p.servers.items; pools = p.pools.items } };
 
     ghost invariant = { λ p. IsPark p.servers.items p.pools.items p.ranks };
 }
@@ -54,6 +56,7 @@ impl Park {
         pools.push(Pool::new(PoolName::Default))?;
         Ok(Park {
             last_server: 0,
+            last_cache: 0,
             servers: Vec::new(alloc),
             pools,
             ranks: Ranks::new(),
@@ -228,6 +231,48 @@ impl Park {
         }
         pool::set_policy_at(self.pools.as_mut_slice(), at, policy);
         Ok(())
+    }
+
+    /// Whether a pool can be given a cache: the refusals, in their order, are `NoSuchPool` where it is not there, and `NoMoreIds`
+    /// once 2^64-1 was given to a cache.
+    pub fn cache_ready(&self, pool: PoolId) -> Result<(), ParkFault>
+        ensures { result ≡ cache_ready_of self.now pool }
+    {
+        if !pool::is_there(self.pools.as_slice(), usize::from(pool.0)) {
+            return Err(ParkFault::NoSuchPool);
+        }
+        if self.last_cache == u64::MAX {
+            return Err(ParkFault::NoMoreIds);
+        }
+        Ok(())
+    }
+
+    /// Gives a pool a new cache in place of the one that it has, and tells its number, which is never given again. It takes no
+    /// memory.
+    pub fn attach_cache(&mut self, pool: PoolId) -> CacheId
+        requires ready { cache_ready_of self.old pool ≡ Ok tt }
+        ensures { (self.new, result) ≡ attached self.old pool }
+    {
+        self.last_cache += 1;
+        let cache = CacheId(self.last_cache);
+        pool::set_cache_at(self.pools.as_mut_slice(), usize::from(pool.0), Some(cache));
+        cache
+    }
+
+    /// Takes the cache of a pool away, and tells its number; None where the pool has none, or is not there. It takes no memory.
+    pub fn detach_cache(&mut self, pool: PoolId) -> Option<CacheId>
+        ensures { (self.new, result) ≡ detached self.old pool }
+    {
+        let cache = self.cache_of(pool);
+        pool::set_cache_at(self.pools.as_mut_slice(), usize::from(pool.0), None);
+        cache
+    }
+
+    /// The cache of a pool; None where the pool has none, or is not there.
+    pub fn cache_of(&self, pool: PoolId) -> Option<CacheId>
+        ensures { result ≡ cache_at self.now.pools pool.0 }
+    {
+        pool::cache_at(self.pools.as_slice(), usize::from(pool.0))
     }
 
     /// The server that a pool picks for a query by its policy, among its servers that are up, by order, then age. None

@@ -2,10 +2,10 @@
 
 ghost use Rattle.std.specs.Prelude.{◌≡◌, ◌<◌, ◌≤◌, IfOk, IfSome, is_some, length, slice_get};
 ghost use Rattle.std.specs.List.{list_any, position};
-ghost use Rattle.lb_servers.specs.Pool.{change_at, is_named, new_pool, pool_named as number_named, same_name, turned, with_policy};
+ghost use Rattle.lb_servers.specs.Pool.{change_at, is_named, new_pool, pool_named as number_named, same_name, turned, with_cache, with_policy, cache_at as cache_at_of};
 
 use crate::ident::Ident;
-use lb_wire::PoolId;
+use lb_wire::{CacheId, PoolId};
 use std::alloc::{AllocError, Global};
 
 /// The most pools, the default one counted.
@@ -59,10 +59,12 @@ pub struct Pool {
     pub policy: Policy,
     /// How many queries were sent by the policy roundrobin; 2^64-1 is followed by 0.
     pub turn: u64,
+    /// Its packet cache, by number.
+    pub cache: Option<CacheId>,
 }
 
 impl Pool {
-    /// A new pool: its policy is leastOutstanding.
+    /// A new pool: its policy is leastOutstanding, and it has no cache.
     pub(crate) fn new(name: PoolName) -> Pool
         ensures { result ≡ new_pool name }
     {
@@ -70,6 +72,7 @@ impl Pool {
             name,
             policy: Policy::LeastOutstanding,
             turn: 0,
+            cache: None,
         }
     }
 
@@ -81,6 +84,7 @@ impl Pool {
             name: self.name.copy(),
             policy: self.policy,
             turn: self.turn,
+            cache: self.cache,
         }
     }
 
@@ -96,6 +100,13 @@ impl Pool {
         ensures { self.new ≡ with_policy policy self.old }
     {
         self.policy = policy;
+    }
+
+    /// Gives it another cache, or none.
+    fn set_cache(&mut self, cache: Option<CacheId>)
+        ensures { self.new ≡ with_cache cache self.old }
+    {
+        self.cache = cache;
     }
 }
 
@@ -153,6 +164,23 @@ pub(crate) fn set_policy_at(pools: &mut [Pool], at: usize, policy: Policy)
     if at < pools.len() {
         pools[at].set_policy(policy);
     }
+}
+
+/// Gives the pool at a place another cache, or none, where one stands there.
+pub(crate) fn set_cache_at(pools: &mut [Pool], at: usize, cache: Option<CacheId>)
+    ensures { pools.new ≡ change_at (with_cache cache) at pools.old }
+{
+    if at < pools.len() {
+        pools[at].set_cache(cache);
+    }
+}
+
+/// The cache of the pool at a place, where one stands there and has one.
+pub(crate) fn cache_at(pools: &[Pool], at: usize) -> Option<CacheId>
+    ensures { result ≡ cache_at_of pools.now at }
+{
+    let pool = pools.get(at)?;
+    pool.cache
 }
 
 /// Copies of the pools, in order.

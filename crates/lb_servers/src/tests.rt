@@ -1,7 +1,7 @@
 //! Servers and pools, by values worked out by hand.
 
 use crate::{Ident, Loaded, Mode, Park, ParkFault, Policy, PoolName, PoolNames, ServerSpec};
-use lb_wire::{Addr, PoolId, ServerId};
+use lb_wire::{Addr, CacheId, PoolId, ServerId};
 use std::alloc::Global;
 use std::test::Fail;
 
@@ -249,5 +249,27 @@ fn a_new_server_as_it_is_stated(rt: HostRuntime) -> Result<(), Fail> {
     );
     assert!(rt; pool_names(alloc, &["-", "-", "-", "-", "-", "-", "-", "-"]).is_some());
     assert!(rt; pool_names(alloc, &["-", "-", "-", "-", "-", "-", "-", "-", "-"]).is_none());
+    Ok(())
+}
+
+/// Gives a pool a new cache.
+fn attach(park: &mut Park, pool: PoolId) -> Result<CacheId, ParkFault> {
+    park.cache_ready(pool)?;
+    Ok(park.attach_cache(pool))
+}
+
+#[test]
+fn caches_of_pools(rt: HostRuntime) -> Result<(), Fail> {
+    let mut park = Park::new(rt.alloc())?;
+    assert_eq!(rt; park.cache_of(DEFAULT), None);
+    assert_eq!(rt; attach(&mut park, DEFAULT), Ok(CacheId(1)));
+    // A new cache takes the place of the old one, and no number is given again.
+    assert_eq!(rt; attach(&mut park, DEFAULT), Ok(CacheId(2)));
+    assert_eq!(rt; park.cache_of(DEFAULT), Some(CacheId(2)));
+    assert_eq!(rt; park.detach_cache(DEFAULT), Some(CacheId(2)));
+    assert_eq!(rt; park.detach_cache(DEFAULT), None);
+    assert_eq!(rt; attach(&mut park, DEFAULT), Ok(CacheId(3)));
+    assert_eq!(rt; attach(&mut park, PoolId(1)), Err(ParkFault::NoSuchPool));
+    assert_eq!(rt; park.cache_of(PoolId(1)), None);
     Ok(())
 }
