@@ -3,8 +3,8 @@
 use super::messages::Message;
 use super::told::{Action, PLAIN, Query, STREAM, Selector, Told};
 use super::wanted::{NO_SERVER, TCP, UDP, Wanted};
-use super::{Line, play};
-use crate::IgnoreReason;
+use super::{Line, play, play_on};
+use crate::{Balancer, IgnoreReason};
 use Selector::All;
 use Told::{
     Ask, AskAt, AskBy, Health, Reply, Rule, Server, ServerChecked, ServerMode, ServerRemove, Tick,
@@ -124,5 +124,9 @@ const MODES: &[Line] = &[
 
 #[test]
 fn health_in_every_mode(rt: HostRuntime) -> Result<(), Fail> {
-    play(&rt, MODES)
+    let mut balancer = Balancer::new(rt.alloc())?;
+    play_on(&rt, &mut balancer, MODES)?;
+    // It does nothing.
+    balancer.law_of_health();
+    Ok(())
 }
