@@ -1,6 +1,7 @@
 -- The question of a key, and which replies an expunge covers.
 use Rattle.std.specs.Prelude.{if◌then◌else◌, ℕ, ◌+◌, Bool, true, false, ◌==◌, ◌&&◌, nat_lt, nat_le, nat_eq, List, length, drop, Option, None, Some, option_map, bytes_eq}
-use Rattle.std.specs.List.{ends_with, list_all, pointwise, starts_with}
+use Rattle.std.specs.List.{ends_with, list_all, starts_with}
+use lib.Pointwise.{pointwise}
 use Rattle.lb_name.specs.Name.{labels_of, lower_name, wire_of}
 use Rattle.lb_wire.specs.BigEndian.{number_at}
 use Rattle.lb_wire.specs.declared.record_type.RecordType.{RecordType}
