@@ -1,11 +1,12 @@
 -- What an expunge leaves and counts.
 use Rattle.std.proofs.Common.{◌≡◌, Bool, true, false, not, ℕ, ◌+◌, ◌-◌, ◌≤◌, List, [], ◌∷◌, length, refl, sym, ◌∙◌, ap, arith, subst}
 use Rattle.std.specs.List.{count_by, filter}
+use Rattle.std.proofs.lemmas.List.Elements.{filter_agree}
 use Rattle.std.proofs.lemmas.List.Filters.{length-filter_both}
 use Rattle.std.proofs.lemmas.List.Kept.{AllPairs-filter}
 use Rattle.std.proofs.lemmas.List.Sums.{count_by-le-length, length-filter}
 use Rattle.lb_cache.specs.declared.reply.CachedReply.{CachedReply}
-use Rattle.lb_cache.specs.Reply.{before_key}
+use Rattle.lb_cache.specs.Reply.{before_key, is_dead, lives}
 use Rattle.lb_cache.specs.Cache.{Ascends, Caching, expunged}
 use Rattle.lb_cache.specs.Question.{covers_all}
 
@@ -35,3 +36,11 @@ all_expunged cache new count is was =
     let rest : length new ≡ 0 = ap (λ (xs : List CachedReply). length xs) is in
     let difference : count ≡ count - 0 = omega arith in
     ap (λ (n : ℕ). (record cache { replies = new }, n)) difference ∙ expunged_is covers_all cache new count 0 none was (sym rest)
+
+not_not : (b : Bool) → b ≡ not (not b)
+not_not true = refl
+not_not false = refl
+
+-- the living ones are those that are not dead
+pub living_left : (now : ℕ) (xs : List CachedReply) → filter (lives now) xs ≡ filter (λ r. not (is_dead now r)) xs
+living_left now xs = filter_agree (lives now) (λ r. not (is_dead now r)) (λ r. not_not (lives now r)) xs

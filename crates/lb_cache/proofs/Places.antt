@@ -138,3 +138,6 @@ replaced_is key xs at x ascends point lt read has r is =
     let fails : All (λ o. is_before r.key o ≡ false) back = all_dropped (λ o. is_before r.key o ≡ false) xs (at + 1) (λ k d le l. point_r.1 k d (omega arith) l) in
     set_split xs at r lt ∙ ap (λ (n : ℕ). take at xs ++ r ∷ drop n xs) (sym (add-one at))
     ∙ placed_between r front back (all_taken (λ o. is_before r.key o ≡ true) xs at point_r.0) fails ∙ ap (placed r) (sym others)
+
+pub some_is : (a b : CachedReply) → Some a ≡ Some b → a ≡ b
+some_is a b is = cc

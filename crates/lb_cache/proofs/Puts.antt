@@ -1,17 +1,18 @@
 -- What putting a reply leaves.
-use Rattle.std.proofs.Common.{◌≡◌, Bool, true, false, not, ℕ, ◌+◌, ◌<◌, ◌≤◌, List, [], ◌∷◌, ◌++◌, length, get_or, inl, inr, refl, sym, ◌∙◌, ap, arith, subst}
-use Rattle.std.specs.List.{All, AllPairs, filter, insert, list_any}
+use Rattle.std.proofs.Common.{◌≡◌, Bool, true, false, not, ℕ, suc, ◌+◌, ◌<◌, ◌≤◌, List, [], ◌∷◌, ◌++◌, length, get_or, set, Some, inl, inr, refl, sym, ◌∙◌, ap, arith, subst}
+use Rattle.std.specs.List.{All, AllPairs, filter, insert, list_any, slice_get}
 use Rattle.std.proofs.lemmas.Bool.{cases_Bool, cond-true}
-use Rattle.std.proofs.lemmas.List.{length-append}
+use Rattle.std.proofs.lemmas.List.{get_or_default, length-append, length-set}
 use Rattle.std.proofs.lemmas.List.Elements.{All-cons, All-head, All-tail, All-append, All-filter, filter_passes}
 use Rattle.std.proofs.lemmas.List.Filters.{length-filter_both}
 use Rattle.std.proofs.lemmas.List.Kept.{AllPairs-cons, AllPairs-filter}
 use Rattle.std.proofs.lemmas.List.Sums.{count_by-le-length, length-filter}
+use Rattle.std.proofs.lemmas.Option.{slice_get_read}
 use Rattle.lb_wire.specs.declared.kept.Kept.{Kept}
 use Rattle.lb_wire.specs.declared.key.Key.{Key}
 use Rattle.lb_cache.specs.declared.reply.CachedReply.{CachedReply}
-use Rattle.lb_cache.specs.Reply.{before_key, has_key, has_other, is_before, is_dead, lives}
-use Rattle.lb_cache.specs.Cache.{Ascends, placed, written}
+use Rattle.lb_cache.specs.Reply.{before_key, has_key, has_other, is_before, is_dead, lives, renewed}
+use Rattle.lb_cache.specs.Cache.{Ascends, Caching, kept_with, placed, written}
 use Rattle.lb_cache.proofs.Keys.{before_trans, behind}
 
 -- where two lists ascend, and each of the first stands before each of the second, they ascend together
@@ -19,8 +20,8 @@ ascend_append : (xs ys : List CachedReply) → Ascends xs → Ascends ys → All
 ascend_append [] ys front back cross = back
 ascend_append (x ∷ xs) ys front back cross =
     AllPairs-cons (λ a b. before_key a.key b.key ≡ true) x (xs ++ ys)
-      (All-append (λ y. before_key x.key y.key ≡ true) xs ys (λ k d lt. front 0 (k + 1) d (omega arith) (omega (arith, lt))) (All-head (λ x. All (λ y. before_key x.key y.key ≡ true) ys) x xs cross))
-      (ascend_append xs ys (λ i j d lt within. front (i + 1) (j + 1) d (omega (arith, lt)) (omega (arith, within))) back (All-tail (λ x. All (λ y. before_key x.key y.key ≡ true) ys) x xs cross))
+      (All-append (λ y. before_key x.key y.key ≡ true) xs ys (λ k d lt. front 0 (suc k) d (omega arith) (omega (arith, lt))) (All-head (λ x. All (λ y. before_key x.key y.key ≡ true) ys) x xs cross))
+      (ascend_append xs ys (λ i j d lt within. front (suc i) (suc j) d (omega (arith, lt)) (omega (arith, within))) back (All-tail (λ x. All (λ y. before_key x.key y.key ≡ true) ys) x xs cross))
 
 not_is : (b : Bool) → not b ≡ true → b ≡ false
 not_is true is = absurd (cc)
@@ -76,3 +77,41 @@ fewer_live now (x ∷ xs) some = elim (cases_Bool (lives now x)) [
 pub written_keeps : (P : List CachedReply → Type 0) (lacking : Bool) (old new items : List CachedReply) (kept : Kept) → (items, kept) ≡ written lacking old new → P old → P new → P items
 written_keeps P true old new items kept is before after = subst P (sym (ap (λ (w : List CachedReply × Kept). w.0) is)) before
 written_keeps P false old new items kept is before after = subst P (sym (ap (λ (w : List CachedReply × Kept). w.0) is)) after
+
+-- what the cache keeps true of its list
+abbrev pub Keeps : ℕ → List CachedReply → Type 0
+Keeps max xs = Ascends xs × (length xs ≤ max)
+
+-- it stays so where a reply takes the place of one with its key, where one is added, and where one takes the place of the dead
+pub replace_keeps : (key : Key) (xs items : List CachedReply) (at max life now : ℕ) (bytes : List ℕ) (lacking : Bool) (kept : Kept) (d : CachedReply) → at < length xs → ((o : CachedReply) → slice_get xs at ≡ Some o → o.key ≡ key) → ((r : CachedReply) → r.key ≡ key → set xs at r ≡ placed r (filter (has_other key) xs)) → ((o : CachedReply) → slice_get xs at ≡ Some o → (items, kept) ≡ written lacking xs (set xs at (renewed o bytes life now))) → Keeps max xs → Keeps max items
+replace_keeps key xs items at max life now bytes lacking kept d lt keys places did was =
+    let o : CachedReply = get_or xs at d in
+    let there : slice_get xs at ≡ Some o = slice_get_read xs (length xs) at o refl lt (get_or_default xs at d o lt) in
+    let own : o.key ≡ key = keys o there in
+    let r : CachedReply = renewed o bytes life now in
+    let others : All (λ z. has_key r.key z ≡ false) (filter (has_other key) xs) = subst (λ (k : Key). All (λ z. has_key k z ≡ false) (filter (has_other key) xs)) (sym own) (others_have key xs) in
+    let order : Ascends (set xs at r) = subst Ascends (sym (places r own)) (placed_ascends r (filter (has_other key) xs) (AllPairs-filter (λ a b. before_key a.key b.key ≡ true) (has_other key) xs was.0) others) in
+    written_keeps (Keeps max) lacking xs (set xs at r) items kept (did o there) was (order, omega (arith, was.1, length-set xs at r))
+
+pub add_keeps : (r : CachedReply) (xs items : List CachedReply) (at max : ℕ) (lacking : Bool) (kept : Kept) → list_any (has_key r.key) xs ≡ false → insert xs at r ≡ placed r xs → (items, kept) ≡ written lacking xs (insert xs at r) → length xs < max → Keeps max xs → Keeps max items
+add_keeps r xs items at max lacking kept new place did room was =
+    let order : Ascends (insert xs at r) = subst Ascends (sym place) (placed_ascends r xs was.0 (none_any (has_key r.key) xs new)) in
+    let long : length (insert xs at r) ≡ length xs + 1 = ap (λ (zs : List CachedReply). length zs) place ∙ length_placed r xs in
+    written_keeps (Keeps max) lacking xs (insert xs at r) items kept did was (order, omega (arith, room, long))
+
+pub dead_keeps : (r : CachedReply) (xs items : List CachedReply) (now max : ℕ) (lacking : Bool) (kept : Kept) → list_any (has_key r.key) xs ≡ false → list_any (is_dead now) xs ≡ true → (items, kept) ≡ written lacking xs (placed r (filter (lives now) xs)) → Keeps max xs → Keeps max items
+dead_keeps r xs items now max lacking kept new dead did was =
+    let left : List CachedReply = filter (lives now) xs in
+    let order : Ascends (placed r left) = placed_ascends r left (AllPairs-filter (λ a b. before_key a.key b.key ≡ true) (lives now) xs was.0) (filter_has (lives now) (has_key r.key) xs (none_any (has_key r.key) xs new)) in
+    written_keeps (Keeps max) lacking xs (placed r left) items kept did was (order, omega (arith, was.1, length_placed r left, fewer_live now xs dead))
+
+-- where a reply takes the place of one with its key, it is kept so
+pub replace_is : (cache : Caching) (r : CachedReply) (items : List CachedReply) (at now : ℕ) (lacking : Bool) (kept : Kept) → at < length cache.replies → ((o : CachedReply) → slice_get cache.replies at ≡ Some o → o.key ≡ r.key) → ((q : CachedReply) → q.key ≡ r.key → set cache.replies at q ≡ placed q (filter (has_other r.key) cache.replies)) → list_any (has_key r.key) cache.replies ≡ true → ((o : CachedReply) → slice_get cache.replies at ≡ Some o → (items, kept) ≡ written lacking cache.replies (set cache.replies at (renewed o r.bytes r.life r.moment))) → (record cache { replies = items }, kept) ≡ kept_with lacking cache r now
+replace_is cache r items at now lacking kept lt keys places some did =
+    let xs : List CachedReply = cache.replies in
+    let o : CachedReply = get_or xs at r in
+    let there : slice_get xs at ≡ Some o = slice_get_read xs (length xs) at o refl lt (get_or_default xs at r o lt) in
+    let same : renewed o r.bytes r.life r.moment ≡ r = ap (λ (k : Key). record r { key = k }) (keys o there) in
+    let put : (items, kept) ≡ written lacking xs (placed r (filter (has_other r.key) xs)) =
+      did o there ∙ ap (λ (q : CachedReply). written lacking xs (set xs at q)) same ∙ ap (written lacking xs) (places r refl) in
+    ap (λ (w : List CachedReply × Kept). (record cache { replies = w.0 }, w.1)) put ∙ sym (cond-true _ _ _ some)

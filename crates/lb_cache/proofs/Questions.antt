@@ -1,12 +1,13 @@
 -- The question of a key, and names by whole labels.
-use Rattle.std.proofs.Common.{◌≡◌, ◌↔◌, Bool, true, false, ◌&&◌, ℕ, ◌+◌, ◌-◌, ◌<◌, ◌≤◌, IsTrue, List, [], ◌∷◌, ◌++◌, length, take, drop, bytes_eq, nat_eq, nat_lt, nat_le, Option, Some, None, cond, inl, inr, refl, sym, ◌∙◌, ap, arith, subst, rules, tests}
+use Rattle.std.proofs.Common.{◌≡◌, ◌↔◌, Bool, true, false, ◌&&◌, ℕ, ◌+◌, ◌-◌, ◌<◌, ◌≤◌, IsTrue, List, [], ◌∷◌, ◌++◌, length, take, drop, bytes_eq, nat_eq, nat_lt, nat_le, Option, Some, None, cond, inl, inr, refl, sym, ◌∙◌, ap, arith, subst, length-drop}
 use Rattle.std.specs.Bool.{Decides, one_answer}
 use Rattle.std.specs.List.{AllByRecursion, list_all, starts_with}
 use lib.Pointwise.{pointwise}
+use Rattle.std.specs.Int.{from_be_bytes, w16}
 use Rattle.std.proofs.Math.Seq.{drop-append_seam}
-use Rattle.std.proofs.lemmas.Bool.{cases_Bool, cond-true, cond-false}
+use Rattle.std.proofs.lemmas.Bool.{cases_Bool, cond-true, cond-false, le-leb, leb-true}
 use Rattle.std.proofs.lemmas.Bool.Decides.{Decides-and, Decides-eqb, Decides-ltb}
-use Rattle.std.proofs.lemmas.List.{length-append, take-append-drop}
+use Rattle.std.proofs.lemmas.List.{drop-drop, length-append, take-append-drop}
 use Rattle.std.proofs.lemmas.Slice.Eq.{bytes_eq-Decides, slice_eq-Decides, starts_is}
 use Rattle.lb_name.specs.Name.{IsLabel, IsName, IsSame, IsUnder, labels_of, lower_name, wire_of}
 use Rattle.lb_name.specs.Reading.{Begins}
@@ -42,7 +43,7 @@ labels_decide [] = (λ yes. tt, λ all. refl)
 labels_decide (label ∷ labels) = Decides-and (is_label label) (list_all is_label labels) (label_decides label) (labels_decide labels)
 
 le_decides : (a b : ℕ) → Decides (nat_le a b) (a ≤ b)
-le_decides a b = (λ yes. search (tests), λ le. search (tests))
+le_decides a b = (leb-true a b, le-leb a b)
 
 name_decides : (labels : List (List ℕ)) → Decides (is_name labels) (IsName labels)
 name_decides labels =
@@ -79,11 +80,19 @@ question_is back octets labels rest rtype begins long is =
 -- where no name and four more octets stand there, there is no question
 pub no_question : (octets : List ℕ) → ((labels : List (List ℕ)) (rest : List ℕ) → Begins (drop 10 octets) labels rest → 4 ≤ length rest → ⊥) → None ≡ question_of_key octets
 no_question octets none = elim (cases_Bool (begins_question (labels_of (drop 10 octets)) (drop 10 octets))) [
-  | inl yes ↦
+  | inl is ↦
       let labels : List (List ℕ) = labels_of (drop 10 octets) in
       let rest : List ℕ = drop (length (wire_of labels)) (drop 10 octets) in
-      let asks : Asks (drop 10 octets) labels = (asks_decides (drop 10 octets) labels).0 yes in
+      let asks : Asks (drop 10 octets) labels = (asks_decides (drop 10 octets) labels).0 is in
       let long : 4 ≤ length rest = omega (arith, asks.long, ap (λ (xs : List ℕ). length xs) asks.parts, length-append (wire_of labels) rest) in
       absurd (none labels rest (record { is_name = asks.name; parts = asks.parts }) long)
   | inr no_one ↦ sym (cond-false _ _ _ no_one)
 ]
+
+-- the same by the place behind the name
+pub question_at : (back : SplitsBack) (octets : List ℕ) (labels : List (List ℕ)) (rest : List ℕ) (end rtype : ℕ) → Begins (drop 10 octets) labels rest → end ≡ 10 + length (wire_of labels) → end ≤ length octets → 4 ≤ length octets - end → rtype ≡ number_at octets end → Some (labels, rtype) ≡ question_of_key octets
+question_at back octets labels rest end rtype begins is within long type =
+    let there : List ℕ = drop 10 octets in
+    let size : length rest ≡ length octets - end = omega (arith, is, within, ap (λ (xs : List ℕ). length xs) begins.parts, length-append (wire_of labels) rest, length-drop 10 octets) in
+    let place : drop end octets ≡ drop (length (wire_of labels)) there = ap (λ (n : ℕ). drop n octets) is ∙ sym (drop-drop (length (wire_of labels)) 10 octets) in
+    question_is back octets labels rest rtype begins (omega (arith, size, long)) (type ∙ ap (λ (xs : List ℕ). from_be_bytes w16 (take 2 xs)) place)

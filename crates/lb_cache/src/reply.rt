@@ -1,6 +1,6 @@
 //! Kept replies.
 
-ghost use Rattle.std.specs.Prelude.{◌≡◌, ◌==◌, IfOk, option_map};
+ghost use Rattle.std.specs.Prelude.{◌≡◌, ◌==◌, ◌<◌, ◌^◌, IfOk, option_map};
 ghost use Rattle.lb_cache.specs.Reply.{cmp_key, has_key, hit_of, is_before, kind_number, lives, renewed};
 
 use lb_wire::{Key, Kind, Octets};
@@ -65,7 +65,9 @@ impl CachedReply {
 
     /// Whether the reply lives at a moment, in milliseconds.
     pub(crate) fn lives(&self, now: u64) -> bool
-        ensures { result ≡ lives now self.now }
+        ensures value { result ≡ lives now self.now }
+        // a number behind a reference has a range where it is read
+        ensures fits { self.now.life < 2 ^ 32 }
     {
         u128::from(now) < u128::from(self.moment) + 1000 * u128::from(self.life)
     }
