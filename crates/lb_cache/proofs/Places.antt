@@ -132,8 +132,8 @@ replaced_is key xs at x ascends point lt read has r is =
     let after : All (λ o. has_other key o ≡ true) back = λ k d l. not_false (has_key key (get_or back k d)) (all_dropped (λ o. has_key key o ≡ false) xs (at + 1) (behind_other key xs at lt ascends x (ap (λ (o : CachedReply). o.key) (sym read) ∙ own)) k d l) in
     let gone : filter (has_other key) (x ∷ back) ≡ back = cond-false _ _ _ (not_true (has_key key x) has) ∙ filter_all (has_other key) back after in
     let others : filter (has_other key) xs ≡ front ++ back =
-      ap (filter (has_other key)) parts ∙ filter-append (has_other key) front (x ∷ back)
-      ∙ ap (λ (ys : List CachedReply). ys ++ filter (has_other key) (x ∷ back)) (filter_all (has_other key) front ahead) ∙ ap (λ (ys : List CachedReply). front ++ ys) gone in
+    ap (filter (has_other key)) parts ∙ filter-append (has_other key) front (x ∷ back)
+    ∙ ap (λ (ys : List CachedReply). ys ++ filter (has_other key) (x ∷ back)) (filter_all (has_other key) front ahead) ∙ ap (λ (ys : List CachedReply). front ++ ys) gone in
     let point_r : IsPlace r.key xs at = subst (λ (k : Key). IsPlace k xs at) (sym is) point in
     let fails : All (λ o. is_before r.key o ≡ false) back = all_dropped (λ o. is_before r.key o ≡ false) xs (at + 1) (λ k d le l. point_r.1 k d (omega arith) l) in
     set_split xs at r lt ∙ ap (λ (n : ℕ). take at xs ++ r ∷ drop n xs) (sym (add-one at))

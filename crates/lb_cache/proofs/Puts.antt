@@ -20,8 +20,8 @@ ascend_append : (xs ys : List CachedReply) → Ascends xs → Ascends ys → All
 ascend_append [] ys front back cross = back
 ascend_append (x ∷ xs) ys front back cross =
     AllPairs-cons (λ a b. before_key a.key b.key ≡ true) x (xs ++ ys)
-      (All-append (λ y. before_key x.key y.key ≡ true) xs ys (λ k d lt. front 0 (suc k) d (omega arith) (omega (arith, lt))) (All-head (λ x. All (λ y. before_key x.key y.key ≡ true) ys) x xs cross))
-      (ascend_append xs ys (λ i j d lt within. front (suc i) (suc j) d (omega (arith, lt)) (omega (arith, within))) back (All-tail (λ x. All (λ y. before_key x.key y.key ≡ true) ys) x xs cross))
+    (All-append (λ y. before_key x.key y.key ≡ true) xs ys (λ k d lt. front 0 (suc k) d (omega arith) (omega (arith, lt))) (All-head (λ x. All (λ y. before_key x.key y.key ≡ true) ys) x xs cross))
+    (ascend_append xs ys (λ i j d lt within. front (suc i) (suc j) d (omega (arith, lt)) (omega (arith, within))) back (All-tail (λ x. All (λ y. before_key x.key y.key ≡ true) ys) x xs cross))
 
 not_is : (b : Bool) → not b ≡ true → b ≡ false
 not_is true is = absurd (cc)
@@ -40,11 +40,11 @@ placed_ascends r others ascends other =
     let back : List CachedReply = filter q others in
     let below : All (λ o. is_before r.key o ≡ true) front = filter_passes (is_before r.key) others in
     let above : All (λ o. before_key r.key o.key ≡ true) back =
-      λ k d lt. behind (get_or back k d).key r.key (not_is (is_before r.key (get_or back k d)) (filter_passes q others k d lt)) (filter_has q (has_key r.key) others other k d lt) in
+    λ k d lt. behind (get_or back k d).key r.key (not_is (is_before r.key (get_or back k d)) (filter_passes q others k d lt)) (filter_has q (has_key r.key) others other k d lt) in
     ascend_append front (r ∷ back) (AllPairs-filter R (is_before r.key) others ascends)
-      (AllPairs-cons R r back above (AllPairs-filter R q others ascends))
-      (λ k d lt. All-cons (λ y. before_key (get_or front k d).key y.key ≡ true) r back (below k d lt)
-        (λ j e within. before_trans (get_or front k d).key r.key (get_or back j e).key (below k d lt) (above j e within)))
+    (AllPairs-cons R r back above (AllPairs-filter R q others ascends))
+    (λ k d lt. All-cons (λ y. before_key (get_or front k d).key y.key ≡ true) r back (below k d lt)
+    (λ j e within. before_trans (get_or front k d).key r.key (get_or back j e).key (below k d lt) (above j e within)))
 
 pub length_placed : (r : CachedReply) (others : List CachedReply) → length (placed r others) ≡ length others + 1
 length_placed r others =
@@ -113,5 +113,5 @@ replace_is cache r items at now lacking kept lt keys places some did =
     let there : slice_get xs at ≡ Some o = slice_get_read xs (length xs) at o refl lt (get_or_default xs at r o lt) in
     let same : renewed o r.bytes r.life r.moment ≡ r = ap (λ (k : Key). record r { key = k }) (keys o there) in
     let put : (items, kept) ≡ written lacking xs (placed r (filter (has_other r.key) xs)) =
-      did o there ∙ ap (λ (q : CachedReply). written lacking xs (set xs at q)) same ∙ ap (written lacking xs) (places r refl) in
+    did o there ∙ ap (λ (q : CachedReply). written lacking xs (set xs at q)) same ∙ ap (written lacking xs) (places r refl) in
     ap (λ (w : List CachedReply × Kept). (record cache { replies = w.0 }, w.1)) put ∙ sym (cond-true _ _ _ some)

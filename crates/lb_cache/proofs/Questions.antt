@@ -26,11 +26,12 @@ under_decides a b =
     let la : List (List ℕ) = lower_name a in
     let lb : List (List ℕ) = lower_name b in
     let at : ℕ = length la - length lb in
-    let decides : Decides (under_name a b) (lb ≡ drop at la) = slice_eq-Decides bytes_eq-Decides lb (drop at la) (under_name a b) refl in
-    (λ yes. (take at la, sym (take-append-drop at la) ∙ ap (λ (xs : List (List ℕ)). take at la ++ xs) (sym (decides.0 yes))),
-     λ under.
-       let place : at ≡ length under.0 = omega (arith, ap (λ (xs : List (List ℕ)). length xs) under.1, length-append under.0 lb) in
-       decides.1 (sym (ap (λ (n : ℕ). drop n la) place ∙ ap (λ (xs : List (List ℕ)). drop (length under.0) xs) under.1 ∙ drop-append_seam under.0 lb)))
+    let decides : Decides (under_name a b) (lb ≡ drop at la) = slice_eq-Decides bytes_eq-Decides lb (drop at la) (under_name a b) refl in (
+      λ yes. (take at la, sym (take-append-drop at la) ∙ ap (λ (xs : List (List ℕ)). take at la ++ xs) (sym (decides.0 yes))),
+      λ under.
+          let place : at ≡ length under.0 = omega (arith, ap (λ (xs : List (List ℕ)). length xs) under.1, length-append under.0 lb) in
+          decides.1 (sym (ap (λ (n : ℕ). drop n la) place ∙ ap (λ (xs : List (List ℕ)). drop (length under.0) xs) under.1 ∙ drop-append_seam under.0 lb)),
+    )
 
 pub under_test : (r : Bool) (a b : List (List ℕ)) → IsTrue r ↔ IsUnder a b → r ≡ under_name a b
 under_test r a b is = one_answer r (under_name a b) (is.0, is.1) (under_decides a b)
@@ -61,7 +62,7 @@ asks_decides octets labels =
     let starts = starts_is Decides-eqb octets (wire_of labels) (starts_with nat_eq octets (wire_of labels)) refl in
     let start : Decides (starts_with nat_eq octets (wire_of labels)) (octets ≡ wire_of labels ++ drop (length (wire_of labels)) octets) = (starts.0, λ is. starts.1 (drop (length (wire_of labels)) octets) is) in
     let both = Decides-and (is_name labels) (starts_with nat_eq octets (wire_of labels) && nat_le (length (wire_of labels) + 4) (length octets)) (name_decides labels)
-      (Decides-and (starts_with nat_eq octets (wire_of labels)) (nat_le (length (wire_of labels) + 4) (length octets)) start (le_decides (length (wire_of labels) + 4) (length octets))) in
+    (Decides-and (starts_with nat_eq octets (wire_of labels)) (nat_le (length (wire_of labels) + 4) (length octets)) start (le_decides (length (wire_of labels) + 4) (length octets))) in
     (λ yes. record { name = (both.0 yes).0; parts = (both.0 yes).1.0; long = (both.0 yes).1.1 }, λ is. both.1 (is.name, (is.parts, is.long)))
 
 -- a name and four more octets behind the header are the question

@@ -207,13 +207,15 @@ impl Cache {
     {
         match place_of(self.replies.as_slice(), &key) {
             Ok(at) => replace(&mut self.replies, at, bytes, life, now),
-            Err(at) if self.replies.len() < self.max.get() as usize => {
-                add(&mut self.replies, at, key, bytes, life, now)
+            Err(at) => {
+                if self.replies.len() < self.max.get() as usize {
+                    add(&mut self.replies, at, key, bytes, life, now)
+                } else if any_dead(self.replies.as_slice(), now) {
+                    add_for_dead(&mut self.replies, key, bytes, life, now)
+                } else {
+                    Kept::NoRoom
+                }
             }
-            Err(_) if any_dead(self.replies.as_slice(), now) => {
-                add_for_dead(&mut self.replies, key, bytes, life, now)
-            }
-            Err(_) => Kept::NoRoom,
         }
     }
 

@@ -24,8 +24,8 @@ invariant_of-self-then-len-get c =
 pub invariant_of-self-then-any_dead : goal.invariant_of-self-then-any_dead
 invariant_of-self-then-any_dead c =
     let r : CachedReply = record { key = c.args.key; bytes = c.args.bytes.now; moment = c.args.now; life = c.args.life } in
-    let new = rw c.as_slice.ensures.value at c.in-Err-2.ensures.new in
-    let dead : list_any (is_dead c.args.now) c.self.inside.replies.items ≡ true = sym c.any_dead.ensures ∙ c.if-any_dead.true in
+    let new = rw c.as_slice.ensures.value at c.in-Err.ensures.new in
+    let dead : list_any (is_dead c.args.now) c.self.inside.replies.items ≡ true = ap (list_any (is_dead c.args.now)) (sym c.as_slice-else-len-get.ensures.value) ∙ sym c.any_dead.ensures ∙ c.if-any_dead.true in
     dead_keeps r c.self.inside.replies.items c.add_for_dead.new.replies.items c.args.now c.self.inside.max (lacks c.add_for_dead.result) c.add_for_dead.result new dead c.add_for_dead.ensures c.self.invariant
 
 pub returns-in-Ok : goal.returns-in-Ok
