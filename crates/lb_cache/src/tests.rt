@@ -142,13 +142,13 @@ fn replies_are_expunged(rt: HostRuntime) -> Result<(), Fail> {
     Ok(())
 }
 
-/// The first octets of the replies of a list, in its order.
-fn firsts(list: &[CachedReply]) -> [u8; 4] {
-    let mut firsts = [0; 4];
-    for (first, reply) in firsts.iter_mut().zip(list) {
-        *first = reply.life as u8;
+/// The lives of the replies of a list, in its order.
+fn lives(list: &[CachedReply]) -> [u32; 4] {
+    let mut lives = [0; 4];
+    for (life, reply) in lives.iter_mut().zip(list) {
+        *life = reply.life;
     }
-    firsts
+    lives
 }
 
 #[test]
@@ -167,6 +167,6 @@ fn by_transport_and_then_by_octets(rt: HostRuntime) -> Result<(), Fail> {
         let _kept = cache.put(key(alloc, kind, name, rtype)?, &[], life, 0);
     }
     let list = cache.list(alloc)?;
-    assert_eq!(rt; firsts(list.as_slice()), [3, 4, 2, 1]);
+    assert_eq!(rt; lives(list.as_slice()), [3, 4, 2, 1]);
     Ok(())
 }
