@@ -1,0 +1,5 @@
+mod Keys
+mod Places
+mod Puts
+mod Expunged
+mod Questions
