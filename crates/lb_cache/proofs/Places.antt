@@ -1,13 +1,13 @@
 -- The place of a key in a list whose keys ascend, and what stands there.
-use Rattle.std.proofs.Common.{◌≡◌, Bool, true, false, not, ℕ, ◌+◌, ◌<◌, ◌≤◌, List, [], ◌∷◌, ◌++◌, length, get_or, set, take, drop, cond, Option, Some, None, inl, inr, refl, sym, ◌∙◌, ap, arith, subst, add-one, length-take, length-drop}
-use Rattle.std.specs.List.{All, AllPairs, AllWithin, filter, find, insert}
+use Rattle.std.proofs.Common.{◌≡◌, Bool, true, false, not, ℕ, ◌+◌, ◌<◌, List, [], ◌∷◌, ◌++◌, length, get_or, set, take, drop, Some, None, inl, inr, refl, sym, ◌∙◌, ap, arith, subst, add-one, length-take, length-drop}
+use Rattle.std.specs.List.{All, AllWithin, filter, find, insert}
 use Rattle.std.specs.List.Sorted.{IsPartitionedBy, IsPartitionPoint}
 use Rattle.std.proofs.lemmas.Bool.{cases_lt, cond-false, cond-true}
 use Rattle.std.proofs.lemmas.List.{take-append-drop, drop_more, get_or_default, set_split, get_or-take, get_or-drop}
 use Rattle.std.proofs.lemmas.List.Elements.{All-head, All-tail, filter-append}
 use Rattle.lb_wire.specs.declared.key.Key.{Key}
 use Rattle.lb_cache.specs.declared.reply.CachedReply.{CachedReply}
-use Rattle.lb_cache.specs.Reply.{before_key, has_key, has_other, is_before, same_key}
+use Rattle.lb_cache.specs.Reply.{before_key, has_key, has_other, is_before}
 use Rattle.lb_cache.specs.Cache.{Ascends, placed}
 use Rattle.lb_cache.proofs.Keys.{before_differs, before_differs_back, before_trans, behind, same_is}
 

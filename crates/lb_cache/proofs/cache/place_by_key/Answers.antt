@@ -1,7 +1,7 @@
 use Rattle.std.proofs.Common.{rules, of_calls}
 use Rattle.std.proofs.lemmas.Fn.{always_returns_same}
 use Rattle.lb_cache.specs.Reply.{is_before}
-use Rattle.lb_cache.proofs.Places.{IsPlace, inserted_is, parted_by}
+use Rattle.lb_cache.proofs.Places.{inserted_is, parted_by}
 use Rattle.lb_cache.proofs.cache.place_by_key.Goals as goal
 
 pub returns-clause-parted : goal.returns-clause-parted

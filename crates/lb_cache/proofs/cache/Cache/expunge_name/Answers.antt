@@ -1,4 +1,4 @@
-use Rattle.std.proofs.Common.{◌≡◌, ◌-◌, ◌∙◌, List, not, rules, tests, subst}
+use Rattle.std.proofs.Common.{◌≡◌, ◌-◌, ◌∙◌, not, rules, tests, subst}
 use Rattle.std.specs.List.{filter}
 use Rattle.std.proofs.lemmas.Fn.{filter_same}
 use Rattle.lb_cache.specs.declared.reply.CachedReply.{CachedReply}
