@@ -27,15 +27,11 @@ fn key(alloc: Global, kind: Kind, name: &[u8], rtype: u8) -> Result<Key, AllocEr
 }
 
 /// A cache of so many replies at most.
-fn cache(alloc: Global, max: u32) -> Result<Option<Cache>, AllocError> {
-    let (Some(max), Some(shards), Some(ttl)) = (
-        MaxEntries::new(max),
-        Shards::new(4),
-        MaxTtl::new(86_400),
-    ) else {
-        return Ok(None);
-    };
-    Ok(Some(Cache::new(alloc, max, shards, ttl)?))
+fn cache(alloc: Global, max: u32) -> Result<Cache, Fail> {
+    let max = MaxEntries::new(max).ok_or("no such size")?;
+    let shards = Shards::new(4).ok_or("no such number of shards")?;
+    let ttl = MaxTtl::new(86_400).ok_or("no such life")?;
+    Ok(Cache::new(alloc, max, shards, ttl)?)
 }
 
 /// The first octet that is found under a key and how many seconds ago it came.
@@ -60,9 +56,7 @@ fn numbers_in_their_ranges(rt: HostRuntime) {
 #[test]
 fn a_reply_is_found_while_it_lives(rt: HostRuntime) -> Result<(), Fail> {
     let alloc = rt.alloc();
-    let Some(mut cache) = cache(alloc, 10)? else {
-        return Ok(());
-    };
+    let mut cache = cache(alloc, 10)?;
     let asked = key(alloc, Kind::Datagram, EXAMPLE, 1)?;
     assert_eq!(rt; found(&cache, &asked, 2000), None);
     assert_eq!(rt; cache.put(asked.copy(alloc)?, &[7], 300, 2000), Kept::Yes);
@@ -85,9 +79,7 @@ fn a_reply_is_found_while_it_lives(rt: HostRuntime) -> Result<(), Fail> {
 #[test]
 fn a_full_cache(rt: HostRuntime) -> Result<(), Fail> {
     let alloc = rt.alloc();
-    let Some(mut cache) = cache(alloc, 2)? else {
-        return Ok(());
-    };
+    let mut cache = cache(alloc, 2)?;
     let one = key(alloc, Kind::Datagram, EXAMPLE, 1)?;
     let two = key(alloc, Kind::Datagram, EXAMPLE, 28)?;
     let three = key(alloc, Kind::Stream, EXAMPLE, 1)?;
@@ -104,23 +96,19 @@ fn a_full_cache(rt: HostRuntime) -> Result<(), Fail> {
 }
 
 /// A cache with a reply for each of these questions, which lives for a second.
-fn filled(alloc: Global) -> Result<Option<Cache>, AllocError> {
-    let Some(mut cache) = cache(alloc, 10)? else {
-        return Ok(None);
-    };
+fn filled(alloc: Global) -> Result<Cache, Fail> {
+    let mut cache = cache(alloc, 10)?;
     for (name, rtype, at) in [(WWW, 1, 9), (EXAMPLE, 1, 1), (BAD, 1, 2), (EXAMPLE, 28, 3)] {
         let _kept = cache.put(key(alloc, Kind::Datagram, name, rtype)?, &[at], 1, 0);
     }
-    Ok(Some(cache))
+    Ok(cache)
 }
 
 #[test]
 fn replies_are_expunged(rt: HostRuntime) -> Result<(), Fail> {
     let alloc = rt.alloc();
     let name = Name::parse_text("Example.COM")?;
-    let Some(mut cache) = filled(alloc)? else {
-        return Ok(());
-    };
+    let mut cache = filled(alloc)?;
     assert_eq!(rt; cache.expunge_name(&name, Some(RecordType::MX)), 0);
     assert_eq!(rt; cache.expunge_name(&name, Some(RecordType::AAAA)), 1);
     assert_eq!(rt; cache.expunge_name(&name, None), 1);
@@ -134,9 +122,7 @@ fn replies_are_expunged(rt: HostRuntime) -> Result<(), Fail> {
         (cache.purge_dead(999), cache.purge_dead(1000), cache.len()),
         (0, 1, 0)
     );
-    let Some(mut cache) = filled(alloc)? else {
-        return Ok(());
-    };
+    let mut cache = filled(alloc)?;
     assert_eq!(rt; cache.expunge_suffix(&name), 3);
     assert_eq!(rt; (cache.expunge_all(), cache.len()), (1, 0));
     Ok(())
@@ -154,9 +140,7 @@ fn lives(list: &[CachedReply]) -> [u32; 4] {
 #[test]
 fn by_transport_and_then_by_octets(rt: HostRuntime) -> Result<(), Fail> {
     let alloc = rt.alloc();
-    let Some(mut cache) = cache(alloc, 10)? else {
-        return Ok(());
-    };
+    let mut cache = cache(alloc, 10)?;
     let keys = [
         (Kind::Stream, EXAMPLE, 1),
         (Kind::Datagram, EXAMPLE, 28),
