@@ -1,5 +1,6 @@
 -- What a command does to the plain state, and its answer.
-use Rattle.std.specs.Prelude.{◌≡◌, ℕ, Bool, false, List, length, Option, Some, None, option_map, Result, Ok, Err}
+use Rattle.std.specs.Prelude.{◌≡◌, ℕ, Bool, false, List, length, Option, Some, None, option_map, Result, Ok, Err, if◌then◌else◌}
+use Rattle.lb_wire.specs.declared.ids.CacheId.{CacheId}
 use Rattle.lb_wire.specs.declared.ids.PoolId.{PoolId}
 use Rattle.lb_wire.specs.declared.ids.ServerId.{ServerId}
 use Rattle.lb_chain.specs.declared.action.Action.{Action}
@@ -12,20 +13,21 @@ use Rattle.lb_servers.specs.declared.fault.ParkFault.{ParkFault}
 use Rattle.lb_servers.specs.declared.fault.ParkFault.TheVariants as park_faults
 use Rattle.lb_servers.specs.declared.pool.PoolName.{PoolName}
 use Rattle.lb_servers.specs.Park.{Backends, added_pool, changed_pool}
-use Rattle.lb_servers.specs.Pool.{pool_named, with_policy}
+use Rattle.lb_servers.specs.Pool.{cache_at, pool_named, with_policy}
 use Rattle.lb_servers.specs.Server.{server_named}
 use Rattle.lb_core.specs.declared.command.StatedAction.{StatedAction}
 use Rattle.lb_core.specs.declared.command.StatedAction.TheVariants as stated
 use Rattle.lb_core.specs.declared.command.StatedRule.{StatedRule}
 use Rattle.lb_core.specs.declared.command.Command.{Command}
-use Rattle.lb_core.specs.declared.command.Command.TheVariants.{RuleAdd, RuleRemove, RuleMove, ServerAdd, ServerRemove, ServerMode, PoolAdd, PoolPolicy, SetTimeout}
+use Rattle.lb_core.specs.declared.command.Covered.{Covered}
+use Rattle.lb_core.specs.declared.command.Command.TheVariants.{RuleAdd, RuleRemove, RuleMove, ServerAdd, ServerRemove, ServerMode, PoolAdd, PoolPolicy, CacheAttach, CacheDetach, Expunge, SetTimeout, Show}
 use Rattle.lb_core.specs.declared.answer.Answer.{Answer}
 use Rattle.lb_core.specs.declared.answer.Answer.TheVariants.{Edited, Refused}
 use Rattle.lb_core.specs.declared.answer.Note.{Note}
 use Rattle.lb_core.specs.declared.answer.Note.TheVariants as notes
 use Rattle.lb_core.specs.declared.answer.EditFault.TheVariants as faults
 use Rattle.lb_core.specs.Plain.{Plain, chain_of, with_chain, upstreams_of, with_upstreams}
-use Rattle.lb_core.specs.Upstream.{Upstreams, added_checked, backends_of, on_backends, put_into, removed_checked}
+use Rattle.lb_core.specs.Upstream.{Upstreams, added_checked, attached_cache, backends_of, detached_cache, expunged_cache, on_backends, put_into, removed_checked, totals_of}
 
 -- the place that a rule is added at: where none is stated, behind the others
 abbrev pub place_or_end : Option ℕ → List Numbered → ℕ
@@ -92,6 +94,32 @@ pool_edited note edit ups (Some pool) = upstream_edited (λ _. note) ups (edit (
 abbrev pub upstream_changed : Plain → Upstreams × Answer → Plain × Answer
 upstream_changed plain done = (with_upstreams done.0 plain, done.1)
 
+-- a pool without a cache, where one is asked for
+abbrev pub no_cache : Answer
+no_cache = Refused faults.NoCache
+
+-- a cache attached to the pool of a number, or taken off it
+abbrev pub attached_to : Bool → Upstreams → ℕ → ℕ → Option PoolId → Upstreams × Answer
+attached_to mark ups max max_ttl None = (ups, no_such_pool)
+attached_to mark ups max max_ttl (Some pool) = upstream_told notes.CacheAttached (attached_cache mark ups pool max max_ttl)
+
+abbrev pub cache_told : (CacheId → Note) → Option CacheId → Answer
+cache_told note None = no_cache
+cache_told note (Some id) = Edited (note id)
+
+abbrev pub detached_from : Upstreams → Option PoolId → Upstreams × Answer
+detached_from ups None = (ups, no_such_pool)
+detached_from ups (Some pool) = let done = detached_cache ups pool in (done.0, cache_told notes.CacheDetached done.1)
+
+-- the cache of a pool expunged
+abbrev pub expunged_of : Upstreams → Covered → Option CacheId → Upstreams × Answer
+expunged_of ups covered None = (ups, no_cache)
+expunged_of ups covered (Some id) = let done = expunged_cache ups id covered in (done.0, Edited (notes.Expunged done.1))
+
+abbrev pub expunged_from : Upstreams → Covered → Option PoolId → Upstreams × Answer
+expunged_from ups covered None = (ups, no_such_pool)
+expunged_from ups covered (Some pool) = expunged_of ups covered (cache_at ups.pools pool.0)
+
 -- the servers of what stands upstream, by name
 abbrev pub server_by : Upstreams → List ℕ → Option ServerId
 server_by ups name = server_named (backends_of ups).servers name
@@ -106,6 +134,10 @@ edit_of mark plain (ServerRemove name) = upstream_changed plain (server_edited n
 edit_of mark plain (ServerMode name mode) = upstream_changed plain (server_edited (λ id. notes.ServerMode id mode) (put_into mode) (upstreams_of plain) (server_by (upstreams_of plain) name))
 edit_of mark plain (PoolAdd name) = upstream_changed plain (upstream_edited (λ _. notes.PoolAdded name) (upstreams_of plain) (added_pool mark (backends_of (upstreams_of plain)) name))
 edit_of mark plain (PoolPolicy name policy) = upstream_changed plain (pool_edited (notes.PoolPolicy name policy) (changed_pool (with_policy policy)) (upstreams_of plain) (pool_named plain.pools name))
+edit_of mark plain (CacheAttach name max shards max_ttl) = upstream_changed plain (attached_to mark (upstreams_of plain) max max_ttl (pool_named plain.pools name))
+edit_of mark plain (CacheDetach name) = upstream_changed plain (detached_from (upstreams_of plain) (pool_named plain.pools name))
+edit_of mark plain (Expunge name covered) = upstream_changed plain (expunged_from (upstreams_of plain) covered (pool_named plain.pools name))
+edit_of mark plain Show = (plain, Edited (notes.Shown (totals_of (length plain.rules) (upstreams_of plain))))
 edit_of mark plain (SetTimeout timeout) = (record plain { timeout = timeout }, Edited (notes.TimeoutSet timeout))
 
 -- the command is carried out where no memory is wanting
@@ -116,15 +148,19 @@ Succeeds plain command = (note : Note) × ((edit_of false plain command).1 ≡ E
 abbrev pub Lacks : (Bool → Upstreams × Answer) → Type 0
 Lacks edit = (note : Note) × ((edit false).1 ≡ Edited note)
 
--- the commands at which memory may be wanting: an added or moved rule, an added server and an added pool that no other
--- refusal meets
+-- the commands at which memory may be wanting: an added or moved rule, an added server, an added pool and an attached cache that
+-- no other refusal meets
 abbrev pub MayLackAt : Plain → Command → Type 0
 MayLackAt plain (RuleAdd place rule) = Succeeds plain (RuleAdd place rule)
 MayLackAt plain (RuleMove id place) = Succeeds plain (RuleMove id place)
 MayLackAt plain (ServerAdd spec check) = Succeeds plain (ServerAdd spec check)
 MayLackAt plain (PoolAdd name) = Succeeds plain (PoolAdd name)
+MayLackAt plain (CacheAttach name max shards max_ttl) = Succeeds plain (CacheAttach name max shards max_ttl)
 MayLackAt plain (RuleRemove id) = ⊥
 MayLackAt plain (ServerRemove name) = ⊥
 MayLackAt plain (ServerMode name mode) = ⊥
 MayLackAt plain (PoolPolicy name policy) = ⊥
+MayLackAt plain (CacheDetach name) = ⊥
+MayLackAt plain (Expunge name covered) = ⊥
+MayLackAt plain Show = ⊥
 MayLackAt plain (SetTimeout timeout) = ⊥

@@ -4,8 +4,9 @@ use Rattle.lb_wire.specs.BigEndian.{two_octets}
 use Rattle.lb_wire.specs.Answer.{refusal_of}
 use Rattle.lb_wire.specs.Numbers.{rcode_number}
 use Rattle.lb_wire.specs.Query.{without_recursion}
-use Rattle.lb_wire.specs.declared.ids.PoolId.{PoolId}
+use Rattle.lb_wire.specs.declared.ids.CacheId.{CacheId}
 use Rattle.lb_wire.specs.declared.ids.ServerId.{ServerId}
+use Rattle.lb_wire.specs.declared.key.Key.{Key}
 use Rattle.lb_wire.specs.declared.rcode.Rcode.TheVariants as rcodes
 use Rattle.lb_wire.specs.declared.transport.Kind.{Kind}
 use Rattle.lb_wire.specs.declared.transport.Lane.{Lane}
@@ -14,6 +15,7 @@ use Rattle.lb_table.specs.declared.entry.Entry.{Entry}
 use Rattle.lb_table.specs.Place.{at_place}
 use Rattle.lb_table.specs.Table.{FirstFree}
 use Rattle.lb_core.specs.declared.asked.Asked.{Asked}
+use Rattle.lb_core.specs.declared.asked.Routed.{Routed}
 use Rattle.lb_core.specs.declared.answer.Answer.{Answer}
 use Rattle.lb_core.specs.Answer.{Leaves}
 use Rattle.lb_core.specs.declared.answer.Answer.TheVariants.{Forward, Local}
@@ -37,9 +39,9 @@ sent_of false bytes = bytes
 abbrev pub with_id : ℕ → List ℕ → List ℕ
 with_id id bytes = two_octets id ++ drop 2 bytes
 
--- what is kept of a query until its reply: the octets as they came in, and its question
-abbrev pub entry_of : Upstreams → Asked → List ℕ → QueryView → Entry
-entry_of ups asked bytes view = record {
+-- what is kept of a query until its reply: the octets as they came in, its question, and what it asked of a cache
+abbrev pub entry_of : Upstreams → Asked → List ℕ → QueryView → Option (CacheId × Key) → Entry
+entry_of ups asked bytes view ask = record {
   origin = asked.origin;
   asked = bytes;
   name = view.name;
@@ -47,24 +49,24 @@ entry_of ups asked bytes view = record {
   qclass = view.qclass;
   began = asked.moment;
   timeout = ups.timeout;
-  cache = None;
+  cache = ask;
 }
 
 -- a query sent to a server under the ID that is free, or refused where none is
-abbrev pub sent : Upstreams → Asked → List ℕ → QueryView → Bool → ServerId → Option ℕ → Upstreams × Answer
-sent ups asked bytes view no_recurse server None = (ups, Local (failure_of view) locals.LaneFull)
-sent ups asked bytes view no_recurse server (Some id) = (
-  with_entry (at_place server (lane_of asked.kind) id) (entry_of ups asked bytes view) ups,
-  Forward server (lane_of asked.kind) id (with_id id (sent_of no_recurse bytes)),
+abbrev pub sent : Upstreams → Asked → List ℕ → QueryView → Routed → Option (CacheId × Key) → ServerId → Option ℕ → Upstreams × Answer
+sent ups asked bytes view routed ask server None = (ups, Local (failure_of view) locals.LaneFull)
+sent ups asked bytes view routed ask server (Some id) = (
+  with_entry (at_place server (lane_of asked.kind) id) (entry_of ups asked bytes view ask) ups,
+  Forward server (lane_of asked.kind) id (with_id id (sent_of routed.no_recurse bytes)),
 )
 
 -- a query for which a pool picked this server, or none: the pool's turn is counted whether an ID is free or not
-abbrev pub PickForwards : Upstreams → Asked → List ℕ → QueryView → Bool → PoolId → Option ServerId → Answer → Upstreams → Type 0
-PickForwards ups asked bytes view no_recurse pool None answer new = Leaves new answer (ups, Local (failure_of view) locals.NoServer)
-PickForwards ups asked bytes view no_recurse pool (Some server) answer new =
+abbrev pub PickForwards : Upstreams → Asked → List ℕ → QueryView → Routed → Option (CacheId × Key) → Option ServerId → Answer → Upstreams → Type 0
+PickForwards ups asked bytes view routed ask None answer new = Leaves new answer (ups, Local (failure_of view) locals.NoServer)
+PickForwards ups asked bytes view routed ask (Some server) answer new =
     (id : Option ℕ) × FirstFree ups.outstanding server (lane_of asked.kind) asked.word id
-    × (Leaves new answer (sent (with_turn pool ups) asked bytes view no_recurse server id))
+    × (Leaves new answer (sent (with_turn routed.pool ups) asked bytes view routed ask server id))
 
--- a query that a pool is to answer
-abbrev pub Forwards : Upstreams → Asked → List ℕ → QueryView → Bool → PoolId → Answer → Upstreams → Type 0
-Forwards ups asked bytes view no_recurse pool answer new = PickForwards ups asked bytes view no_recurse pool (picked_of ups pool) answer new
+-- a query that a server of a pool is to answer; it asked this of a cache
+abbrev pub Forwards : Upstreams → Asked → List ℕ → QueryView → Routed → Option (CacheId × Key) → Answer → Upstreams → Type 0
+Forwards ups asked bytes view routed ask answer new = PickForwards ups asked bytes view routed ask (picked_of ups routed.pool) answer new

@@ -20,14 +20,22 @@ pub use Rattle.lb_servers.specs.Server
 pub use Rattle.lb_servers.specs.Pick
 pub use Rattle.lb_servers.specs.Park
 pub use Rattle.lb_health.specs.Health as HealthOfOne
+pub use Rattle.lb_wire.specs.Key
+pub use Rattle.lb_wire.specs.Aging
+pub use Rattle.lb_cache.specs.Reply as CacheReply
+pub use Rattle.lb_cache.specs.Question as CacheQuestion
+pub use Rattle.lb_cache.specs.Cache as CacheOfOne
 pub use Rattle.lb_table.specs.Place
 pub use Rattle.lb_table.specs.Entry
 pub use Rattle.lb_table.specs.Table
 pub mod Answer
+pub mod Caches
 pub mod Upstream
 pub mod Plain
 pub mod Forward
+pub mod Look
 pub mod Query
+pub mod Lifetime
 pub mod Reply
 pub mod Expiry
 pub mod Health

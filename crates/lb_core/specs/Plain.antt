@@ -6,14 +6,17 @@ use Rattle.lb_chain.specs.Seen.{seen_rules}
 use Rattle.lb_servers.specs.declared.pool.Pool.{Pool}
 use Rattle.lb_servers.specs.declared.server.Server.{Server}
 use Rattle.lb_table.specs.declared.entry.Waiting.{Waiting}
+use Rattle.lb_core.specs.declared.cached.AttachedCache.{AttachedCache}
+use Rattle.lb_core.specs.declared.cached.KeptReply.{KeptReply}
 use Rattle.lb_core.specs.declared.check.Check.{Check}
 use Rattle.lb_core.specs.Upstream.{Upstreams, no_upstreams}
 
 -- the latest moment told, and how long a query waits for its reply, in milliseconds; the next rule, server and cache
 -- numbers (2^64 once all are given); the rules in their order, each with the passes of its limiters that count at the
--- moment: by limiter, then masked address (IPv4 first, by octets), then moment; the servers, their health checks and the pools,
--- by number, the default pool first; and the outstanding queries by deadline, those of one deadline in the order in which they
--- were sent
+-- moment: by limiter, then masked address (IPv4 first, by octets), then moment; the servers, their health checks, the pools and
+-- the attached caches, by number, the default pool first; the outstanding queries by deadline, those of one deadline in the
+-- order in which they were sent; and the kept replies by cache, then key (datagrams first, then by octets), at most one for a
+-- cache and key
 pub record Plain : Type 0 where
   pub moment : ℕ
   pub timeout : ℕ
@@ -24,7 +27,9 @@ pub record Plain : Type 0 where
   pub servers : List Server
   pub checks : List Check
   pub pools : List Pool
+  pub caches : List AttachedCache
   pub outstanding : List Waiting
+  pub kept : List KeptReply
 
 -- the plain state of a chain and of what stands upstream, at a moment
 abbrev pub plain_of : ℕ → Rules → Upstreams → Plain
@@ -38,11 +43,13 @@ plain_of moment chain ups = record {
   servers = ups.servers;
   checks = ups.checks;
   pools = ups.pools;
+  caches = ups.caches;
   outstanding = ups.outstanding;
+  kept = ups.kept;
 }
 
--- at first: moment 0, no rule, no server, the default pool, and nothing outstanding; the first rule, server and cache will
--- have number 1
+-- at first: moment 0, no rule, no server, the default pool, and nothing outstanding or kept; the first rule, server and cache
+-- will have number 1
 abbrev pub empty : Plain
 empty = record {
   moment = 0;
@@ -54,7 +61,9 @@ empty = record {
   servers = [];
   checks = [];
   pools = no_upstreams.pools;
+  caches = [];
   outstanding = [];
+  kept = [];
 }
 
 -- the chain of a plain state, and another one in its place
@@ -73,7 +82,9 @@ upstreams_of plain = record {
   servers = plain.servers;
   checks = plain.checks;
   pools = plain.pools;
+  caches = plain.caches;
   outstanding = plain.outstanding;
+  kept = plain.kept;
 }
 
 abbrev pub with_upstreams : Upstreams → Plain → Plain
@@ -84,7 +95,9 @@ with_upstreams ups plain = record plain {
   servers = ups.servers;
   checks = ups.checks;
   pools = ups.pools;
+  caches = ups.caches;
   outstanding = ups.outstanding;
+  kept = ups.kept;
 }
 
 -- the moment is the later of an event's and the last one; passes that no longer count are gone

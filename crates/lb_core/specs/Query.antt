@@ -1,5 +1,5 @@
 -- The life of a query: it is read, transfers are refused, the rules are walked, and their verdict answers it or names the
--- pool that is to answer it.
+-- pool that is to answer it, by its cache or by a server.
 use Rattle.std.specs.Prelude.{◌≡◌, ℕ, Bool, true, false, ◌==◌, ◌||◌, nat_lt, List, length, Option, None, Some, Result, Ok, Err}
 use Rattle.lb_wire.specs.Query.{Reads}
 use Rattle.lb_wire.specs.Answer.{refusal_of, truncated_of, spoofed_of, formerr_of}
@@ -16,6 +16,7 @@ use Rattle.lb_chain.specs.declared.walked.Walked.{Walked}
 use Rattle.lb_chain.specs.Walk.{walk_of}
 use Rattle.lb_chain.specs.Counting.{counted}
 use Rattle.lb_core.specs.declared.asked.Asked.{Asked}
+use Rattle.lb_core.specs.declared.asked.Routed.{Routed}
 use Rattle.lb_core.specs.declared.answer.Answer.{Answer}
 use Rattle.lb_core.specs.Answer.{Leaves}
 use Rattle.lb_core.specs.declared.answer.Answer.TheVariants.{Dropped, Local, NoMemory}
@@ -23,24 +24,29 @@ use Rattle.lb_core.specs.declared.answer.DropReason.TheVariants as drops
 use Rattle.lb_core.specs.declared.answer.LocalReason.TheVariants as locals
 use Rattle.lb_core.specs.Plain.{Plain, upstreams_of, with_upstreams}
 use Rattle.lb_core.specs.Upstream.{Upstreams}
-use Rattle.lb_core.specs.Forward.{Forwards, failure_of}
+use Rattle.lb_core.specs.Forward.{failure_of}
+use Rattle.lb_core.specs.Look.{PoolAnswers}
 
 abbrev pub default_pool : PoolId
 default_pool = record { 0 = 0 }
 
+-- a pool that is to answer a query, and what the rules before said
+abbrev pub to_pool : Walked → PoolId → Routed
+to_pool walked pool = record { pool = pool; no_recurse = walked.no_recurse; skip_cache = walked.skip_cache }
+
 -- what the rule that ended the walk does with a query
-abbrev pub RuleDecides : Upstreams → Asked → List ℕ → QueryView → Bool → RuleId → Verdict → Answer → Upstreams → Type 0
-RuleDecides ups asked bytes view no_recurse rule verdicts.Allow answer new = Forwards ups asked bytes view no_recurse default_pool answer new
-RuleDecides ups asked bytes view no_recurse rule (verdicts.Pool pool) answer new = Forwards ups asked bytes view no_recurse pool answer new
-RuleDecides ups asked bytes view no_recurse rule verdicts.Drop answer new = Leaves new answer (ups, Dropped (drops.Rule rule))
-RuleDecides ups asked bytes view no_recurse rule (verdicts.Rcode rcode) answer new = Leaves new answer (ups, Local (refusal_of view (rcode_number rcode)) (locals.Rule rule))
-RuleDecides ups asked bytes view no_recurse rule verdicts.Tc answer new = Leaves new answer (ups, Local (truncated_of view) (locals.Rule rule))
-RuleDecides ups asked bytes view no_recurse rule (verdicts.Spoof addrs) answer new = Leaves new answer (ups, Local (spoofed_of view addrs) (locals.Rule rule))
+abbrev pub RuleDecides : Upstreams → Asked → List ℕ → QueryView → Walked → RuleId → Verdict → Answer → Upstreams → Type 0
+RuleDecides ups asked bytes view walked rule verdicts.Allow answer new = PoolAnswers ups asked bytes view (to_pool walked default_pool) answer new
+RuleDecides ups asked bytes view walked rule (verdicts.Pool pool) answer new = PoolAnswers ups asked bytes view (to_pool walked pool) answer new
+RuleDecides ups asked bytes view walked rule verdicts.Drop answer new = Leaves new answer (ups, Dropped (drops.Rule rule))
+RuleDecides ups asked bytes view walked rule (verdicts.Rcode rcode) answer new = Leaves new answer (ups, Local (refusal_of view (rcode_number rcode)) (locals.Rule rule))
+RuleDecides ups asked bytes view walked rule verdicts.Tc answer new = Leaves new answer (ups, Local (truncated_of view) (locals.Rule rule))
+RuleDecides ups asked bytes view walked rule (verdicts.Spoof addrs) answer new = Leaves new answer (ups, Local (spoofed_of view addrs) (locals.Rule rule))
 
 -- what is done with a query whose walk this rule ended; where none did, the default pool is to answer it
 abbrev pub EndDecides : Upstreams → Asked → List ℕ → QueryView → Walked → Option RuleId → Answer → Upstreams → Type 0
-EndDecides ups asked bytes view walked None answer new = Forwards ups asked bytes view walked.no_recurse default_pool answer new
-EndDecides ups asked bytes view walked (Some rule) answer new = RuleDecides ups asked bytes view walked.no_recurse rule walked.verdict answer new
+EndDecides ups asked bytes view walked None answer new = PoolAnswers ups asked bytes view (to_pool walked default_pool) answer new
+EndDecides ups asked bytes view walked (Some rule) answer new = RuleDecides ups asked bytes view walked rule walked.verdict answer new
 
 abbrev pub Decides : Upstreams → Asked → List ℕ → QueryView → Walked → Answer → Upstreams → Type 0
 Decides ups asked bytes view walked answer new = EndDecides ups asked bytes view walked walked.rule answer new

@@ -1,7 +1,7 @@
--- What decides where a query goes: the rules with their passes, and the pools by name. No server and no outstanding query
--- has a part in it.
-use Rattle.std.specs.Prelude.{ℕ, max, Bool, true, false, ◌||◌, List, [], ◌∷◌, ◌++◌, map, Option, None, Some, option_map, Ok}
-use Rattle.std.specs.List.{position}
+-- What decides where a query goes, and which cache it asks: the rules with their passes, the pools by name, and their caches.
+-- No server, no outstanding query and no kept reply has a part in it.
+use Rattle.std.specs.Prelude.{ℕ, zero, suc, ◌+◌, max, Bool, true, false, not, ◌||◌, List, [], ◌∷◌, ◌++◌, map, Option, None, Some, option_map, Ok, slice_get}
+use Rattle.std.specs.List.{filter, position}
 use Rattle.lb_wire.specs.declared.ids.CacheId.{CacheId}
 use Rattle.lb_wire.specs.declared.ids.PoolId.{PoolId}
 use Rattle.lb_wire.specs.declared.query.QueryView.{QueryView}
@@ -18,9 +18,11 @@ use Rattle.lb_core.specs.declared.asked.Asked.{Asked}
 use Rattle.lb_core.specs.declared.event.Event.{Event}
 use Rattle.lb_core.specs.declared.event.Event.TheVariants.{Query, Edit}
 use Rattle.lb_core.specs.declared.command.Command.{Command}
-use Rattle.lb_core.specs.declared.command.Command.TheVariants.{RuleAdd, RuleRemove, RuleMove, PoolAdd}
+use Rattle.lb_core.specs.declared.command.Command.TheVariants.{RuleAdd, RuleRemove, RuleMove, PoolAdd, CacheAttach, CacheDetach}
+use Rattle.lb_core.specs.declared.cached.AttachedCache.{AttachedCache}
 use Rattle.lb_core.specs.declared.answer.Answer.{Answer}
 use Rattle.lb_core.specs.declared.answer.Answer.TheVariants.{Edited}
+use Rattle.lb_core.specs.Caches.{CacheLists, has_id, with_cache}
 use Rattle.lb_core.specs.Plain.{Plain}
 use Rattle.lb_core.specs.Query.{is_transfer}
 use Rattle.lb_core.specs.Edit.{place_or_end, rule_by}
@@ -33,20 +35,21 @@ pub record RoutePool : Type 0 where
   pub cache : Option CacheId
 
 -- the latest moment told, the next rule and cache numbers, the rules in their order with the passes that count, and the
--- pools by number
+-- pools and the attached caches by number
 pub record Routes : Type 0 where
   pub moment : ℕ
   pub next_rule : ℕ
   pub next_cache : ℕ
   pub rules : List Numbered
   pub pools : List RoutePool
+  pub caches : List AttachedCache
 
 abbrev pub route_of : Pool → RoutePool
 route_of pool = record { name = pool.name; cache = pool.cache }
 
 -- the routes of a plain state
 abbrev pub routes_of : Plain → Routes
-routes_of plain = record { moment = plain.moment; next_rule = plain.next_rule; next_cache = plain.next_cache; rules = plain.rules; pools = map route_of plain.pools }
+routes_of plain = record { moment = plain.moment; next_rule = plain.next_rule; next_cache = plain.next_cache; rules = plain.rules; pools = map route_of plain.pools; caches = plain.caches }
 
 -- the moment is the later of an event's and the last one
 abbrev pub at_routes : ℕ → Routes → Routes
@@ -68,12 +71,57 @@ abbrev pub with_added : Routes → Option ℕ → Option Rule → Routes
 with_added routes place None = routes
 with_added routes place (Some rule) = with_rules (added false (chain_in routes) (place_or_end place routes.rules) rule).0 routes
 
--- a command that is carried out; those on servers and policies change no route
+-- the pool with another cache, or none
+abbrev pub with_route_cache : Option CacheId → RoutePool → RoutePool
+with_route_cache cache pool = record pool { cache = cache }
+
+-- the pools with the one of a number changed
+abbrev pub change_route : (RoutePool → RoutePool) → ℕ → List RoutePool → List RoutePool
+change_route change at [] = []
+change_route change zero (pool ∷ pools) = change pool ∷ pools
+change_route change (suc at) (pool ∷ pools) = pool ∷ change_route change at pools
+
+-- the cache of a pool, where it is there and has one
+abbrev pub route_cache : Option RoutePool → Option CacheId
+route_cache None = None
+route_cache (Some pool) = pool.cache
+
+abbrev pub cache_routed : List RoutePool → ℕ → Option CacheId
+cache_routed pools at = route_cache (slice_get pools at)
+
+-- the attached caches without the one that a pool had, where it had one
+abbrev pub caches_without : Option CacheId → List AttachedCache → List AttachedCache
+caches_without None caches = caches
+caches_without (Some id) caches = filter (λ cache. not (has_id id cache)) caches
+
+-- a new cache in the place of the one that a pool has
+abbrev pub with_attached : Routes → ℕ → ℕ → Option PoolId → Routes
+with_attached routes max max_ttl None = routes
+with_attached routes max max_ttl (Some pool) =
+    let id : CacheId = record { 0 = routes.next_cache } in
+    let old : CacheLists = record { caches = caches_without (cache_routed routes.pools pool.0) routes.caches; kept = [] } in
+    record routes {
+      next_cache = routes.next_cache + 1;
+      pools = change_route (with_route_cache (Some id)) pool.0 routes.pools;
+      caches = (with_cache (record { id = id; max = max; max_ttl = max_ttl }) old).caches;
+    }
+
+-- the cache of a pool taken off it
+abbrev pub with_detached : Routes → Option PoolId → Routes
+with_detached routes None = routes
+with_detached routes (Some pool) = record routes {
+  pools = change_route (with_route_cache None) pool.0 routes.pools;
+  caches = caches_without (cache_routed routes.pools pool.0) routes.caches;
+}
+
+-- a command that is carried out; those on servers and policies, and expunging, change no route
 abbrev pub carried_out : Routes → Command → Routes
 carried_out routes (RuleAdd place stated) = with_added routes place (rule_by (route_named routes.pools) stated)
 carried_out routes (RuleRemove id) = with_rules (removed (chain_in routes) id).0 routes
 carried_out routes (RuleMove id place) = with_rules (moved false (chain_in routes) id place).0 routes
 carried_out routes (PoolAdd name) = record routes { pools = routes.pools ++ record { name = name; cache = None } ∷ [] }
+carried_out routes (CacheAttach name max shards max_ttl) = with_attached routes max max_ttl (route_named routes.pools name)
+carried_out routes (CacheDetach name) = with_detached routes (route_named routes.pools name)
 carried_out routes _ = routes
 
 -- a query that was walked through the rules, its passes counted; or one that was not walked, or met want of memory

@@ -11,7 +11,7 @@ use Rattle.lb_core.specs.Answer.{Leaves, is_refused, marked}
 use Rattle.lb_core.specs.Plain.{Plain, at_plain, upstreams_of, with_upstreams}
 use Rattle.lb_core.specs.Upstream.{Upstreams}
 use Rattle.lb_core.specs.Query.{QuerySteps, MayLack}
-use Rattle.lb_core.specs.Reply.{reply_step}
+use Rattle.lb_core.specs.Reply.{MayKeep, ReplySteps}
 use Rattle.lb_core.specs.Expiry.{Expires}
 use Rattle.lb_core.specs.Health.{result_step}
 use Rattle.lb_core.specs.Edit.{edit_of, upstream_changed, MayLackAt}
@@ -25,7 +25,8 @@ asked_at moment origin kind word = record { moment = moment; origin = origin; ki
 -- a step at the moment of its event; the answer shows where memory was wanting
 abbrev pub StepsAt : Plain → Event → Reading → Answer → Plain → Type 0
 StepsAt plain (Query now origin kind word bytes) (OfQuery reading) answer new = QuerySteps (marked answer) plain (asked_at plain.moment origin kind word) bytes reading answer new
-StepsAt plain (Reply now server lane bytes) (OfReply reading) answer new = Leaves new answer (upstream_changed plain (reply_step (upstreams_of plain) server lane bytes reading))
+StepsAt plain (Reply now server lane bytes) (OfReply reading) answer new =
+    (ups : Upstreams) × ReplySteps (marked answer) (upstreams_of plain) server lane plain.moment bytes reading answer ups × (new ≡ with_upstreams ups plain)
 StepsAt plain (Tick now) OfNone answer new = (ups : Upstreams) × Expires (upstreams_of plain) plain.moment answer ups × (new ≡ with_upstreams ups plain)
 StepsAt plain (HealthResult now server ok) OfNone answer new = Leaves new answer (upstream_changed plain (result_step (upstreams_of plain) server ok))
 StepsAt plain (Edit now command) OfNone answer new = Leaves new answer (edit_of (marked answer) plain command)
@@ -38,7 +39,7 @@ Steps old event reading answer new = StepsAt (at_plain (moment_of event) old) ev
 -- the events at which memory may be wanting
 abbrev pub MayMarkAt : Plain → Event → Type 0
 MayMarkAt plain (Query now origin kind word bytes) = (view : QueryView) × MayLack plain (asked_at plain.moment origin kind word) bytes view
-MayMarkAt plain (Reply now server lane bytes) = ⊥
+MayMarkAt plain (Reply now server lane bytes) = MayKeep (upstreams_of plain) server lane plain.moment bytes
 MayMarkAt plain (Tick now) = ⊥
 MayMarkAt plain (HealthResult now server ok) = ⊥
 MayMarkAt plain (Edit now command) = MayLackAt plain command

@@ -1,8 +1,12 @@
--- The servers with their health, the pools and the outstanding queries of the plain state: what forwarding reads and changes.
-use Rattle.std.specs.Prelude.{◌≡◌, ℕ, ◌<◌, Bool, true, false, not, ◌==◌, List, [], ◌∷◌, ◌++◌, map, if◌then◌else◌}
+-- The servers with their health, the pools with their caches, the outstanding queries and the kept replies of the plain state:
+-- what forwarding and replies read and change.
+use Rattle.std.specs.Prelude.{◌≡◌, ℕ, ◌<◌, Bool, true, false, not, ◌==◌, List, [], ◌∷◌, ◌++◌, length, map, if◌then◌else◌}
 use Rattle.std.specs.List.{count_by, filter, AllByRecursion}
 use Rattle.std.specs.Int.NonZero.{non_zero_u8_get}
+use Rattle.lb_name.specs.Name.{lower_name}
 use Rattle.lb_wire.specs.Query.{Reads}
+use Rattle.lb_wire.specs.declared.ids.CacheId.{CacheId}
+use Rattle.lb_wire.specs.declared.key.Key.{Key}
 use Rattle.lb_wire.specs.declared.ids.PoolId.{PoolId}
 use Rattle.lb_wire.specs.declared.ids.ServerId.{ServerId}
 use Rattle.lb_wire.specs.declared.transport.Lane.{Lane}
@@ -16,9 +20,10 @@ use Rattle.lb_servers.specs.declared.fault.ParkFault.{ParkFault}
 use Rattle.lb_servers.specs.declared.server.Loaded.{Loaded}
 use Rattle.lb_servers.specs.declared.server.Mode.{Mode}
 use Rattle.lb_servers.specs.declared.spec.ServerSpec.{ServerSpec}
-use Rattle.lb_servers.specs.Park.{Backends, added_server, changed_server, no_backends, removed_server}
+use Rattle.lb_servers.specs.declared.fault.ParkFault.TheVariants as park_faults
+use Rattle.lb_servers.specs.Park.{Backends, added_server, attached, cache_ready_of, changed_server, detached, no_backends, removed_server}
 use Rattle.lb_servers.specs.Pick.{picked}
-use Rattle.lb_servers.specs.Pool.{change_at, turned}
+use Rattle.lb_servers.specs.Pool.{cache_at, change_at, turned}
 use Rattle.lb_servers.specs.Server.{marked, with_mode}
 use Rattle.lb_health.specs.Health.{new_standing}
 use Rattle.lb_table.specs.declared.place.Place.{Place}
@@ -28,12 +33,17 @@ use Rattle.lb_table.specs.declared.fault.EnterFault.{EnterFault}
 use Rattle.lb_table.specs.declared.fault.EnterFault.TheVariants.{LaneFull, NoMemory}
 use Rattle.lb_table.specs.Place.{at_place}
 use Rattle.lb_table.specs.Table.{FirstFree, entered, is_for}
+use Rattle.lb_core.specs.Caches.{CacheLists, expunged_in, name_of_key, with_cache, without_old}
+use Rattle.lb_core.specs.declared.cached.AttachedCache.{AttachedCache}
+use Rattle.lb_core.specs.declared.cached.KeptReply.{KeptReply}
+use Rattle.lb_core.specs.declared.answer.Totals.{Totals}
+use Rattle.lb_core.specs.declared.command.Covered.{Covered}
 use Rattle.lb_core.specs.declared.check.Check.{Check}
 use Rattle.lb_core.specs.declared.check.CheckSpec.{CheckSpec}
 
 -- how long a query waits, in milliseconds; the next server and cache numbers (2^64 once all are given); the servers, their health checks
--- and the pools, by number; and the outstanding queries by deadline, those of one deadline in the order in which they were
--- sent
+-- the pools and the attached caches, by number; the outstanding queries by deadline, those of one deadline in the order in
+-- which they were sent; and the kept replies by cache, then key
 pub record Upstreams : Type 0 where
   pub timeout : ℕ
   pub next_server : ℕ
@@ -41,7 +51,9 @@ pub record Upstreams : Type 0 where
   pub servers : List Server
   pub checks : List Check
   pub pools : List Pool
+  pub caches : List AttachedCache
   pub outstanding : List Waiting
+  pub kept : List KeptReply
 
 -- how long a query waits at first
 abbrev pub first_timeout : ℕ
@@ -49,7 +61,14 @@ first_timeout = 2000
 
 -- at first: no server, and the default pool
 abbrev pub no_upstreams : Upstreams
-no_upstreams = record { timeout = first_timeout; next_server = no_backends.next; next_cache = no_backends.next_cache; servers = []; checks = []; pools = no_backends.pools; outstanding = [] }
+no_upstreams = record { timeout = first_timeout; next_server = no_backends.next; next_cache = no_backends.next_cache; servers = []; checks = []; pools = no_backends.pools; caches = []; outstanding = []; kept = [] }
+
+-- the caches of what stands upstream with what they keep, and others in their place
+abbrev pub caches_of : Upstreams → CacheLists
+caches_of ups = record { caches = ups.caches; kept = ups.kept }
+
+abbrev pub with_caches : CacheLists → Upstreams → Upstreams
+with_caches lists ups = record ups { caches = lists.caches; kept = lists.kept }
 
 -- a server with its load: how many of the outstanding queries wait for it, by whatever lane, counted anew
 abbrev pub loaded_by : List Waiting → Server → Loaded
@@ -114,6 +133,42 @@ put_into mode ups server = on_backends ups (changed_server (with_mode mode) (bac
 abbrev pub with_mark : Bool → ServerId → Upstreams → Upstreams
 with_mark up server ups = (on_backends ups (changed_server (marked up) (backends_of ups) server)).0
 
+-- a new cache in the place of the one that a pool has, with what that one keeps
+abbrev pub replaced_cache : Upstreams → PoolId → ℕ → ℕ → Upstreams × Result CacheId ParkFault
+replaced_cache ups pool max max_ttl =
+    let done = on_backends ups (attached (backends_of ups) pool) in
+    (with_caches (with_cache (record { id = done.1; max = max; max_ttl = max_ttl }) (without_old (cache_at ups.pools pool.0) (caches_of ups))) done.0, Ok done.1)
+
+-- the same where the pool can be given one, unless memory is wanting
+abbrev pub attached_if : Bool → Upstreams → PoolId → ℕ → ℕ → Result (Unit {0}) ParkFault → Upstreams × Result CacheId ParkFault
+attached_if lacking ups pool max max_ttl (Err fault) = (ups, Err fault)
+attached_if lacking ups pool max max_ttl (Ok ready) = if lacking then (ups, Err park_faults.NoMemory) else replaced_cache ups pool max max_ttl
+
+-- a cache attached to a pool
+abbrev pub attached_cache : Bool → Upstreams → PoolId → ℕ → ℕ → Upstreams × Result CacheId ParkFault
+attached_cache lacking ups pool max max_ttl = attached_if lacking ups pool max max_ttl (cache_ready_of (backends_of ups) pool)
+
+-- the cache of a pool taken off it, with what it keeps
+abbrev pub detached_cache : Upstreams → PoolId → Upstreams × Option CacheId
+detached_cache ups pool =
+    let done = on_backends ups (detached (backends_of ups) pool) in
+    (with_caches (without_old done.1 (caches_of ups)) done.0, done.1)
+
+-- a cache expunged
+abbrev pub expunged_cache : Upstreams → CacheId → Covered → Upstreams × ℕ
+expunged_cache ups id covered = let done = expunged_in id covered (caches_of ups) in (with_caches done.0 ups, done.1)
+
+-- how much there is of each part, the rules being so many
+abbrev pub totals_of : ℕ → Upstreams → Totals
+totals_of rules ups = record {
+  rules = rules;
+  servers = length ups.servers;
+  pools = length ups.pools;
+  caches = length ups.caches;
+  outstanding = length ups.outstanding;
+  kept = length ups.kept;
+}
+
 -- the server that a pool picks
 abbrev pub picked_of : Upstreams → PoolId → Option ServerId
 picked_of ups pool = picked (backends_of ups).servers ups.pools pool
@@ -145,9 +200,16 @@ SendsBy old pool server lane word entry (Err (LaneFull, back)) new =
     FirstFree old.outstanding server lane word None × (back ≡ entry) × (new ≡ with_turn pool old)
 SendsBy old pool server lane word entry (Err (NoMemory, back)) new = (back ≡ entry) × (new ≡ old)
 
--- an entry's octets are a query that reads
-abbrev pub IsAsked : Entry → Type 0
-IsAsked entry = (view : QueryView) × Reads entry.asked (Ok view)
+-- the key under which a reply may be kept has the question name of the query
+abbrev pub IsKeyFor : Entry → Option (CacheId × Key) → Type 0
+IsKeyFor entry None = Unit {0}
+IsKeyFor entry (Some ask) = name_of_key ask.1 ≡ lower_name entry.name
+
+-- an entry's octets are a query that reads, and its key is of its question
+pub record IsAsked (entry : Entry) : Type 0 where
+  pub view : QueryView
+  pub reads : Reads entry.asked (Ok view)
+  pub key : IsKeyFor entry entry.cache
 
 -- what ties the table of servers to the outstanding queries: each server's count is that of the queries that wait for it;
 -- each server has a number that was given, and each query waits for such a server; and each is a query that reads

@@ -3,7 +3,7 @@
 use crate::timeout::Timeout;
 use lb_chain::ChainFault;
 use lb_servers::{Mode, ParkFault, Policy, PoolName};
-use lb_wire::{Kept, Lane, Octets, Origin, RuleId, ServerId};
+use lb_wire::{CacheId, Kept, Lane, Octets, Origin, RuleId, ServerId};
 use thiserror::Error;
 
 /// The answer to one event.
@@ -51,6 +51,8 @@ pub enum LocalReason {
     Transfer,
     /// The rule with this number says so.
     Rule(RuleId),
+    /// A reply that its pool's cache keeps answers it.
+    Hit,
     /// No server of its pool is up.
     NoServer,
     /// Each ID of the server's lane is in use.
@@ -91,12 +93,32 @@ pub enum Note {
     PoolAdded(PoolName),
     /// The pool with this name was given this policy.
     PoolPolicy(PoolName, Policy),
+    /// The cache was attached under this number.
+    CacheAttached(CacheId),
+    /// The cache with this number was taken off its pool.
+    CacheDetached(CacheId),
+    /// So many kept replies were expunged, dead ones included.
+    Expunged(usize),
     /// The queries sent from now on wait so long.
     TimeoutSet(Timeout),
+    /// So much there is of each part.
+    Shown(Totals),
     /// The health of the server with this number brought it up.
     ServerUp(ServerId),
     /// The health of the server with this number took it down.
     ServerDown(ServerId),
+}
+
+/// How much there is of each part.
+#[derive(Clone, Copy, Debug, PartialEq, Eq)]
+pub struct Totals {
+    pub rules: usize,
+    pub servers: usize,
+    pub pools: usize,
+    pub caches: usize,
+    pub outstanding: usize,
+    /// The kept replies of all attached caches, dead ones that are still held included.
+    pub kept: u128,
 }
 
 /// Why a command is refused.
@@ -108,4 +130,7 @@ pub enum EditFault {
     /// By the table of servers and pools.
     #[error("servers: {0}")]
     Servers(ParkFault),
+    /// The pool has no cache.
+    #[error("cache: NoCache")]
+    NoCache,
 }

@@ -67,8 +67,9 @@ impl Balancer {
         self.upstream.law_of_health();
     }
 
-    /// Answers one event. It can lack memory at a query with passes, a spoofed answer or a pool to be sent by, at a rule
-    /// that is added or moved, and at a server or a pool that is added; then nothing but the moment changes.
+    /// Answers one event. It can lack memory at a query with passes, a spoofed answer or a pool to be answered by, at a rule that
+    /// is added or moved, and at a server, a pool or a cache that is added: then nothing but the moment changes; and at a reply
+    /// that would be kept: then it is delivered, and not kept.
     pub fn step(&mut self, event: Event) -> Answer
         ensures { Answers self.old event result self.new }
     {
@@ -104,7 +105,7 @@ impl Balancer {
                 bytes,
             } => {
                 self.moment = self.moment.max(now);
-                answer_reply(&mut self.upstream, server, lane, bytes)
+                answer_reply(&mut self.upstream, self.moment, server, lane, bytes)
             }
             Event::Tick { now } => {
                 self.moment = self.moment.max(now);
@@ -116,7 +117,13 @@ impl Balancer {
             }
             Event::Edit { now, command } => {
                 self.moment = self.moment.max(now);
-                edit(&mut self.chain, &mut self.upstream, self.moment, command)
+                edit(
+                    self.alloc,
+                    &mut self.chain,
+                    &mut self.upstream,
+                    self.moment,
+                    command,
+                )
             }
         }
     }

@@ -2,10 +2,12 @@
 
 use crate::check::CheckSpec;
 use crate::timeout::Timeout;
+use lb_cache::{MaxEntries, MaxTtl, Shards};
 use lb_chain::Addrs;
+use lb_name::Name;
 use lb_servers::{Ident, Mode, Policy, PoolName, ServerSpec};
 use lb_terms::CheckedTerm;
-use lb_wire::{Rcode, RuleId};
+use lb_wire::{Rcode, RecordType, RuleId};
 
 /// An operator's command. Servers and pools are named by name; a name that is not there is refused before all else.
 #[derive(Debug, Drop)]
@@ -26,8 +28,28 @@ pub enum Command {
     PoolAdd(PoolName),
     /// Gives the pool with this name a policy; its turn stays.
     PoolPolicy(PoolName, Policy),
+    /// Gives the pool with this name a new, empty cache, in the place of the one that it has: with so many replies at most, so
+    /// many shards, and this longest life.
+    CacheAttach(PoolName, MaxEntries, Shards, MaxTtl),
+    /// Takes the cache off the pool with this name, with what it keeps.
+    CacheDetach(PoolName),
+    /// Empties the cache of the pool with this name of the replies that are covered.
+    Expunge(PoolName, Covered),
     /// Has the queries that are sent from now on wait so long for their replies.
     SetTimeout(Timeout),
+    /// Asks how much there is of each part; it changes nothing.
+    Show,
+}
+
+/// What an expunge covers: dead replies too.
+#[derive(Debug, Drop)]
+pub enum Covered {
+    /// The replies for this question name, without regard to case, and for this type, where one is stated.
+    Name(Name, Option<RecordType>),
+    /// The replies for this question name and for those below it.
+    Suffix(Name),
+    /// Every reply.
+    All,
 }
 
 /// A rule as a command states it: its pool by name.

@@ -5,7 +5,7 @@ ghost use Rattle.lb_servers.specs.Park.{added_pool, changed_pool};
 ghost use Rattle.lb_servers.specs.Pool.{pool_named, with_policy};
 ghost use Rattle.lb_core.specs.Plain.{plain_of, upstreams_of};
 ghost use Rattle.lb_core.specs.Upstream.{added_checked, backends_of, put_into, removed_checked, Upstreams};
-ghost use Rattle.lb_core.specs.Edit.{action_by, edit_of, place_or_end, pool_edited, rule_by, server_by, server_edited, upstream_edited, upstream_told, MayLackAt, Lacks};
+ghost use Rattle.lb_core.specs.Edit.{action_by, attached_to, detached_from, edit_of, expunged_from, place_or_end, pool_edited, rule_by, server_by, server_edited, upstream_edited, upstream_told, MayLackAt, Lacks};
 ghost use Rattle.lb_core.specs.Answer.{marked};
 ghost use Rattle.lb_core.specs.declared.command.Command.TheVariants.{RuleAdd, RuleRemove, RuleMove};
 ghost use Rattle.lb_core.specs.declared.answer.Answer.TheVariants.{Refused};
@@ -15,14 +15,17 @@ ghost use Rattle.lb_core.specs.declared.answer.Answer.{Answer};
 
 use crate::answer::{Answer, EditFault, Note};
 use crate::check::CheckSpec;
-use crate::command::{Command, StatedAction, StatedRule};
+use crate::command::{Command, Covered, StatedAction, StatedRule};
 use crate::upstream::Upstream;
+use lb_cache::{MaxEntries, MaxTtl, Shards};
 use lb_chain::{Action, Chain, ChainFault, Rule, seen_twice};
 use lb_servers::{Ident, Mode, ParkFault, Policy, PoolName, ServerSpec};
 use lb_wire::RuleId;
+use std::alloc::Global;
 
 /// Carries out a command, or refuses it.
 pub(crate) fn edit(
+    alloc: Global,
     chain: &mut Chain,
     upstream: &mut Upstream,
     moment: u64,
@@ -42,6 +45,10 @@ pub(crate) fn edit(
         Command::ServerMode(name, mode) => set_mode(upstream, &name, mode),
         Command::PoolAdd(name) => add_pool(upstream, name),
         Command::PoolPolicy(name, policy) => set_policy(upstream, name, policy),
+        Command::CacheAttach(name, max, shards, max_ttl) => attach_cache(alloc, upstream, &name, max, shards, max_ttl),
+        Command::CacheDetach(name) => detach_cache(upstream, &name),
+        Command::Expunge(name, covered) => expunge(upstream, &name, &covered),
+        Command::Show => Answer::Edited(Note::Shown(upstream.totals(chain.len()))),
         Command::SetTimeout(timeout) => {
             upstream.set_timeout(timeout);
             Answer::Edited(Note::TimeoutSet(timeout))
@@ -219,5 +226,52 @@ fn set_policy(upstream: &mut Upstream, name: PoolName, policy: Policy) -> Answer
     match upstream.set_policy(pool, policy) {
         Ok(()) => Answer::Edited(Note::PoolPolicy(name, policy)),
         Err(fault) => servers_refused(fault),
+    }
+}
+
+/// Gives the pool with a name a new cache.
+fn attach_cache(
+    alloc: Global,
+    upstream: &mut Upstream,
+    name: &PoolName,
+    max: MaxEntries,
+    shards: Shards,
+    max_ttl: MaxTtl,
+) -> Answer
+    ensures edit { (upstream.new, result) ≡ attached_to (marked result) upstream.old max max_ttl (pool_named upstream.old.pools name.now) }
+    ensures mark { IsTrue (marked result) → Lacks (λ mark. attached_to mark upstream.old max max_ttl (pool_named upstream.old.pools name.now)) }
+{
+    let Some(pool) = upstream.pool_named(name) else {
+        return servers_refused(ParkFault::NoSuchPool);
+    };
+    match upstream.attach_cache(alloc, pool, max, shards, max_ttl) {
+        Ok(id) => Answer::Edited(Note::CacheAttached(id)),
+        Err(fault) => servers_refused(fault),
+    }
+}
+
+/// Takes the cache off the pool with a name.
+fn detach_cache(upstream: &mut Upstream, name: &PoolName) -> Answer
+    ensures { (upstream.new, result) ≡ detached_from upstream.old (pool_named upstream.old.pools name.now) }
+{
+    let Some(pool) = upstream.pool_named(name) else {
+        return servers_refused(ParkFault::NoSuchPool);
+    };
+    match upstream.detach_cache(pool) {
+        Some(id) => Answer::Edited(Note::CacheDetached(id)),
+        None => Answer::Refused(EditFault::NoCache),
+    }
+}
+
+/// Expunges the cache of the pool with a name.
+fn expunge(upstream: &mut Upstream, name: &PoolName, covered: &Covered) -> Answer
+    ensures { (upstream.new, result) ≡ expunged_from upstream.old covered.now (pool_named upstream.old.pools name.now) }
+{
+    let Some(pool) = upstream.pool_named(name) else {
+        return servers_refused(ParkFault::NoSuchPool);
+    };
+    match upstream.cache_of(pool) {
+        Some(id) => Answer::Edited(Note::Expunged(upstream.expunge(id, covered))),
+        None => Answer::Refused(EditFault::NoCache),
     }
 }

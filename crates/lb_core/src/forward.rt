@@ -1,24 +1,26 @@
 //! Forwarding: a server is picked for a query, and the query is sent to it under an ID that is free there.
 
-ghost use Rattle.std.specs.Prelude.{◌≡◌, ◌≤◌, IfOk, IfErr, OnErr, OnOk, length, List, ℕ, Result};
+ghost use Rattle.std.specs.Prelude.{◌≡◌, ◌≤◌, IfOk, IfErr, IfSome, OnErr, OnOk, length, List, ℕ, Result};
+ghost use Rattle.lb_name.specs.Name.{lower_name};
 ghost use Rattle.lb_wire.specs.Message.{Message, Lays};
 ghost use Rattle.lb_wire.specs.Numbers.{rcode_number};
 ghost use Rattle.lb_wire.specs.Answer.{refusal_of};
 ghost use Rattle.lb_wire.specs.Query.{IsQuery, view_of};
+ghost use Rattle.lb_core.specs.Caches.{name_of_key};
 ghost use Rattle.lb_core.specs.Forward.{entry_of as entry_of_spec, Forwards, lane_of as lane_of_spec, sent_of, with_id};
 ghost use Rattle.lb_core.specs.declared.answer.Answer.TheVariants.{Local};
 ghost use Rattle.lb_core.specs.Upstream.{Upstreams};
 
 use crate::answer::{Answer, LocalReason};
-use crate::asked::Asked;
+use crate::asked::{Asked, Routed};
 use crate::upstream::Upstream;
 use lb_table::{EnterFault, Entry};
 use lb_wire::{
-    Kind, Lane, Octets, PoolId, QueryView, Rcode, answer_in_place, clear_rd, restore_id,
+    CacheId, Key, Kind, Lane, Octets, QueryView, Rcode, answer_in_place, clear_rd, restore_id,
 };
 use std::alloc::{AllocError, Global};
 
-/// Answers a query by a server of a pool. Where memory is wanting for its entry, nothing changes and the query's bytes come
+/// Answers a query by a server of a pool; it asked this of a cache. Where memory is wanting for its entry, nothing changes and the query's bytes come
 /// back.
 pub(crate) fn forward(
     alloc: Global,
@@ -26,23 +28,24 @@ pub(crate) fn forward(
     asked: &Asked,
     bytes: Vec<u8>,
     view: &QueryView,
-    no_recurse: bool,
-    pool: PoolId,
+    routed: &Routed,
+    ask: Option<(CacheId, Key)>,
 ) -> Result<Answer, Vec<u8>>
     requires view { (m : Message) × Lays bytes.items m × IsQuery m × (view.now ≡ view_of m) }
-    ensures forwards { IfOk result (λ answer. Forwards upstream.old asked.now bytes.items view.now no_recurse pool answer upstream.new) }
+    requires key { IfSome ask (λ ask. name_of_key ask.1 ≡ lower_name view.now.name) }
+    ensures forwards { IfOk result (λ answer. Forwards upstream.old asked.now bytes.items view.now routed.now ask answer upstream.new) }
     ensures back { IfErr result (λ back. back.items ≡ bytes.items) }
     ensures unchanged { OnErr result (upstream.new ≡ upstream.old) }
 {
-    let Some(server) = upstream.pick(pool) else {
+    let Some(server) = upstream.pick(routed.pool) else {
         return Ok(refused(bytes, view, Rcode::ServFail, LocalReason::NoServer));
     };
-    let Ok(entry) = entry_of(alloc, upstream.timeout(), asked, bytes.as_slice(), view) else {
+    let Ok(entry) = entry_of(alloc, upstream.timeout(), asked, bytes.as_slice(), view, ask) else {
         return Err(bytes);
     };
     let lane = lane_of(asked.kind);
-    match upstream.send(pool, server, lane, asked.word, entry) {
-        Ok(id) => Ok(Answer::Forward(server, lane, id, message(bytes, no_recurse, id))),
+    match upstream.send(routed.pool, server, lane, asked.word, entry) {
+        Ok(id) => Ok(Answer::Forward(server, lane, id, message(bytes, routed.no_recurse, id))),
         Err((EnterFault::LaneFull, _)) => {
             Ok(refused(bytes, view, Rcode::ServFail, LocalReason::LaneFull))
         }
@@ -64,8 +67,9 @@ fn entry_of(
     asked: &Asked,
     bytes: &[u8],
     view: &QueryView,
+    ask: Option<(CacheId, Key)>,
 ) -> Result<Entry, AllocError>
-    ensures { IfOk result (λ entry. (ups : Upstreams) → ups.timeout ≡ timeout → entry ≡ entry_of_spec ups asked.now bytes.now view.now) }
+    ensures { IfOk result (λ entry. (ups : Upstreams) → ups.timeout ≡ timeout → entry ≡ entry_of_spec ups asked.now bytes.now view.now ask) }
 {
     Ok(Entry {
         origin: asked.origin,
@@ -75,7 +79,7 @@ fn entry_of(
         qclass: view.qclass,
         began: asked.moment,
         timeout,
-        cache: None,
+        cache: ask,
     })
 }
 

@@ -1,10 +1,12 @@
 //! The balancer: each event is one step of one plain state, and each answer is the one that the plain lists of rules,
-//! servers, pools and outstanding queries give when they are searched anew at that event.
+//! servers, pools, outstanding queries and kept replies give when they are searched anew at that event.
 #![tactic(auto)]
 
 mod answer;
 mod asked;
 mod balancer;
+mod cached;
+mod caches;
 mod check;
 mod command;
 mod edit;
@@ -13,6 +15,8 @@ mod expiry;
 mod forward;
 mod health;
 mod laws;
+mod lifetime;
+mod look;
 mod query;
 mod reply;
 mod runs;
@@ -21,10 +25,11 @@ mod tests;
 mod timeout;
 mod upstream;
 
-pub use answer::{Answer, DropReason, EditFault, IgnoreReason, LocalReason, Note};
+pub use answer::{Answer, DropReason, EditFault, IgnoreReason, LocalReason, Note, Totals};
 pub use balancer::Balancer;
+pub use cached::{AttachedCache, KeptReply};
 pub use check::{Check, CheckSpec};
-pub use command::{Command, StatedAction, StatedRule};
+pub use command::{Command, Covered, StatedAction, StatedRule};
 pub use event::Event;
 pub use laws::{one_run_per_marks, refusals_change_nothing, routes_follow, ticks_end_the_due};
 pub use runs::run;

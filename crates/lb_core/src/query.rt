@@ -8,15 +8,16 @@ ghost use Rattle.lb_wire.specs.declared.query.QueryView.{QueryView};
 ghost use Rattle.lb_wire.specs.declared.query.QueryFault.{QueryFault};
 ghost use Rattle.lb_core.specs.Plain.{plain_of};
 ghost use Rattle.lb_core.specs.Forward.{failure_of};
-ghost use Rattle.lb_core.specs.Query.{is_transfer as is_transfer_of, takes_memory, takes_room, walked_of, Decides, MayLack, QuerySteps, RuleDecides, WalkedSteps};
+ghost use Rattle.lb_core.specs.Query.{is_transfer as is_transfer_of, takes_memory, takes_room, to_pool, walked_of, Decides, MayLack, QuerySteps, RuleDecides, WalkedSteps};
 ghost use Rattle.lb_core.specs.Answer.{marked};
 ghost use Rattle.lb_core.specs.declared.answer.Answer.TheVariants.{Local, NoMemory};
 ghost use Rattle.lb_core.specs.declared.answer.LocalReason.TheVariants as locals;
 ghost use Rattle.lb_chain.specs.declared.walked.Verdict.TheVariants.{Allow};
 
 use crate::answer::{Answer, DropReason, LocalReason};
-use crate::asked::Asked;
-use crate::forward::{forward, refused};
+use crate::asked::{Asked, Routed};
+use crate::forward::refused;
+use crate::look::answer_by_pool;
 use crate::upstream::Upstream;
 use lb_chain::{Addrs, Chain, Verdict, Walked, first_to_end_decides, seen_walks};
 use lb_wire::{
@@ -26,7 +27,7 @@ use lb_wire::{
 use std::alloc::Global;
 
 /// Answers a query, step by step: it is read, transfers are refused, the rules are walked, room is taken for what
-/// follows, the passes are counted, and the verdict answers or names the pool whose server is to.
+/// follows, the passes are counted, and the verdict answers or names the pool whose cache or server is to.
 pub(crate) fn answer_query(
     alloc: Global,
     chain: &mut Chain,
@@ -114,33 +115,34 @@ fn decide(
     ensures takes { IfErr result (λ _. takes_room walked.now.verdict ≡ true) }
     ensures unchanged { OnErr result (upstream.new ≡ upstream.old) }
 {
-    let no_recurse = walked.no_recurse;
     let Some(rule) = walked.rule else {
-        return forward(
-            alloc,
-            upstream,
-            asked,
-            bytes,
-            view,
-            no_recurse,
-            DEFAULT_POOL,
-        );
+        let routed = to_pool(walked, DEFAULT_POOL);
+        return answer_by_pool(alloc, upstream, asked, bytes, view, routed);
     };
     match walked.verdict {
-        Verdict::Allow => forward(
-            alloc,
-            upstream,
-            asked,
-            bytes,
-            view,
-            no_recurse,
-            DEFAULT_POOL,
-        ),
-        Verdict::Pool(pool) => forward(alloc, upstream, asked, bytes, view, no_recurse, pool),
+        Verdict::Allow => {
+            let routed = to_pool(walked, DEFAULT_POOL);
+            answer_by_pool(alloc, upstream, asked, bytes, view, routed)
+        }
+        Verdict::Pool(pool) => {
+            let routed = to_pool(walked, pool);
+            answer_by_pool(alloc, upstream, asked, bytes, view, routed)
+        }
         Verdict::Drop => Ok(Answer::Dropped(DropReason::Rule(rule))),
         Verdict::Rcode(rcode) => Ok(refused(bytes, view, rcode, LocalReason::Rule(rule))),
         Verdict::Tc => Ok(truncated(bytes, view, rule)),
         Verdict::Spoof(addrs) => spoof(alloc, bytes, view, &addrs, rule),
+    }
+}
+
+/// A pool that is to answer a query, and what the rules before said.
+fn to_pool(walked: &Walked, pool: PoolId) -> Routed
+    ensures { result ≡ to_pool walked.now pool }
+{
+    Routed {
+        pool,
+        no_recurse: walked.no_recurse,
+        skip_cache: walked.skip_cache,
     }
 }
 

@@ -1,32 +1,44 @@
 //! The life of a reply.
 
-ghost use Rattle.std.specs.Prelude.{◌≡◌, ◌≤◌, ◌==◌, IsTrue, length, List, ℕ, Result};
+ghost use Rattle.std.specs.Prelude.{◌≡◌, ◌≤◌, ◌==◌, true, IsTrue, IfSome, length, List, ℕ, Result};
 ghost use Rattle.lb_wire.specs.BigEndian.{number_at};
-ghost use Rattle.lb_wire.specs.Belongs.{AsksSame};
+ghost use Rattle.lb_wire.specs.Belongs.{belongs, AsksSame};
 ghost use Rattle.lb_wire.specs.Reply.{ReadsReply, Replies};
 ghost use Rattle.lb_wire.specs.declared.reply.ReplyView.{ReplyView};
 ghost use Rattle.lb_wire.specs.declared.reply.ReplyFault.{ReplyFault};
 ghost use Rattle.lb_core.specs.Upstream.{IsAsked};
-ghost use Rattle.lb_core.specs.Reply.{delivered_octets, reply_step};
-ghost use Rattle.lb_wire.specs.declared.kept.Kept.TheVariants as kept;
+ghost use Rattle.lb_core.specs.Reply.{delivered_octets, spelled_for, Keeps, MayKeep, ReplySteps};
+ghost use Rattle.lb_core.specs.Answer.{marked};
+ghost use Rattle.lb_core.specs.Caches.{name_of_key};
+ghost use Rattle.lb_core.specs.Forward.{with_id};
+ghost use Rattle.lb_core.specs.declared.cached.KeptReply.{KeptReply};
+ghost use Rattle.lb_cache.specs.Cache.{lacks};
+ghost use Rattle.lb_name.specs.Name.{lower_name};
+ghost use Rattle.lb_wire.specs.Message.{Message, Lays};
+ghost use Rattle.lb_wire.specs.declared.kept.Kept.{Kept as KeptValue};
 ghost use Rattle.lb_core.specs.declared.answer.Answer.TheVariants.{Deliver};
 
 use crate::answer::{Answer, IgnoreReason};
+use crate::lifetime::lifetime;
 use crate::upstream::Upstream;
+use lb_name::Name;
 use lb_table::Entry;
 use lb_wire::{
-    Kept, Lane, Octets, ReplyFault, ReplyView, ServerId, read_reply, respell, restore_id,
+    CacheId, Kept, Key, Lane, Octets, ReplyFault, ReplyView, ServerId, least_is_outlived,
+    none_is_outlived, read_reply, respell, restore_id,
 };
 
 /// Answers a reply, step by step: it is read, the query that waits for it is found, the reply is held against its
-/// question, the query goes, and its client gets the reply.
+/// question, the query goes, the reply is kept where that may be, and its client gets it.
 pub(crate) fn answer_reply(
     upstream: &mut Upstream,
+    moment: u64,
     server: ServerId,
     lane: Lane,
     bytes: Octets,
 ) -> Answer
-    ensures { (reading : Result ReplyView ReplyFault) × ReadsReply bytes reading × ((upstream.new, result) ≡ reply_step upstream.old server lane bytes reading) }
+    ensures step { (reading : Result ReplyView ReplyFault) × ReadsReply bytes reading × ReplySteps (marked result) upstream.old server lane moment bytes reading result upstream.new }
+    ensures mark { IsTrue (marked result) → MayKeep upstream.old server lane moment bytes }
 {
     let bytes = bytes.into_vec();
     let view = match read_reply(bytes.as_slice()) {
@@ -41,23 +53,70 @@ pub(crate) fn answer_reply(
         return Answer::Ignored(IgnoreReason::Mismatch);
     }
     match upstream.take(server, lane, view.id) {
-        Some(entry) => deliver(bytes, &view, &entry),
+        Some(entry) => keep_and_deliver(upstream, moment, bytes, &view, entry),
         None => Answer::Ignored(IgnoreReason::Unknown),
     }
 }
 
-/// The reply as the client of a query gets it, in the reply's own bytes.
-fn deliver(mut bytes: Vec<u8>, view: &ReplyView, entry: &Entry) -> Answer
+/// Keeps a reply where that may be, and delivers it.
+fn keep_and_deliver(
+    upstream: &mut Upstream,
+    moment: u64,
+    bytes: Vec<u8>,
+    view: &ReplyView,
+    entry: Entry,
+) -> Answer
     requires reads { Replies bytes.items view.now }
-    requires asked { IsAsked entry.now }
-    requires same { view.now.questions ≡ 1 → AsksSame view.now.question entry.now.name }
-    ensures { result ≡ Deliver entry.now.origin (delivered_octets view.now entry.now bytes.items) kept.No }
+    requires asked { IsAsked entry }
+    requires same { belongs view.now entry.name entry.qtype entry.qclass ≡ true }
+    ensures { (told : KeptValue) × (list : List KeptReply) × Keeps (marked result) upstream.old moment bytes.items view.now entry.cache told list × (upstream.new ≡ record upstream.old { kept = list }) × (result ≡ Deliver entry.origin (delivered_octets view.now entry bytes.items) told) }
+{
+    let Entry { origin, asked, name, cache, .. } = entry;
+    let kept = keep(upstream, moment, bytes.as_slice(), view, cache);
+    let id = query_id(asked.as_slice());
+    Answer::Deliver(origin, delivered(bytes, view, &name, id), kept)
+}
+
+/// Keeps a reply in the cache that its query asked, where that is still attached, for as long as it lives.
+fn keep(
+    upstream: &mut Upstream,
+    moment: u64,
+    bytes: &[u8],
+    view: &ReplyView,
+    ask: Option<(CacheId, Key)>,
+) -> Kept
+    requires reads { Replies bytes.now view.now }
+    requires key { IfSome ask (λ ask. (m : Message) → Lays bytes.now m → lower_name m.name ≡ name_of_key ask.1) }
+    ensures kept { Keeps (lacks result) upstream.old moment bytes.now view.now ask result upstream.new.kept }
+    ensures others { upstream.new ≡ record upstream.old { kept = upstream.new.kept } }
+{
+    // Laws, which do nothing.
+    least_is_outlived();
+    none_is_outlived();
+    let Some((id, key)) = ask else {
+        return Kept::No;
+    };
+    let Some(cache) = upstream.cache_with(id) else {
+        return Kept::No;
+    };
+    let life = lifetime(bytes, view, cache.max_ttl);
+    if life == 0 {
+        return Kept::No;
+    }
+    upstream.keep(&cache, key, bytes, life, moment)
+}
+
+/// The reply as the client of a query gets it, in the reply's own bytes.
+fn delivered(mut bytes: Vec<u8>, view: &ReplyView, name: &Name, id: u16) -> Octets
+    requires reads { Replies bytes.items view.now }
+    requires same { view.now.questions ≡ 1 → AsksSame view.now.question name.now }
+    ensures { result ≡ with_id id (spelled_for (view.now.questions == 1) name.now bytes.items) }
 {
     if view.questions == 1 {
-        respell(&mut bytes, &entry.name);
+        respell(&mut bytes, name);
     }
-    restore_id(&mut bytes, query_id(entry.asked.as_slice()));
-    Answer::Deliver(entry.origin, Octets::from_vec(bytes), Kept::No)
+    restore_id(&mut bytes, id);
+    Octets::from_vec(bytes)
 }
 
 /// The ID of a query (RFC 1035 section 4.1.1).

@@ -1,33 +1,40 @@
-//! Servers with their health, pools and outstanding queries, kept together: each server's count is the number of its
-//! outstanding queries, and its mark is what its health says.
+//! Servers with their health, pools with their caches, and outstanding queries, kept together: each server's count is the
+//! number of its outstanding queries, and its mark is what its health says.
 
-ghost use Rattle.std.specs.Prelude.{◌≡◌, ◌<◌, ℕ, IfOk, IfSome, length, not, option_map};
+ghost use Rattle.std.specs.Prelude.{◌≡◌, ◌<◌, ℕ, IfOk, IfSome, Some, length, not, option_map};
 ghost use Rattle.std.specs.List.{filter, position};
 ghost use Rattle.lb_servers.specs.Park.{added_pool, changed_pool, changed_server, lacks};
-ghost use Rattle.lb_servers.specs.Pool.{pool_named, with_policy, change_at};
+ghost use Rattle.lb_cache.specs.Cache.{lacks as lacks_kept};
+ghost use Rattle.lb_servers.specs.Pool.{cache_at, pool_named, with_policy, change_at};
 ghost use Rattle.lb_servers.specs.Server.{marked};
 ghost use Rattle.lb_table.specs.Place.{at_place};
 ghost use Rattle.lb_table.specs.Table.{due, entry_at};
-ghost use Rattle.lb_core.specs.Upstream.{added_checked, backends_of, no_upstreams, on_backends, picked_of, put_into, removed_checked, ByNumber, IsAsked, IsChecked, SendsBy, takes_turns as takes_turns_of, turned_if, is_check};
+ghost use Rattle.lb_core.specs.Caches.{cache_with, kept_in, looked_in, IsKeepable};
+ghost use Rattle.lb_core.specs.Upstream.{added_checked, attached_cache, detached_cache, expunged_cache, totals_of, backends_of, no_upstreams, on_backends, picked_of, put_into, removed_checked, ByNumber, IsAsked, IsChecked, SendsBy, takes_turns as takes_turns_of, turned_if, is_check};
 ghost use Rattle.lb_core.specs.Edit.{server_by};
 ghost use Rattle.lb_core.specs.Expiry.{without_expired};
 ghost use Rattle.lb_core.specs.Health.{result_taken};
 ghost use Rattle.lb_core.specs.Reply.{without};
 
+use crate::answer::Totals;
+use crate::cached::AttachedCache;
+use crate::caches::Caches;
 use crate::check::{Check, CheckSpec};
+use crate::command::Covered;
 use crate::timeout::Timeout;
+use lb_cache::{Cache, Hit, MaxEntries, MaxTtl, Shards};
 use lb_health::Changed;
 use lb_servers::{Ident, Mode, Park, ParkFault, Policy, PoolName, ServerSpec};
 use lb_table::{EnterFault, Entry, Table, Waiting};
-use lb_wire::{Lane, PoolId, ServerId};
+use lb_wire::{CacheId, Kept, Key, Lane, PoolId, ServerId};
 use std::alloc::{AllocError, Global};
 use std::marker::Model;
 
 /// How long a query waits for its reply at first, in milliseconds.
 const FIRST_TIMEOUT: u32 = 2000;
 
-/// Servers with their health, pools and outstanding queries. A contract sees them as plain lists, in which no server has a
-/// count.
+/// Servers with their health, pools with their caches, and outstanding queries. A contract sees them as plain lists, in which no
+/// server has a count.
 #[derive(Debug, Drop)]
 pub(crate) struct Upstream {
     /// How long a query waits for its reply, in milliseconds.
@@ -36,6 +43,7 @@ pub(crate) struct Upstream {
     /// The health checks of the servers, in their order.
     checks: Vec<Check>,
     table: Table,
+    caches: Caches,
 }
 
 impl Model for Upstream {
@@ -44,7 +52,7 @@ impl Model for Upstream {
 
     ghost Value = { Upstreams };
 
-    ghost view = { λ u. record { timeout = u.timeout; next_server = u.park.next; next_cache = u.park.next_cache; servers = map server_of u.park.servers; checks = u.checks.items; pools = u.park.pools; outstanding = u.table } };
+    ghost view = { λ u. record { timeout = u.timeout; next_server = u.park.next; next_cache = u.park.next_cache; servers = map server_of u.park.servers; checks = u.checks.items; pools = u.park.pools; caches = u.caches.caches; outstanding = u.table; kept = u.caches.kept } };
 
     ghost invariant = { λ u. IsUpstream u.park u.checks.items u.table };
 }
@@ -59,6 +67,7 @@ impl Upstream {
             park: Park::new(alloc)?,
             checks: Vec::new(alloc),
             table: Table::new(alloc),
+            caches: Caches::new(alloc),
         })
     }
 
@@ -227,6 +236,96 @@ impl Upstream {
         ensures { (self.new, result) ≡ on_backends self.old (added_pool (lacks result) (backends_of self.old) name) }
     {
         self.park.add_pool(name)
+    }
+
+    /// The cache of a pool, by number.
+    pub(crate) fn cache_of(&self, pool: PoolId) -> Option<CacheId>
+        ensures { result ≡ cache_at self.now.pools pool.0 }
+    {
+        self.park.cache_of(pool)
+    }
+
+    /// The attached cache with a number.
+    pub(crate) fn cache_with(&self, id: CacheId) -> Option<AttachedCache>
+        ensures { result ≡ cache_with id self.now.caches }
+    {
+        self.caches.with_id(id)
+    }
+
+    /// The reply that a cache keeps under a key, where it lives at a moment, in milliseconds.
+    pub(crate) fn look(&self, id: CacheId, key: &Key, now: u64) -> Option<Hit<'_>>
+        ensures found { option_map (λ hit. (hit.bytes.now, hit.secs)) result ≡ looked_in self.now.kept id key.now now }
+        ensures keepable { IfSome result (λ hit. IsKeepable key.now hit.bytes.now hit.secs) }
+    {
+        self.caches.look(id, key, now)
+    }
+
+    /// Keeps a reply in an attached cache under a key, for so many seconds from a moment on, in milliseconds.
+    pub(crate) fn keep(
+        &mut self,
+        cache: &AttachedCache,
+        key: Key,
+        bytes: &[u8],
+        life: u32,
+        now: u64,
+    ) -> Kept
+        requires attached { cache_with cache.now.id self.old.caches ≡ Some cache.now }
+        requires keepable { IsKeepable key bytes.now life }
+        ensures kept { (self.new.kept, result) ≡ kept_in (lacks_kept result) cache.now.max self.old.kept (record { cache = cache.now.id; reply = record { key = key; bytes = bytes.now; moment = now; life = life } }) now }
+        ensures others { self.new ≡ record self.old { kept = self.new.kept } }
+    {
+        self.caches.keep(cache, key, bytes, life, now)
+    }
+
+    /// Gives a pool a new cache in the place of the one that it has. Room for it is taken before anything changes.
+    pub(crate) fn attach_cache(
+        &mut self,
+        alloc: Global,
+        pool: PoolId,
+        max: MaxEntries,
+        shards: Shards,
+        max_ttl: MaxTtl,
+    ) -> Result<CacheId, ParkFault>
+        ensures { (self.new, result) ≡ attached_cache (lacks result) self.old pool max max_ttl }
+    {
+        self.park.cache_ready(pool)?;
+        let Ok(cache) = Cache::new(alloc, max, shards, max_ttl) else {
+            return Err(ParkFault::NoMemory);
+        };
+        match self.caches.attach(&mut self.park, pool, cache) {
+            Ok(id) => Ok(id),
+            Err(_) => Err(ParkFault::NoMemory),
+        }
+    }
+
+    /// Takes the cache off a pool, with what it keeps, and tells its number.
+    pub(crate) fn detach_cache(&mut self, pool: PoolId) -> Option<CacheId>
+        ensures { (self.new, result) ≡ detached_cache self.old pool }
+    {
+        let id = self.park.detach_cache(pool)?;
+        self.caches.detach(id);
+        Some(id)
+    }
+
+    /// Expunges what a cache keeps, and gives how many replies those were.
+    pub(crate) fn expunge(&mut self, id: CacheId, covered: &Covered) -> usize
+        ensures { (self.new, result) ≡ expunged_cache self.old id covered.now }
+    {
+        self.caches.expunge(id, covered)
+    }
+
+    /// How much there is of each part; the rules are so many.
+    pub(crate) fn totals(&self, rules: usize) -> Totals
+        ensures { result ≡ totals_of rules self.now }
+    {
+        Totals {
+            rules,
+            servers: self.park.len(),
+            pools: self.park.pool_len(),
+            caches: self.caches.len(),
+            outstanding: self.table.len(),
+            kept: self.caches.kept_len(),
+        }
     }
 
     /// Gives a pool a policy.

@@ -1,0 +1,179 @@
+//! The attached caches.
+
+ghost use Rattle.std.specs.Prelude.{◌≡◌, ◌<◌, [], IfOk, IfSome, OnErr, Ok, Some, length, option_map};
+ghost use Rattle.std.specs.List.{position};
+ghost use Rattle.lb_cache.specs.Cache.{expunged, lacks};
+ghost use Rattle.lb_servers.specs.Park.{attached, cache_ready_of};
+ghost use Rattle.lb_servers.specs.Pool.{cache_at};
+ghost use Rattle.lb_core.specs.Caches.{cache_with, covers, expunged_in, has_number, kept_in, looked_in, no_caches, with_cache, without_cache, without_old, IsKeepable};
+
+use crate::cached::AttachedCache;
+use crate::command::Covered;
+use lb_cache::{Cache, Hit};
+use lb_servers::Park;
+use lb_wire::{CacheId, Kept, Key, PoolId};
+use std::alloc::{AllocError, Global};
+use std::marker::Model;
+
+/// A cache with its number.
+#[derive(Debug, Drop)]
+pub struct Shelf {
+    pub id: CacheId,
+    pub cache: Cache,
+}
+
+/// The attached caches by number. A contract sees them, and what all of them keep, as two plain lists.
+#[derive(Debug, Drop)]
+pub(crate) struct Caches {
+    shelves: Vec<Shelf>,
+}
+
+impl Model for Caches {
+    ghost use Rattle.lb_core.specs.Caches.{AreShelves, CacheLists, lists_of};
+
+    ghost Value = { CacheLists };
+
+    ghost view = { λ c. lists_of c.shelves.items };
+
+    ghost invariant = { λ c. AreShelves c.shelves.items };
+}
+
+impl Caches {
+    /// No cache. It takes no memory.
+    pub(crate) fn new(alloc: Global) -> Caches
+        ensures { result ≡ no_caches }
+    {
+        Caches {
+            shelves: Vec::new(alloc),
+        }
+    }
+
+    /// How many caches are attached.
+    pub(crate) fn len(&self) -> usize
+        ensures { result ≡ length self.now.caches }
+    {
+        self.shelves.len()
+    }
+
+    /// How many replies they keep together, dead ones that are still held included.
+    pub(crate) fn kept_len(&self) -> u128
+        ensures { result ≡ length self.now.kept }
+    {
+        let mut kept = 0;
+        for shelf in self.shelves.iter() {
+            kept += shelf.cache.len() as u128;
+        }
+        kept
+    }
+
+    /// The attached cache with a number.
+    pub(crate) fn with_id(&self, id: CacheId) -> Option<AttachedCache>
+        ensures { result ≡ cache_with id self.now.caches }
+    {
+        let shelf = &self.shelves[place_of(self.shelves.as_slice(), id)?];
+        Some(AttachedCache {
+            id: shelf.id,
+            max: shelf.cache.max(),
+            max_ttl: shelf.cache.max_ttl(),
+        })
+    }
+
+    /// The reply that a cache keeps under a key, where it lives at a moment, in milliseconds: a message with the key's question
+    /// name that may be aged by the seconds told.
+    pub(crate) fn look(&self, id: CacheId, key: &Key, now: u64) -> Option<Hit<'_>>
+        ensures found { option_map (λ hit. (hit.bytes.now, hit.secs)) result ≡ looked_in self.now.kept id key.now now }
+        ensures keepable { IfSome result (λ hit. IsKeepable key.now hit.bytes.now hit.secs) }
+    {
+        let at = place_of(self.shelves.as_slice(), id)?;
+        self.shelves[at].cache.look(key, now)
+    }
+
+    /// Keeps a reply in an attached cache under a key, for so many seconds from a moment on, in milliseconds.
+    pub(crate) fn keep(
+        &mut self,
+        cache: &AttachedCache,
+        key: Key,
+        bytes: &[u8],
+        life: u32,
+        now: u64,
+    ) -> Kept
+        requires attached { cache_with cache.now.id self.old.caches ≡ Some cache.now }
+        requires keepable { IsKeepable key bytes.now life }
+        ensures caches { self.new.caches ≡ self.old.caches }
+        ensures kept { (self.new.kept, result) ≡ kept_in (lacks result) cache.now.max self.old.kept (record { cache = cache.now.id; reply = record { key = key; bytes = bytes.now; moment = now; life = life } }) now }
+    {
+        match place_of(self.shelves.as_slice(), cache.id) {
+            Some(at) => self.shelves[at].cache.put(key, bytes, life, now),
+            // it is attached
+            None => unreachable!(),
+        }
+    }
+
+    /// Puts a new cache in the place of the one that a pool has, under the next number. Room is taken before anything changes.
+    pub(crate) fn attach(
+        &mut self,
+        park: &mut Park,
+        pool: PoolId,
+        cache: Cache,
+    ) -> Result<CacheId, AllocError>
+        requires ready { cache_ready_of park.old pool ≡ Ok tt }
+        requires empty { cache.replies ≡ [] }
+        ensures number { IfOk result (λ id. (park.new, id) ≡ attached park.old pool) }
+        ensures attached { IfOk result (λ id. self.new ≡ with_cache (record { id = id; max = cache.max; max_ttl = cache.max_ttl }) (without_old (cache_at park.old.pools pool.0) self.old)) }
+        ensures park { OnErr result (park.new ≡ park.old) }
+        ensures unchanged { OnErr result (self.new ≡ self.old) }
+    {
+        self.shelves.reserve(1)?;
+        if let Some(old) = park.cache_of(pool) {
+            self.detach(old);
+        }
+        let id = park.attach_cache(pool);
+        self.detach(id);
+        let at = self.shelves.partition_point(|shelf| shelf.id.0 < id.0);
+        self.shelves.insert(at, Shelf { id, cache }).unwrap();
+        Ok(id)
+    }
+
+    /// Takes a cache off, with what it keeps.
+    pub(crate) fn detach(&mut self, id: CacheId)
+        ensures { self.new ≡ without_cache id self.old }
+    {
+        self.shelves.retain(|shelf| !has_number(shelf, id));
+    }
+
+    /// Expunges what a cache keeps, dead replies too, and gives how many those were; none, where no such cache is attached.
+    pub(crate) fn expunge(&mut self, id: CacheId, covered: &Covered) -> usize
+        ensures { (self.new, result) ≡ expunged_in id covered.now self.old }
+    {
+        match place_of(self.shelves.as_slice(), id) {
+            Some(at) => expunge(&mut self.shelves[at].cache, covered),
+            None => 0,
+        }
+    }
+}
+
+/// Whether a cache has a number.
+fn has_number(shelf: &Shelf, id: CacheId) -> bool
+    ensures { result ≡ has_number id shelf.now }
+{
+    shelf.id.0 == id.0
+}
+
+/// Where the cache with a number stands.
+fn place_of(shelves: &[Shelf], id: CacheId) -> Option<usize>
+    ensures at { result ≡ position (has_number id) shelves.now }
+    ensures within { IfSome result (λ at. at < length shelves.now) }
+{
+    shelves.iter().position(|shelf| has_number(shelf, id))
+}
+
+/// Expunges a cache.
+fn expunge(cache: &mut Cache, covered: &Covered) -> usize
+    ensures { (cache.new, result) ≡ expunged (covers covered.now) cache.old }
+{
+    match covered {
+        Covered::Name(name, qtype) => cache.expunge_name(name, *qtype),
+        Covered::Suffix(name) => cache.expunge_suffix(name),
+        Covered::All => cache.expunge_all(),
+    }
+}

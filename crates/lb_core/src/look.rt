@@ -1,0 +1,99 @@
+//! Look-up: a query is answered by a reply that its pool's cache keeps, where one lives.
+
+ghost use Rattle.std.specs.Prelude.{◌≡◌, ◌&&◌, ◌==◌, not, IfOk, IfErr, OnErr, length, ◌≤◌};
+ghost use Rattle.lb_name.specs.Name.{lower_name};
+ghost use Rattle.lb_wire.specs.Flags.{opcode_of};
+ghost use Rattle.lb_wire.specs.Key.{key_with_name};
+ghost use Rattle.lb_wire.specs.Message.{Message, Lays};
+ghost use Rattle.lb_wire.specs.Query.{IsQuery, view_of};
+ghost use Rattle.lb_core.specs.Caches.{name_of_key, IsKeepable};
+ghost use Rattle.lb_core.specs.Forward.{sent_of};
+ghost use Rattle.lb_core.specs.Look.{may_use as may_use_spec, Hits, PoolAnswers};
+
+use crate::answer::{Answer, LocalReason};
+use crate::asked::{Asked, Routed};
+use crate::forward::forward;
+use crate::upstream::Upstream;
+use lb_cache::Hit;
+use lb_wire::{Key, Kind, Octets, Opcode, QueryView, age, clear_rd, cleared_is_laid, key_has_name, key_of, respell, restore_id};
+use std::alloc::{AllocError, Global};
+
+/// Answers a query by a pool: by a reply that its cache keeps, or by one of its servers. Where memory is wanting for the key, the
+/// answer or the entry, nothing changes and the query's bytes come back.
+pub(crate) fn answer_by_pool(
+    alloc: Global,
+    upstream: &mut Upstream,
+    asked: &Asked,
+    bytes: Vec<u8>,
+    view: &QueryView,
+    routed: Routed,
+) -> Result<Answer, Vec<u8>>
+    requires view { (m : Message) × Lays bytes.items m × IsQuery m × (view.now ≡ view_of m) }
+    ensures answers { IfOk result (λ answer. PoolAnswers upstream.old asked.now bytes.items view.now routed answer upstream.new) }
+    ensures back { IfErr result (λ back. back.items ≡ bytes.items) }
+    ensures unchanged { OnErr result (upstream.new ≡ upstream.old) }
+{
+    if !may_use(view, &routed) {
+        return forward(alloc, upstream, asked, bytes, view, &routed, None);
+    }
+    let Some(cache) = upstream.cache_of(routed.pool) else {
+        return forward(alloc, upstream, asked, bytes, view, &routed, None);
+    };
+    let mut bytes = bytes;
+    let Ok(key) = key_to_send(alloc, &mut bytes, view, asked.kind, routed.no_recurse) else {
+        return Err(bytes);
+    };
+    if let Some(hit) = upstream.look(cache, &key, asked.moment) {
+        return match hit_answer(alloc, &hit, &key, view) {
+            Ok(answer) => Ok(answer),
+            Err(_) => Err(bytes),
+        };
+    }
+    forward(alloc, upstream, asked, bytes, view, &routed, Some((cache, key)))
+}
+
+/// Whether a query may use a cache.
+fn may_use(view: &QueryView, routed: &Routed) -> bool
+    ensures { result ≡ may_use_spec view.now routed.now }
+{
+    view.flags.opcode() == Opcode::Query && !routed.skip_cache
+}
+
+/// The key of the message to be sent. The query's octets come out as they went in.
+fn key_to_send(
+    alloc: Global,
+    bytes: &mut Vec<u8>,
+    view: &QueryView,
+    kind: Kind,
+    no_recurse: bool,
+) -> Result<Key, AllocError>
+    requires view { (m : Message) × Lays bytes.old.items m × (view.now ≡ view_of m) }
+    ensures key { IfOk result (λ key. key ≡ key_with_name kind view.now.name (sent_of no_recurse bytes.old.items)) }
+    ensures name { IfOk result (λ key. name_of_key key ≡ lower_name view.now.name) }
+    ensures unchanged { bytes.new.items ≡ bytes.old.items }
+{
+    // Laws, which do nothing.
+    cleared_is_laid();
+    key_has_name();
+    if !no_recurse {
+        return key_of(alloc, bytes.as_slice(), view, kind);
+    }
+    let flags = [bytes[2], bytes[3]];
+    clear_rd(bytes);
+    let key = key_of(alloc, bytes.as_slice(), view, kind);
+    bytes[2..4].copy_from_slice(&flags);
+    key
+}
+
+/// A kept reply as the client of a query gets it.
+fn hit_answer(alloc: Global, hit: &Hit<'_>, key: &Key, view: &QueryView) -> Result<Answer, AllocError>
+    requires keepable { IsKeepable key.now hit.now.bytes.now hit.now.secs }
+    requires name { name_of_key key.now ≡ lower_name view.now.name }
+    ensures { IfOk result (λ answer. (octets : List ℕ) × Hits view.now hit.now.bytes.now hit.now.secs octets × (answer ≡ Local octets locals.Hit)) }
+{
+    let mut bytes = Vec::from_slice(alloc, hit.bytes)?;
+    age(&mut bytes, hit.secs);
+    respell(&mut bytes, &view.name);
+    restore_id(&mut bytes, view.id);
+    Ok(Answer::Local(Octets::from_vec(bytes), LocalReason::Hit))
+}
