@@ -12,5 +12,6 @@ mod Aged
 mod Outlives
 mod Spoofs
 mod Keys
+mod Undesired
 mod Replies
 mod Spellings

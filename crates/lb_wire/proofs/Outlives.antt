@@ -38,3 +38,9 @@ pub all_outlive : (secs n : ℕ) (records : List Record) → least_ttl records �
 all_outlive secs n records is low =
     let P : Option ℕ → Type 0 = λ m. AtLeast secs m in
     outlives secs records (subst P (sym is) low)
+
+-- where there is no number
+pub none_outlives : (secs : ℕ) (records : List Record) → least_ttl records ≡ None → AllByRecursion (Outlives secs) records
+none_outlives secs records is =
+    let P : Option ℕ → Type 0 = λ m. AtLeast secs m in
+    outlives secs records (subst P (sym is) tt)

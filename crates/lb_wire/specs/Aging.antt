@@ -1,5 +1,5 @@
 -- Messages some seconds later.
-use Rattle.std.specs.Prelude.{◌≡◌, ℕ, ◌-◌, ◌≤◌, false, Some, List, ◌++◌, take, map, if◌then◌else◌}
+use Rattle.std.specs.Prelude.{◌≡◌, ℕ, ◌-◌, ◌≤◌, false, None, Some, List, ◌++◌, take, map, if◌then◌else◌}
 use Rattle.std.specs.List.{flat_map, AllByRecursion}
 use Rattle.lb_wire.specs.Record.{Record, record_octets}
 use Rattle.lb_wire.specs.Opt.{is_opt, ttl_value, least_ttl}
@@ -16,6 +16,10 @@ aged_record secs r = record r { ttl = if is_opt r then r.ttl else r.ttl - secs }
 -- every record outlives the least TTL of them all
 abbrev pub LeastIsOutlived : Type 0
 LeastIsOutlived = (secs n : ℕ) (records : List Record) → least_ttl records ≡ Some n → secs ≤ n → AllByRecursion (Outlives secs) records
+
+-- where there is no least TTL, the records are OPT alone, and outlive any time
+abbrev pub NoneIsOutlived : Type 0
+NoneIsOutlived = (secs : ℕ) (records : List Record) → least_ttl records ≡ None → AllByRecursion (Outlives secs) records
 
 -- the message so many seconds later
 abbrev pub aged : ℕ → Message → Message

@@ -40,3 +40,11 @@ without_recursion bytes = take 2 bytes ++ (two_octets (without_rd (number_at byt
 -- bytes read in at most one way
 abbrev pub OneReading : Type 0
 OneReading = (bytes : List ℕ) (a b : Result QueryView QueryFault) → Reads bytes a → Reads bytes b → a ≡ b
+
+-- the message with RD 0
+abbrev pub undesired : Message → Message
+undesired m = record m { header = record m.header { flags = record { 0 = without_rd m.header.flags.0 } } }
+
+-- octets with RD 0 are laid as the message with RD 0
+abbrev pub ClearedIsLaid : Type 0
+ClearedIsLaid = (bytes : List ℕ) (m : Message) → Lays bytes m → Lays (without_recursion bytes) (undesired m)

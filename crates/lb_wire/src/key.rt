@@ -2,7 +2,7 @@
 
 ghost use Rattle.std.specs.Prelude.{◌≡◌, IfOk};
 ghost use Rattle.lb_wire.specs.Message.{Message, Lays};
-ghost use Rattle.lb_wire.specs.Key.{key_octets};
+ghost use Rattle.lb_wire.specs.Key.{key_octets, key_with_name};
 
 use crate::laws::one_message;
 use crate::octets::Octets;
@@ -40,6 +40,7 @@ pub fn key_of(alloc: Global, bytes: &[u8], view: &QueryView, kind: Kind) -> Resu
     requires { (m : Message) × Lays bytes.now m × (view.now.name ≡ m.name) }
     ensures kind { IfOk result (λ key. key.kind ≡ kind) }
     ensures octets { IfOk result (λ key. (m : Message) → Lays bytes.now m → key.octets ≡ key_octets m) }
+    ensures key { IfOk result (λ key. key ≡ key_with_name kind view.now.name bytes.now) }
 {
     // laws: the calls do nothing
     one_message();

@@ -39,7 +39,10 @@ pub use flags::{Flags, clear_rd};
 pub use ids::{CacheId, PoolId, RuleId, ServerId};
 pub use kept::Kept;
 pub use key::{Key, key_of};
-pub use laws::{least_is_outlived, one_message, one_reading, one_reply_reading, one_survey};
+pub use laws::{
+    cleared_is_laid, key_has_name, least_is_outlived, none_is_outlived, one_message, one_reading,
+    one_reply_reading, one_survey,
+};
 pub use octets::Octets;
 pub use opcode::Opcode;
 pub use opt::Opt;
