@@ -9,7 +9,7 @@ use Rattle.lb_wire.specs.declared.kept.Kept.{Kept}
 use Rattle.lb_wire.specs.declared.kept.Kept.TheVariants.{Yes, NoRoom, NoMemory}
 use Rattle.lb_wire.specs.declared.key.Key.{Key}
 use Rattle.lb_cache.specs.declared.reply.CachedReply.{CachedReply}
-use Rattle.lb_cache.specs.Question.{covers_all, covers_name, covers_suffix}
+use Rattle.lb_cache.specs.Question.{asks_name, asks_under, question_of_key}
 use Rattle.lb_cache.specs.Reply.{has_key, hit_of, is_before, is_dead}
 use Rattle.lb_core.specs.declared.cached.AttachedCache.{AttachedCache}
 use Rattle.lb_core.specs.declared.cached.KeptReply.{KeptReply}
@@ -74,11 +74,14 @@ kept_in lacking max kept k now =
     else (if list_any (is_dead_in k.cache now) kept then put_unless lacking kept k (filter (λ o. not (is_dead_in k.cache now o)) kept)
     else (kept, NoRoom)))
 
--- whether an expunge covers a reply
+-- whether an expunge covers a key: each type is covered where none is stated
+abbrev pub covers_key : Covered → Key → Bool
+covers_key (covereds.Name name qtype) key = asks_name name qtype (question_of_key key.octets)
+covers_key (covereds.Suffix name) key = asks_under name (question_of_key key.octets)
+covers_key covereds.All key = true
+
 abbrev pub covers : Covered → CachedReply → Bool
-covers (covereds.Name name qtype) r = covers_name name qtype r
-covers (covereds.Suffix name) r = covers_suffix name r
-covers covereds.All r = covers_all r
+covers covered r = covers_key covered r.key
 
 -- whether an expunge of a cache covers a kept reply
 abbrev pub covers_in : CacheId → Covered → KeptReply → Bool

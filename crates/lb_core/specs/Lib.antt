@@ -43,4 +43,5 @@ pub mod Edit
 pub mod Reading
 pub mod Routes
 pub mod Step
+pub mod Provenance
 pub mod Runs

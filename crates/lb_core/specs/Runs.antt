@@ -12,6 +12,8 @@ use Rattle.lb_core.specs.declared.answer.Answer.TheVariants.{Expired, Quiet}
 use Rattle.lb_core.specs.Plain.{Plain, at_plain}
 use Rattle.lb_core.specs.Answer.{marked}
 use Rattle.lb_core.specs.Forward.{failure_of}
+use Rattle.lb_core.specs.Provenance.{MeetsProvenance}
+use Rattle.lb_core.specs.Routes.{routes_of}
 use Rattle.lb_core.specs.Step.{Answers}
 
 -- a run: the events are given these answers, one after the other
@@ -44,3 +46,9 @@ TicksEndTheDue = (old new : Plain) (now : ℕ) (answers : List Answer) →
     IsRun old (Tick now ∷ replicate (length answers) (Tick now)) (answers ++ Quiet ∷ []) new → AllByRecursion (λ answer. answer ≡ Quiet → ⊥) answers →
     GiveUp (filter (is_due (max old.moment now)) old.outstanding) answers
     × (new ≡ record (at_plain now old) { outstanding = filter (λ w. not (is_due (max old.moment now) w)) old.outstanding })
+
+-- in every run that begins without outstanding queries and kept replies, the answers from caches come from the replies that
+-- were kept
+abbrev pub CachedAnswersAreKeptReplies : Type 0
+CachedAnswersAreKeptReplies = (old new : Plain) (events : List Event) (answers : List Answer) →
+    old.outstanding ≡ [] → old.kept ≡ [] → IsRun old events answers new → MeetsProvenance (routes_of old) events answers

@@ -45,7 +45,9 @@ pub(crate) fn edit(
         Command::ServerMode(name, mode) => set_mode(upstream, &name, mode),
         Command::PoolAdd(name) => add_pool(upstream, name),
         Command::PoolPolicy(name, policy) => set_policy(upstream, name, policy),
-        Command::CacheAttach(name, max, shards, max_ttl) => attach_cache(alloc, upstream, &name, max, shards, max_ttl),
+        Command::CacheAttach(name, max, shards, max_ttl) => attach_cache(
+            alloc, upstream, &name, max, shards, max_ttl,
+        ),
         Command::CacheDetach(name) => detach_cache(upstream, &name),
         Command::Expunge(name, covered) => expunge(upstream, &name, &covered),
         Command::Show => Answer::Edited(Note::Shown(upstream.totals(chain.len()))),

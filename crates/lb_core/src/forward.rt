@@ -40,7 +40,14 @@ pub(crate) fn forward(
     let Some(server) = upstream.pick(routed.pool) else {
         return Ok(refused(bytes, view, Rcode::ServFail, LocalReason::NoServer));
     };
-    let Ok(entry) = entry_of(alloc, upstream.timeout(), asked, bytes.as_slice(), view, ask) else {
+    let Ok(entry) = entry_of(
+        alloc,
+        upstream.timeout(),
+        asked,
+        bytes.as_slice(),
+        view,
+        ask,
+    ) else {
         return Err(bytes);
     };
     let lane = lane_of(asked.kind);

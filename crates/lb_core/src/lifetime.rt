@@ -1,8 +1,6 @@
 //! How long a reply lives in a cache.
 
-ghost use Rattle.std.specs.Prelude.{◌≡◌, ◌×◌, ℕ, Option, Some, None};
-ghost use Rattle.lb_wire.specs.Reply.{Replies, Surveys};
-ghost use Rattle.lb_core.specs.Caches.{IsKeepable, name_of_key};
+ghost use Rattle.std.specs.Prelude.{◌≡◌};
 ghost use Rattle.lb_core.specs.Lifetime.{life_by as life_by_spec, least_of as least_of_spec, is_keepable as is_keepable_spec, LivesFor};
 
 use lb_cache::MaxTtl;

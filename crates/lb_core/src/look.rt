@@ -15,7 +15,10 @@ use crate::asked::{Asked, Routed};
 use crate::forward::forward;
 use crate::upstream::Upstream;
 use lb_cache::Hit;
-use lb_wire::{Key, Kind, Octets, Opcode, QueryView, age, clear_rd, cleared_is_laid, key_has_name, key_of, respell, restore_id};
+use lb_wire::{
+    Key, Kind, Octets, Opcode, QueryView, age, clear_rd, cleared_is_laid, key_has_name, key_of,
+    respell, restore_id,
+};
 use std::alloc::{AllocError, Global};
 
 /// Answers a query by a pool: by a reply that its cache keeps, or by one of its servers. Where memory is wanting for the key, the
@@ -49,7 +52,15 @@ pub(crate) fn answer_by_pool(
             Err(_) => Err(bytes),
         };
     }
-    forward(alloc, upstream, asked, bytes, view, &routed, Some((cache, key)))
+    forward(
+        alloc,
+        upstream,
+        asked,
+        bytes,
+        view,
+        &routed,
+        Some((cache, key)),
+    )
 }
 
 /// Whether a query may use a cache.
@@ -86,7 +97,12 @@ fn key_to_send(
 }
 
 /// A kept reply as the client of a query gets it.
-fn hit_answer(alloc: Global, hit: &Hit<'_>, key: &Key, view: &QueryView) -> Result<Answer, AllocError>
+fn hit_answer(
+    alloc: Global,
+    hit: &Hit<'_>,
+    key: &Key,
+    view: &QueryView,
+) -> Result<Answer, AllocError>
     requires keepable { IsKeepable key.now hit.now.bytes.now hit.now.secs }
     requires name { name_of_key key.now ≡ lower_name view.now.name }
     ensures { IfOk result (λ answer. (octets : List ℕ) × Hits view.now hit.now.bytes.now hit.now.secs octets × (answer ≡ Local octets locals.Hit)) }

@@ -71,7 +71,13 @@ fn keep_and_deliver(
     requires same { belongs view.now entry.name entry.qtype entry.qclass ≡ true }
     ensures { (told : KeptValue) × (list : List KeptReply) × Keeps (marked result) upstream.old moment bytes.items view.now entry.cache told list × (upstream.new ≡ record upstream.old { kept = list }) × (result ≡ Deliver entry.origin (delivered_octets view.now entry bytes.items) told) }
 {
-    let Entry { origin, asked, name, cache, .. } = entry;
+    let Entry {
+        origin,
+        asked,
+        name,
+        cache,
+        ..
+    } = entry;
     let kept = keep(upstream, moment, bytes.as_slice(), view, cache);
     let id = query_id(asked.as_slice());
     Answer::Deliver(origin, delivered(bytes, view, &name, id), kept)
