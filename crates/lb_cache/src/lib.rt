@@ -1,7 +1,9 @@
-//! The packet cache of one pool: replies as servers sent them, by the keys of the queries that they answer.
+//! The packet caches of pools: replies as servers sent them, by the keys of the queries that they answer.
 #![tactic(auto)]
 
 mod cache;
+mod cached;
+mod caches;
 mod limits;
 mod question;
 mod reply;
@@ -9,5 +11,7 @@ mod reply;
 mod tests;
 
 pub use cache::Cache;
+pub use cached::{AttachedCache, Covered, KeptReply};
+pub use caches::{Caches, Shelf};
 pub use limits::{MaxEntries, MaxTtl, Shards};
 pub use reply::{CachedReply, Hit};

@@ -19,7 +19,7 @@ use Rattle.lb_core.specs.declared.command.StatedAction.{StatedAction}
 use Rattle.lb_core.specs.declared.command.StatedAction.TheVariants as stated
 use Rattle.lb_core.specs.declared.command.StatedRule.{StatedRule}
 use Rattle.lb_core.specs.declared.command.Command.{Command}
-use Rattle.lb_core.specs.declared.command.Covered.{Covered}
+use Rattle.lb_cache.specs.declared.cached.Covered.{Covered}
 use Rattle.lb_core.specs.declared.command.Command.TheVariants.{RuleAdd, RuleRemove, RuleMove, ServerAdd, ServerRemove, ServerMode, PoolAdd, PoolPolicy, CacheAttach, CacheDetach, Expunge, SetTimeout, Show}
 use Rattle.lb_core.specs.declared.answer.Answer.{Answer}
 use Rattle.lb_core.specs.declared.answer.Answer.TheVariants.{Edited, Refused}

@@ -25,11 +25,11 @@ pub use Rattle.lb_wire.specs.Aging
 pub use Rattle.lb_cache.specs.Reply as CacheReply
 pub use Rattle.lb_cache.specs.Question as CacheQuestion
 pub use Rattle.lb_cache.specs.Cache as CacheOfOne
+pub use Rattle.lb_cache.specs.Caches
 pub use Rattle.lb_table.specs.Place
 pub use Rattle.lb_table.specs.Entry
 pub use Rattle.lb_table.specs.Table
 pub mod Answer
-pub mod Caches
 pub mod Upstream
 pub mod Plain
 pub mod Forward

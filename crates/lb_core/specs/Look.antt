@@ -15,7 +15,7 @@ use Rattle.lb_core.specs.declared.answer.Answer.{Answer}
 use Rattle.lb_core.specs.declared.answer.Answer.TheVariants.{Local}
 use Rattle.lb_core.specs.declared.answer.LocalReason.TheVariants as locals
 use Rattle.lb_core.specs.Answer.{Leaves}
-use Rattle.lb_core.specs.Caches.{looked_in}
+use Rattle.lb_cache.specs.Caches.{looked_in}
 use Rattle.lb_core.specs.Forward.{Forwards, sent_of}
 use Rattle.lb_core.specs.Upstream.{Upstreams}
 

@@ -6,8 +6,8 @@ use Rattle.lb_chain.specs.Seen.{seen_rules}
 use Rattle.lb_servers.specs.declared.pool.Pool.{Pool}
 use Rattle.lb_servers.specs.declared.server.Server.{Server}
 use Rattle.lb_table.specs.declared.entry.Waiting.{Waiting}
-use Rattle.lb_core.specs.declared.cached.AttachedCache.{AttachedCache}
-use Rattle.lb_core.specs.declared.cached.KeptReply.{KeptReply}
+use Rattle.lb_cache.specs.declared.cached.AttachedCache.{AttachedCache}
+use Rattle.lb_cache.specs.declared.cached.KeptReply.{KeptReply}
 use Rattle.lb_core.specs.declared.check.Check.{Check}
 use Rattle.lb_core.specs.Upstream.{Upstreams, no_upstreams}
 

@@ -18,7 +18,7 @@ use Rattle.lb_servers.specs.declared.pool.PoolName.{PoolName}
 use Rattle.lb_table.specs.declared.place.Place.{Place}
 use Rattle.lb_table.specs.Place.{at_place, same_place}
 use Rattle.lb_cache.specs.Reply.{same_key}
-use Rattle.lb_core.specs.declared.cached.AttachedCache.{AttachedCache}
+use Rattle.lb_cache.specs.declared.cached.AttachedCache.{AttachedCache}
 use Rattle.lb_core.specs.declared.command.Command.{Command}
 use Rattle.lb_core.specs.declared.command.Command.TheVariants.{CacheAttach, CacheDetach, Expunge}
 use Rattle.lb_core.specs.declared.event.Event.{Event}
@@ -28,7 +28,7 @@ use Rattle.lb_core.specs.declared.answer.Answer.TheVariants.{Deliver, Edited, Fo
 use Rattle.lb_core.specs.declared.answer.LocalReason.{LocalReason}
 use Rattle.lb_core.specs.declared.answer.LocalReason.TheVariants as locals
 use Rattle.lb_core.specs.Answer.{marked}
-use Rattle.lb_core.specs.Caches.{cache_with, covers_key}
+use Rattle.lb_cache.specs.Caches.{cache_with, covers_key}
 use Rattle.lb_core.specs.Lifetime.{LivesFor}
 use Rattle.lb_core.specs.Look.{Hits, ask_of}
 use Rattle.lb_core.specs.Query.{default_pool, is_transfer, to_pool}

@@ -20,10 +20,10 @@ use Rattle.lb_table.specs.Table.{entry_at, taken_at, waits_at}
 use Rattle.lb_core.specs.declared.answer.Answer.{Answer}
 use Rattle.lb_core.specs.declared.answer.Answer.TheVariants.{Deliver, Ignored}
 use Rattle.lb_core.specs.declared.answer.IgnoreReason.TheVariants as ignores
-use Rattle.lb_core.specs.declared.cached.AttachedCache.{AttachedCache}
-use Rattle.lb_core.specs.declared.cached.KeptReply.{KeptReply}
+use Rattle.lb_cache.specs.declared.cached.AttachedCache.{AttachedCache}
+use Rattle.lb_cache.specs.declared.cached.KeptReply.{KeptReply}
 use Rattle.lb_core.specs.Answer.{Leaves}
-use Rattle.lb_core.specs.Caches.{cache_with, kept_in}
+use Rattle.lb_cache.specs.Caches.{cache_with, kept_in}
 use Rattle.lb_core.specs.Forward.{with_id}
 use Rattle.lb_core.specs.Lifetime.{LivesFor}
 use Rattle.lb_core.specs.Upstream.{Upstreams}
@@ -47,15 +47,19 @@ kept_for lacking ups moment bytes cache key life =
     if nat_lt 0 life then kept_in lacking cache.max ups.kept (record { cache = cache.id; reply = record { key = key; bytes = bytes; moment = moment; life = life } }) moment
     else (ups.kept, kept.No)
 
+-- a list and what is told of it are what keeping gives
+abbrev pub IsLeft : List KeptReply → Kept → List KeptReply × Kept → Type 0
+IsLeft new told done = (new, told) ≡ done
+
 -- what becomes of a reply at the cache that its query asked, where it is still attached: it is kept as the server sent it, for
 -- as long as its table of lifetimes says
 abbrev pub KeepsAt : Bool → Upstreams → ℕ → List ℕ → ReplyView → Key → Option AttachedCache → Kept → List KeptReply → Type 0
-KeepsAt lacking ups moment bytes view key None told new = (new, told) ≡ (ups.kept, kept.No)
-KeepsAt lacking ups moment bytes view key (Some cache) told new = (life : ℕ) × LivesFor cache.max_ttl bytes view life × ((new, told) ≡ kept_for lacking ups moment bytes cache key life)
+KeepsAt lacking ups moment bytes view key None told new = IsLeft new told (ups.kept, kept.No)
+KeepsAt lacking ups moment bytes view key (Some cache) told new = (life : ℕ) × LivesFor cache.max_ttl bytes view life × IsLeft new told (kept_for lacking ups moment bytes cache key life)
 
 -- what becomes of a reply whose query asked this of a cache, or nothing of any
 abbrev pub Keeps : Bool → Upstreams → ℕ → List ℕ → ReplyView → Option (CacheId × Key) → Kept → List KeptReply → Type 0
-Keeps lacking ups moment bytes view None told new = (new, told) ≡ (ups.kept, kept.No)
+Keeps lacking ups moment bytes view None told new = IsLeft new told (ups.kept, kept.No)
 Keeps lacking ups moment bytes view (Some ask) told new = KeepsAt lacking ups moment bytes view ask.1 (cache_with ask.0 ups.caches) told new
 
 -- a reply that belongs to a query: it goes to its client, and may be kept

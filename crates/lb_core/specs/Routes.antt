@@ -19,10 +19,10 @@ use Rattle.lb_core.specs.declared.event.Event.{Event}
 use Rattle.lb_core.specs.declared.event.Event.TheVariants.{Query, Edit}
 use Rattle.lb_core.specs.declared.command.Command.{Command}
 use Rattle.lb_core.specs.declared.command.Command.TheVariants.{RuleAdd, RuleRemove, RuleMove, PoolAdd, CacheAttach, CacheDetach}
-use Rattle.lb_core.specs.declared.cached.AttachedCache.{AttachedCache}
+use Rattle.lb_cache.specs.declared.cached.AttachedCache.{AttachedCache}
 use Rattle.lb_core.specs.declared.answer.Answer.{Answer}
 use Rattle.lb_core.specs.declared.answer.Answer.TheVariants.{Edited}
-use Rattle.lb_core.specs.Caches.{CacheLists, has_id, with_cache}
+use Rattle.lb_cache.specs.Caches.{CacheLists, has_id, with_cache}
 use Rattle.lb_core.specs.Plain.{Plain}
 use Rattle.lb_core.specs.Query.{is_transfer}
 use Rattle.lb_core.specs.Edit.{place_or_end, rule_by}

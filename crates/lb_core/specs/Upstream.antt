@@ -33,11 +33,11 @@ use Rattle.lb_table.specs.declared.fault.EnterFault.{EnterFault}
 use Rattle.lb_table.specs.declared.fault.EnterFault.TheVariants.{LaneFull, NoMemory}
 use Rattle.lb_table.specs.Place.{at_place}
 use Rattle.lb_table.specs.Table.{FirstFree, entered, is_for}
-use Rattle.lb_core.specs.Caches.{CacheLists, expunged_in, name_of_key, with_cache, without_old}
-use Rattle.lb_core.specs.declared.cached.AttachedCache.{AttachedCache}
-use Rattle.lb_core.specs.declared.cached.KeptReply.{KeptReply}
+use Rattle.lb_cache.specs.Caches.{CacheLists, expunged_in, name_of_key, with_cache, without_old}
+use Rattle.lb_cache.specs.declared.cached.AttachedCache.{AttachedCache}
+use Rattle.lb_cache.specs.declared.cached.KeptReply.{KeptReply}
 use Rattle.lb_core.specs.declared.answer.Totals.{Totals}
-use Rattle.lb_core.specs.declared.command.Covered.{Covered}
+use Rattle.lb_cache.specs.declared.cached.Covered.{Covered}
 use Rattle.lb_core.specs.declared.check.Check.{Check}
 use Rattle.lb_core.specs.declared.check.CheckSpec.{CheckSpec}
 

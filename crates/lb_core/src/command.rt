@@ -2,12 +2,11 @@
 
 use crate::check::CheckSpec;
 use crate::timeout::Timeout;
-use lb_cache::{MaxEntries, MaxTtl, Shards};
+use lb_cache::{Covered, MaxEntries, MaxTtl, Shards};
 use lb_chain::Addrs;
-use lb_name::Name;
 use lb_servers::{Ident, Mode, Policy, PoolName, ServerSpec};
 use lb_terms::CheckedTerm;
-use lb_wire::{Rcode, RecordType, RuleId};
+use lb_wire::{Rcode, RuleId};
 
 /// An operator's command. Servers and pools are named by name; a name that is not there is refused before all else.
 #[derive(Debug, Drop)]
@@ -39,17 +38,6 @@ pub enum Command {
     SetTimeout(Timeout),
     /// Asks how much there is of each part; it changes nothing.
     Show,
-}
-
-/// What an expunge covers: dead replies too.
-#[derive(Debug, Drop)]
-pub enum Covered {
-    /// The replies for this question name, without regard to case, and for this type, where one is stated.
-    Name(Name, Option<RecordType>),
-    /// The replies for this question name and for those below it.
-    Suffix(Name),
-    /// Every reply.
-    All,
 }
 
 /// A rule as a command states it: its pool by name.

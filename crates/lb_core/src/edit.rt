@@ -15,9 +15,9 @@ ghost use Rattle.lb_core.specs.declared.answer.Answer.{Answer};
 
 use crate::answer::{Answer, EditFault, Note};
 use crate::check::CheckSpec;
-use crate::command::{Command, Covered, StatedAction, StatedRule};
+use crate::command::{Command, StatedAction, StatedRule};
 use crate::upstream::Upstream;
-use lb_cache::{MaxEntries, MaxTtl, Shards};
+use lb_cache::{Covered, MaxEntries, MaxTtl, Shards};
 use lb_chain::{Action, Chain, ChainFault, Rule, seen_twice};
 use lb_servers::{Ident, Mode, ParkFault, Policy, PoolName, ServerSpec};
 use lb_wire::RuleId;

@@ -6,7 +6,7 @@ ghost use Rattle.lb_wire.specs.Message.{Message, Lays};
 ghost use Rattle.lb_wire.specs.Numbers.{rcode_number};
 ghost use Rattle.lb_wire.specs.Answer.{refusal_of};
 ghost use Rattle.lb_wire.specs.Query.{IsQuery, view_of};
-ghost use Rattle.lb_core.specs.Caches.{name_of_key};
+ghost use Rattle.lb_cache.specs.Caches.{name_of_key};
 ghost use Rattle.lb_core.specs.Forward.{entry_of as entry_of_spec, Forwards, lane_of as lane_of_spec, sent_of, with_id};
 ghost use Rattle.lb_core.specs.declared.answer.Answer.TheVariants.{Local};
 ghost use Rattle.lb_core.specs.Upstream.{Upstreams};

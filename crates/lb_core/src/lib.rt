@@ -5,8 +5,6 @@
 mod answer;
 mod asked;
 mod balancer;
-mod cached;
-mod caches;
 mod check;
 mod command;
 mod edit;
@@ -27,9 +25,8 @@ mod upstream;
 
 pub use answer::{Answer, DropReason, EditFault, IgnoreReason, LocalReason, Note, Totals};
 pub use balancer::Balancer;
-pub use cached::{AttachedCache, KeptReply};
 pub use check::{Check, CheckSpec};
-pub use command::{Command, Covered, StatedAction, StatedRule};
+pub use command::{Command, StatedAction, StatedRule};
 pub use event::Event;
 pub use laws::{one_run_per_marks, refusals_change_nothing, routes_follow, ticks_end_the_due};
 pub use runs::run;

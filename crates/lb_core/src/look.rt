@@ -1,14 +1,16 @@
 //! Look-up: a query is answered by a reply that its pool's cache keeps, where one lives.
 
-ghost use Rattle.std.specs.Prelude.{◌≡◌, ◌&&◌, ◌==◌, not, IfOk, IfErr, OnErr, length, ◌≤◌};
+ghost use Rattle.std.specs.Prelude.{◌≡◌, ◌&&◌, ◌==◌, not, IfOk, IfErr, OnErr, List, ℕ};
 ghost use Rattle.lb_name.specs.Name.{lower_name};
 ghost use Rattle.lb_wire.specs.Flags.{opcode_of};
 ghost use Rattle.lb_wire.specs.Key.{key_with_name};
 ghost use Rattle.lb_wire.specs.Message.{Message, Lays};
 ghost use Rattle.lb_wire.specs.Query.{IsQuery, view_of};
-ghost use Rattle.lb_core.specs.Caches.{name_of_key, IsKeepable};
+ghost use Rattle.lb_cache.specs.Caches.{name_of_key, IsKeepable};
 ghost use Rattle.lb_core.specs.Forward.{sent_of};
 ghost use Rattle.lb_core.specs.Look.{may_use as may_use_spec, Hits, PoolAnswers};
+ghost use Rattle.lb_core.specs.declared.answer.Answer.TheVariants.{Local};
+ghost use Rattle.lb_core.specs.declared.answer.LocalReason.TheVariants as locals;
 
 use crate::answer::{Answer, LocalReason};
 use crate::asked::{Asked, Routed};

@@ -9,7 +9,7 @@ ghost use Rattle.lb_servers.specs.Pool.{cache_at, pool_named, with_policy, chang
 ghost use Rattle.lb_servers.specs.Server.{marked};
 ghost use Rattle.lb_table.specs.Place.{at_place};
 ghost use Rattle.lb_table.specs.Table.{due, entry_at};
-ghost use Rattle.lb_core.specs.Caches.{cache_with, kept_in, looked_in, IsKeepable};
+ghost use Rattle.lb_cache.specs.Caches.{cache_with, kept_in, looked_in, IsKeepable};
 ghost use Rattle.lb_core.specs.Upstream.{added_checked, attached_cache, detached_cache, expunged_cache, totals_of, backends_of, no_upstreams, on_backends, picked_of, put_into, removed_checked, ByNumber, IsAsked, IsChecked, SendsBy, takes_turns as takes_turns_of, turned_if, is_check};
 ghost use Rattle.lb_core.specs.Edit.{server_by};
 ghost use Rattle.lb_core.specs.Expiry.{without_expired};
@@ -17,12 +17,9 @@ ghost use Rattle.lb_core.specs.Health.{result_taken};
 ghost use Rattle.lb_core.specs.Reply.{without};
 
 use crate::answer::Totals;
-use crate::cached::AttachedCache;
-use crate::caches::Caches;
 use crate::check::{Check, CheckSpec};
-use crate::command::Covered;
 use crate::timeout::Timeout;
-use lb_cache::{Cache, Hit, MaxEntries, MaxTtl, Shards};
+use lb_cache::{AttachedCache, Cache, Caches, Covered, Hit, MaxEntries, MaxTtl, Shards};
 use lb_health::Changed;
 use lb_servers::{Ident, Mode, Park, ParkFault, Policy, PoolName, ServerSpec};
 use lb_table::{EnterFault, Entry, Table, Waiting};
@@ -292,8 +289,9 @@ impl Upstream {
         let Ok(cache) = Cache::new(alloc, max, shards, max_ttl) else {
             return Err(ParkFault::NoMemory);
         };
-        match self.caches.attach(&mut self.park, pool, cache) {
-            Ok(id) => Ok(id),
+        let id = CacheId(self.park.next_cache() as u64);
+        match self.caches.attach(self.park.cache_of(pool), id, cache) {
+            Ok(()) => Ok(self.park.attach_cache(pool)),
             Err(_) => Err(ParkFault::NoMemory),
         }
     }

@@ -1,7 +1,9 @@
 //! What contracts see of caches: those that are attached, and what they keep.
 
-use lb_cache::{CachedReply, MaxEntries, MaxTtl};
-use lb_wire::CacheId;
+use crate::limits::{MaxEntries, MaxTtl};
+use crate::reply::CachedReply;
+use lb_name::Name;
+use lb_wire::{CacheId, RecordType};
 
 /// An attached cache, without what it keeps.
 #[derive(Clone, Copy, Debug, PartialEq, Eq)]
@@ -18,4 +20,15 @@ pub struct AttachedCache {
 pub struct KeptReply {
     pub cache: CacheId,
     pub reply: CachedReply,
+}
+
+/// What an expunge covers: dead replies too.
+#[derive(Debug, Drop)]
+pub enum Covered {
+    /// The replies for this question name, without regard to case, and for this type, where one is stated.
+    Name(Name, Option<RecordType>),
+    /// The replies for this question name and for those below it.
+    Suffix(Name),
+    /// Every reply.
+    All,
 }

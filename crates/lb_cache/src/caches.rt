@@ -1,17 +1,14 @@
-//! The attached caches.
+//! The attached caches of all pools.
 
-ghost use Rattle.std.specs.Prelude.{◌≡◌, ◌<◌, [], IfOk, IfSome, OnErr, Ok, Some, length, option_map};
+ghost use Rattle.std.specs.Prelude.{◌≡◌, ◌<◌, [], IfOk, IfSome, OnErr, OnOk, Some, length, option_map};
 ghost use Rattle.std.specs.List.{position};
 ghost use Rattle.lb_cache.specs.Cache.{expunged, lacks};
-ghost use Rattle.lb_servers.specs.Park.{attached, cache_ready_of};
-ghost use Rattle.lb_servers.specs.Pool.{cache_at};
-ghost use Rattle.lb_core.specs.Caches.{cache_with, covers, expunged_in, has_number, kept_in, looked_in, no_caches, with_cache, without_cache, without_old, IsKeepable};
+ghost use Rattle.lb_cache.specs.Caches.{cache_with, covers, expunged_in, has_number, is_old, kept_in, looked_in, no_caches, with_cache, without_cache, without_old, IsKeepable};
 
-use crate::cached::AttachedCache;
-use crate::command::Covered;
-use lb_cache::{Cache, Hit};
-use lb_servers::Park;
-use lb_wire::{CacheId, Kept, Key, PoolId};
+use crate::cache::Cache;
+use crate::cached::{AttachedCache, Covered};
+use crate::reply::Hit;
+use lb_wire::{CacheId, Kept, Key};
 use std::alloc::{AllocError, Global};
 use std::marker::Model;
 
@@ -24,12 +21,12 @@ pub struct Shelf {
 
 /// The attached caches by number. A contract sees them, and what all of them keep, as two plain lists.
 #[derive(Debug, Drop)]
-pub(crate) struct Caches {
+pub struct Caches {
     shelves: Vec<Shelf>,
 }
 
 impl Model for Caches {
-    ghost use Rattle.lb_core.specs.Caches.{AreShelves, CacheLists, lists_of};
+    ghost use Rattle.lb_cache.specs.Caches.{AreShelves, CacheLists, lists_of};
 
     ghost Value = { CacheLists };
 
@@ -40,7 +37,7 @@ impl Model for Caches {
 
 impl Caches {
     /// No cache. It takes no memory.
-    pub(crate) fn new(alloc: Global) -> Caches
+    pub fn new(alloc: Global) -> Caches
         ensures { result ≡ no_caches }
     {
         Caches {
@@ -49,14 +46,14 @@ impl Caches {
     }
 
     /// How many caches are attached.
-    pub(crate) fn len(&self) -> usize
+    pub fn len(&self) -> usize
         ensures { result ≡ length self.now.caches }
     {
         self.shelves.len()
     }
 
     /// How many replies they keep together, dead ones that are still held included.
-    pub(crate) fn kept_len(&self) -> u128
+    pub fn kept_len(&self) -> u128
         ensures { result ≡ length self.now.kept }
     {
         let mut kept = 0;
@@ -67,7 +64,7 @@ impl Caches {
     }
 
     /// The attached cache with a number.
-    pub(crate) fn with_id(&self, id: CacheId) -> Option<AttachedCache>
+    pub fn with_id(&self, id: CacheId) -> Option<AttachedCache>
         ensures { result ≡ cache_with id self.now.caches }
     {
         let shelf = &self.shelves[place_of(self.shelves.as_slice(), id)?];
@@ -80,7 +77,7 @@ impl Caches {
 
     /// The reply that a cache keeps under a key, where it lives at a moment, in milliseconds: a message with the key's question
     /// name that may be aged by the seconds told.
-    pub(crate) fn look(&self, id: CacheId, key: &Key, now: u64) -> Option<Hit<'_>>
+    pub fn look(&self, id: CacheId, key: &Key, now: u64) -> Option<Hit<'_>>
         ensures found { option_map (λ hit. (hit.bytes.now, hit.secs)) result ≡ looked_in self.now.kept id key.now now }
         ensures keepable { IfSome result (λ hit. IsKeepable key.now hit.bytes.now hit.secs) }
     {
@@ -89,7 +86,7 @@ impl Caches {
     }
 
     /// Keeps a reply in an attached cache under a key, for so many seconds from a moment on, in milliseconds.
-    pub(crate) fn keep(
+    pub fn keep(
         &mut self,
         cache: &AttachedCache,
         key: Key,
@@ -109,40 +106,35 @@ impl Caches {
         }
     }
 
-    /// Puts a new cache in the place of the one that a pool has, under the next number. Room is taken before anything changes.
-    pub(crate) fn attach(
+    /// Attaches a cache that keeps nothing yet under a number, in the place of an old one, where there is one. Where memory is
+    /// wanting nothing changes.
+    pub fn attach(
         &mut self,
-        park: &mut Park,
-        pool: PoolId,
+        old: Option<CacheId>,
+        id: CacheId,
         cache: Cache,
-    ) -> Result<CacheId, AllocError>
-        requires ready { cache_ready_of park.old pool ≡ Ok tt }
+    ) -> Result<(), AllocError>
         requires empty { cache.replies ≡ [] }
-        ensures number { IfOk result (λ id. (park.new, id) ≡ attached park.old pool) }
-        ensures attached { IfOk result (λ id. self.new ≡ with_cache (record { id = id; max = cache.max; max_ttl = cache.max_ttl }) (without_old (cache_at park.old.pools pool.0) self.old)) }
-        ensures park { OnErr result (park.new ≡ park.old) }
+        ensures attached { OnOk result (self.new ≡ with_cache (record { id = id; max = cache.max; max_ttl = cache.max_ttl }) (without_old old self.old)) }
         ensures unchanged { OnErr result (self.new ≡ self.old) }
     {
         self.shelves.reserve(1)?;
-        if let Some(old) = park.cache_of(pool) {
-            self.detach(old);
-        }
-        let id = park.attach_cache(pool);
-        self.detach(id);
+        self.shelves
+            .retain(|shelf| !has_number(shelf, id) && !is_old(shelf, old));
         let at = self.shelves.partition_point(|shelf| shelf.id.0 < id.0);
         self.shelves.insert(at, Shelf { id, cache }).unwrap();
-        Ok(id)
+        Ok(())
     }
 
     /// Takes a cache off, with what it keeps.
-    pub(crate) fn detach(&mut self, id: CacheId)
+    pub fn detach(&mut self, id: CacheId)
         ensures { self.new ≡ without_cache id self.old }
     {
         self.shelves.retain(|shelf| !has_number(shelf, id));
     }
 
     /// Expunges what a cache keeps, dead replies too, and gives how many those were; none, where no such cache is attached.
-    pub(crate) fn expunge(&mut self, id: CacheId, covered: &Covered) -> usize
+    pub fn expunge(&mut self, id: CacheId, covered: &Covered) -> usize
         ensures { (self.new, result) ≡ expunged_in id covered.now self.old }
     {
         match place_of(self.shelves.as_slice(), id) {
@@ -157,6 +149,16 @@ fn has_number(shelf: &Shelf, id: CacheId) -> bool
     ensures { result ≡ has_number id shelf.now }
 {
     shelf.id.0 == id.0
+}
+
+/// Whether a cache is the one whose place another takes.
+fn is_old(shelf: &Shelf, old: Option<CacheId>) -> bool
+    ensures { result ≡ is_old old shelf.now }
+{
+    match old {
+        Some(id) => has_number(shelf, id),
+        None => false,
+    }
 }
 
 /// Where the cache with a number stands.

@@ -11,11 +11,11 @@ use Rattle.lb_wire.specs.declared.key.Key.{Key}
 use Rattle.lb_cache.specs.declared.reply.CachedReply.{CachedReply}
 use Rattle.lb_cache.specs.Question.{asks_name, asks_under, question_of_key}
 use Rattle.lb_cache.specs.Reply.{has_key, hit_of, is_before, is_dead}
-use Rattle.lb_core.specs.declared.cached.AttachedCache.{AttachedCache}
-use Rattle.lb_core.specs.declared.cached.KeptReply.{KeptReply}
-use Rattle.lb_core.specs.declared.caches.Shelf.{Shelf}
-use Rattle.lb_core.specs.declared.command.Covered.{Covered}
-use Rattle.lb_core.specs.declared.command.Covered.TheVariants as covereds
+use Rattle.lb_cache.specs.declared.cached.AttachedCache.{AttachedCache}
+use Rattle.lb_cache.specs.declared.cached.KeptReply.{KeptReply}
+use Rattle.lb_cache.specs.declared.caches.Shelf.{Shelf}
+use Rattle.lb_cache.specs.declared.cached.Covered.{Covered}
+use Rattle.lb_cache.specs.declared.cached.Covered.TheVariants as covereds
 
 -- the attached caches by number, and the kept replies by cache, then key, at most one for a cache and key
 pub record CacheLists : Type 0 where
@@ -116,6 +116,11 @@ with_cache cache lists =
 -- whether a cache of the program has a number
 abbrev pub has_number : CacheId → Shelf → Bool
 has_number id shelf = shelf.id.0 == id.0
+
+-- whether it has the number of the one whose place another takes
+abbrev pub is_old : Option CacheId → Shelf → Bool
+is_old None shelf = false
+is_old (Some id) shelf = has_number id shelf
 
 -- a cache with its number, as the lists tell of it
 abbrev pub attached_of : Shelf → AttachedCache
