@@ -1,8 +1,7 @@
 -- What is listed of rules determines what is seen of them.
 use Rattle.std.proofs.Common.{◌≡◌, ℕ, ◌+◌, ◌<◌, List, [], ◌∷◌, ◌++◌, length, map, refl, sym, ap, subst, ◌∙◌, arith}
-use Rattle.std.specs.List.{All}
+use Rattle.std.specs.List.{All, filter}
 use Rattle.std.proofs.lemmas.List.Elements.{All-nil, All-cons, All-head, All-tail}
-use Rattle.lb_wire.specs.declared.ids.RuleId.{RuleId}
 use Rattle.lb_limits.specs.Window.{Limits, recent_passes}
 use Rattle.lb_limits.specs.declared.pass.Pass.{Pass}
 use Rattle.lb_terms.specs.Limiters.{new_limiters}
@@ -10,9 +9,9 @@ use Rattle.lb_chain.specs.declared.rule.Rule.{Rule}
 use Rattle.lb_chain.specs.declared.numbered.Numbered.{Numbered}
 use Rattle.lb_chain.specs.declared.listed.Listed.{Listed}
 use Rattle.lb_chain.specs.declared.listed.RulePass.{RulePass}
-use Rattle.lb_chain.specs.Listed.{counted_from, listed_of, as_new, HasOwnLimiters}
+use Rattle.lb_chain.specs.Listed.{counted_from, counts_at, listed_of, as_new, HasOwnLimiters}
 use Rattle.lb_chain.specs.Seen.{seen_limits, seen_rule, seen_rules}
-use Rattle.lb_chain.proofs.CountedFrom.{pass_at}
+use Rattle.lb_chain.proofs.CountedFrom.{counted_recent, pass_at}
 use Rattle.lb_chain.proofs.PartlyReserved.{same_seen}
 
 -- the first pass, if there is one, is of a later limiter
@@ -78,3 +77,9 @@ pub seen_own : (moment : ℕ) (rules : List Numbered) → All HasOwnLimiters rul
 seen_own moment [] own = All-nil HasOwnLimiters
 seen_own moment (n ∷ rules) own =
     All-cons HasOwnLimiters (seen_rule moment n) (seen_rules moment rules) (seen_rates moment n.limits ∙ All-head HasOwnLimiters n rules own) (seen_own moment rules (All-tail HasOwnLimiters n rules own))
+
+-- a rule as it is listed, with the passes alone that count at a moment, is the rule seen then as it is listed
+pub listed_seen : (now : ℕ) (n : Numbered) (l : Listed) (passes : List RulePass) → l ≡ listed_of n → passes ≡ filter (counts_at now) l.passes → record l { passes = passes } ≡ listed_of (seen_rule now n)
+listed_seen now n l passes is kept =
+    let recent : passes ≡ counted_from 0 (map (seen_limits now) n.limits) = kept ∙ ap (λ (k : Listed). filter (counts_at now) k.passes) is ∙ counted_recent now 0 n.limits in
+    ap (λ (k : Listed). record k { passes = passes }) is ∙ ap (λ (ps : List RulePass). record (listed_of n) { passes = ps }) recent

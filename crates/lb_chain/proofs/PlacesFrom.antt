@@ -8,7 +8,6 @@ use Rattle.lb_limits.specs.Window.{Limits}
 use Rattle.lb_chain.specs.declared.walked.Passed.{Passed}
 use Rattle.lb_chain.specs.declared.numbered.Numbered.{Numbered}
 use Rattle.lb_chain.specs.Counting.{changed_limits, changed_rule, changed_rules}
-use Rattle.lb_chain.specs.Edits.{limiters_in}
 use Rattle.lb_chain.specs.Places.{places_from, places_of}
 use Rattle.lb_chain.proofs.ChangedRules.{rules_long, rules_so_far, rules_there}
 use Rattle.lb_chain.proofs.Chains.{ArePast, IsLike}

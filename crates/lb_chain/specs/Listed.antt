@@ -1,6 +1,7 @@
 -- Rules as they are listed, and what the list tells.
-use Rattle.std.specs.Prelude.{◌≡◌, ℕ, ◌+◌, List, [], ◌∷◌, ◌++◌, map}
+use Rattle.std.specs.Prelude.{◌≡◌, ℕ, ◌+◌, Bool, List, [], ◌∷◌, ◌++◌, map}
 use Rattle.std.specs.List.{All}
+use Rattle.lb_limits.specs.Moments.{is_recent}
 use Rattle.lb_limits.specs.Window.{Limits, limits_of}
 use Rattle.lb_terms.specs.Limiters.{new_limiters}
 use Rattle.lb_chain.specs.declared.numbered.Numbered.{Numbered}
@@ -16,6 +17,10 @@ counted_from at (l ∷ limits) = map (λ pass. record { limiter = at; pass = pas
 -- a rule as it is listed
 abbrev pub listed_of : Numbered → Listed
 listed_of n = record { id = n.id; rule = n.rule; passes = counted_from 0 n.limits }
+
+-- whether a listed pass counts at a moment
+abbrev pub counts_at : ℕ → RulePass → Bool
+counts_at now p = is_recent now p.pass.moment
 
 -- a limiter without what it counted: its rate alone
 abbrev pub as_new : Limits → Limits

@@ -13,7 +13,7 @@ ghost use Rattle.lb_chain.specs.Seen.{seen_rules};
 use crate::counting::{pass_rules, reserve_rules};
 use crate::edits::{insert_rule, move_rule, place_of};
 use crate::fault::ChainFault;
-use crate::listed::{Listed, list_rules};
+use crate::listed::{Listed, list_rules, list_rules_at};
 use crate::numbered::Numbered;
 use crate::places::Places;
 use crate::rule::Rule;
@@ -75,6 +75,13 @@ impl Chain {
         }
     }
 
+    /// The number that the next rule gets; 2^64 once all are given.
+    pub fn next_rule(&self) -> u128
+        ensures { result ≡ self.now.next }
+    {
+        u128::from(self.last_rule) + 1
+    }
+
     /// How many rules there are.
     pub fn len(&self) -> usize
         ensures { result ≡ length self.now.rules }
@@ -89,6 +96,15 @@ impl Chain {
         ensures own { All HasOwnLimiters self.now.rules }
     {
         list_rules(alloc, self.rules.as_slice())
+    }
+
+    /// The rules in their order, with the passes that count at this moment, in milliseconds. The one error is want of memory.
+    pub fn list_at(&self, alloc: Global, now: u64) -> Result<Vec<Listed>, AllocError>
+        ensures list { IfOk result (λ list. list.items ≡ map listed_of (seen_rules now self.now.rules)) }
+        // so the list determines what is seen of the rules at this moment and later: laws say so
+        ensures own { All HasOwnLimiters self.now.rules }
+    {
+        list_rules_at(alloc, self.rules.as_slice(), now)
     }
 
     /// Each rule of a chain has a number from 1 on and the limiters of its term. A law: the call does nothing.

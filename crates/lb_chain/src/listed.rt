@@ -1,8 +1,9 @@
 //! Rules as they are listed.
 
 ghost use Rattle.std.specs.Prelude.{◌≡◌, ◌≤◌, ◌++◌, IfOk, OnOk, length, map};
-ghost use Rattle.std.specs.List.{All};
-ghost use Rattle.lb_chain.specs.Listed.{counted_from, listed_of};
+ghost use Rattle.std.specs.List.{All, filter};
+ghost use Rattle.lb_chain.specs.Listed.{counted_from, counts_at, listed_of};
+ghost use Rattle.lb_chain.specs.Seen.{seen_rule, seen_rules};
 
 use crate::numbered::Numbered;
 use crate::rule::Rule;
@@ -34,12 +35,40 @@ impl Model for RulePasses {
     ghost view = { λ p. p.items.items };
 }
 
+/// How long a pass counts, in milliseconds.
+const WINDOW: u64 = 1000;
+
+impl RulePass {
+    /// Whether it counts at a moment.
+    fn is_recent(&self, now: u64) -> bool
+        ensures { result ≡ counts_at now self.now }
+    {
+        now.saturating_sub(self.pass.moment) < WINDOW
+    }
+}
+
 impl RulePasses {
     /// The passes, in order.
     pub fn as_slice(&self) -> &[RulePass]
         ensures { result.now ≡ self.now }
     {
         self.items.as_slice()
+    }
+
+    /// Equal passes. The one error is want of memory.
+    fn copy(&self, alloc: Global) -> Result<RulePasses, AllocError>
+        ensures { IfOk result (λ copy. copy ≡ self.now) }
+    {
+        Ok(RulePasses {
+            items: Vec::from_slice(alloc, self.items.as_slice())?,
+        })
+    }
+
+    /// Drops the passes that do not count at a moment.
+    fn keep_recent(&mut self, now: u64)
+        ensures { self.new ≡ filter (counts_at now) self.old }
+    {
+        self.items.retain(|p| p.is_recent(now));
     }
 }
 
@@ -49,6 +78,19 @@ pub struct Listed {
     pub id: RuleId,
     pub rule: Rule,
     pub passes: RulePasses,
+}
+
+impl Listed {
+    /// An equal rule of the list. The one error is want of memory.
+    pub fn copy(&self, alloc: Global) -> Result<Listed, AllocError>
+        ensures { IfOk result (λ copy. copy ≡ self.now) }
+    {
+        Ok(Listed {
+            id: self.id,
+            rule: self.rule.copy(alloc)?,
+            passes: self.passes.copy(alloc)?,
+        })
+    }
 }
 
 /// Puts the passes of the limiter with this number behind the others.
@@ -91,6 +133,16 @@ fn list_rule(alloc: Global, numbered: &Numbered) -> Result<Listed, AllocError>
     })
 }
 
+/// A rule as it is listed, with the passes that count at a moment.
+fn list_rule_at(alloc: Global, numbered: &Numbered, now: u64) -> Result<Listed, AllocError>
+    requires { length numbered.now.limits ≤ 16 }
+    ensures { IfOk result (λ listed. listed ≡ listed_of (seen_rule now numbered.now)) }
+{
+    let mut listed = list_rule(alloc, numbered)?;
+    listed.passes.keep_recent(now);
+    Ok(listed)
+}
+
 /// The rules as they are listed.
 pub(crate) fn list_rules(alloc: Global, rules: &[Numbered]) -> Result<Vec<Listed>, AllocError>
     requires { All (λ n. length n.limits ≤ 16) rules.now }
@@ -101,4 +153,20 @@ pub(crate) fn list_rules(alloc: Global, rules: &[Numbered]) -> Result<Vec<Listed
         list.push(list_rule(alloc, numbered)?)?;
     }
     Ok(list)
+}
+
+/// The rules as they are listed, with the passes that count at a moment.
+pub(crate) fn list_rules_at(
+    alloc: Global,
+    rules: &[Numbered],
+    now: u64,
+) -> Result<Vec<Listed>, AllocError>
+    requires { All (λ n. length n.limits ≤ 16) rules.now }
+    ensures { IfOk result (λ list. list.items ≡ map listed_of (seen_rules now rules.now)) }
+{
+    let mut seen = Vec::with_capacity(alloc, rules.len())?;
+    for numbered in rules {
+        seen.push(list_rule_at(alloc, numbered, now)?)?;
+    }
+    Ok(seen)
 }

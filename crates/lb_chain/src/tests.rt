@@ -150,6 +150,9 @@ fn a_rate_counts_where_it_is_tested(rt: HostRuntime) -> Result<(), Fail> {
     let walked = chain.walk(&view, &ONE, Kind::Datagram, 1999);
     assert!(rt; matches!(walked.verdict, Verdict::Rcode(Rcode::Refused)));
     assert!(rt; is_ended_by(Some(walked), 2));
+    for listed in chain.list_at(alloc, 2000)?.iter() {
+        assert!(rt; listed.copy(alloc)?.passes.as_slice().is_empty());
+    }
     let list = chain.list(alloc)?;
     let pass = Pass {
         source: ONE,
@@ -230,6 +233,7 @@ fn edits_and_their_faults(rt: HostRuntime) -> Result<(), Fail> {
         let added = put(&mut chain, place, Some(Term::All), Action::Drop);
         assert_eq!(rt; added, Some(Ok(RuleId(id))));
     }
+    assert_eq!(rt; chain.next_rule(), 4);
     assert_eq!(rt; chain.remove(RuleId(9)), Err(ChainFault::NoSuchRule));
     assert_eq!(rt; shift(&mut chain, 9, 9), Err(ChainFault::NoSuchRule));
     assert_eq!(rt; shift(&mut chain, 1, 3), Err(ChainFault::BadPlace));

@@ -63,6 +63,20 @@ impl Park {
         })
     }
 
+    /// The number that the next server gets; 2^64 once all are given.
+    pub fn next_server(&self) -> u128
+        ensures { result ≡ self.now.next }
+    {
+        u128::from(self.last_server) + 1
+    }
+
+    /// The number that the next cache gets; 2^64 once all are given.
+    pub fn next_cache(&self) -> u128
+        ensures { result ≡ self.now.next_cache }
+    {
+        u128::from(self.last_cache) + 1
+    }
+
     /// How many servers there are.
     pub fn len(&self) -> usize
         ensures { result ≡ length self.now.servers }

@@ -124,7 +124,7 @@ impl Server {
     }
 
     /// An equal server.
-    fn copy(&self) -> Server
+    pub fn copy(&self) -> Server
         ensures { result ≡ self.now }
     {
         Server {

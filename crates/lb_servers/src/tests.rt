@@ -216,6 +216,7 @@ fn servers_are_refused_in_order(rt: HostRuntime) -> Result<(), Fail> {
     assert_eq!(rt; number(park.mark(gone, true)), 1);
     assert_eq!(rt; refusal(alloc, &park, "t", &[]), 5);
     assert_eq!(rt; add(alloc, &mut park, "t", 1, &[]), Ok(257));
+    assert_eq!(rt; park.next_server(), 258);
     let name = Ident::parse("t").ok_or(ParkFault::NoSuchServer)?;
     assert_eq!(rt;
         (park.server_named(&name), park.len()),
@@ -269,6 +270,7 @@ fn caches_of_pools(rt: HostRuntime) -> Result<(), Fail> {
     assert_eq!(rt; park.detach_cache(DEFAULT), Some(CacheId(2)));
     assert_eq!(rt; park.detach_cache(DEFAULT), None);
     assert_eq!(rt; attach(&mut park, DEFAULT), Ok(CacheId(3)));
+    assert_eq!(rt; park.next_cache(), 4);
     assert_eq!(rt; attach(&mut park, PoolId(1)), Err(ParkFault::NoSuchPool));
     assert_eq!(rt; park.cache_of(PoolId(1)), None);
     Ok(())

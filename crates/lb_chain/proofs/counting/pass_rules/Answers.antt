@@ -1,6 +1,6 @@
 use Rattle.std.proofs.Common.{refl, arith}
 use Rattle.lb_chain.proofs.ChangedRules.{rules_next}
-use Rattle.lb_chain.proofs.PlacesFrom.{place_within, rule_past, visited_all, visited_more, visited_none, visits}
+use Rattle.lb_chain.proofs.PlacesFrom.{place_within, rule_past, visited_all, visited_more, visits}
 use Rattle.lb_chain.proofs.RulesReady.{rule_there}
 use Rattle.lb_chain.proofs.counting.pass_rules.Goals as goal
 
