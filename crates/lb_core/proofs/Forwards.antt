@@ -1,6 +1,10 @@
 -- A query that was sent is forwarded as the definition says, and shows no want of memory.
-use Rattle.std.proofs.Common.{◌≡◌, ℕ, Bool, false, List, Option, Some, None, Ok, refl, sym, ◌∙◌, ap, subst}
-use Rattle.lb_wire.specs.declared.ids.PoolId.{PoolId}
+use Rattle.std.proofs.Common.{◌≡◌, ℕ, false, List, Option, Some, None, Ok, refl, sym, ◌∙◌, ap, subst}
+use Rattle.std.specs.Prelude.{IfSome}
+use Rattle.lb_name.specs.Name.{lower_name}
+use Rattle.lb_wire.specs.Query.{Reads}
+use Rattle.lb_wire.specs.declared.ids.CacheId.{CacheId}
+use Rattle.lb_wire.specs.declared.key.Key.{Key}
 use Rattle.lb_wire.specs.declared.ids.RuleId.{RuleId}
 use Rattle.lb_wire.specs.declared.ids.ServerId.{ServerId}
 use Rattle.lb_wire.specs.declared.transport.Lane.{Lane}
@@ -10,27 +14,38 @@ use Rattle.lb_chain.specs.declared.walked.Verdict.TheVariants as verdicts
 use Rattle.lb_chain.specs.declared.walked.Walked.{Walked}
 use Rattle.lb_table.specs.declared.entry.Entry.{Entry}
 use Rattle.lb_table.specs.Place.{at_place}
+use Rattle.lb_servers.specs.Pool.{cache_at}
+use Rattle.lb_cache.specs.Caches.{looked_in, name_of_key}
 use Rattle.lb_core.specs.declared.asked.Asked.{Asked}
+use Rattle.lb_core.specs.declared.asked.Routed.{Routed}
 use Rattle.lb_core.specs.declared.answer.Answer.{Answer}
 use Rattle.lb_core.specs.declared.answer.Answer.TheVariants.{Forward}
 use Rattle.lb_core.specs.Answer.{is_refused, marked}
-use Rattle.lb_core.specs.Upstream.{Upstreams, SendsBy, picked_of, with_entry, with_turn}
+use Rattle.lb_core.specs.Upstream.{Upstreams, IsAsked, SendsBy, picked_of, with_entry, with_turn}
 use Rattle.lb_core.specs.Forward.{Forwards, PickForwards, entry_of, lane_of, sent, sent_of, with_id}
-use Rattle.lb_core.specs.Query.{EndDecides, RuleDecides, default_pool}
+use Rattle.lb_core.specs.Look.{AskAnswers, FoundAnswers, PoolAnswers, ask_of}
+use Rattle.lb_core.specs.Query.{EndDecides, RuleDecides, default_pool, to_pool}
 
 -- a query that was sent
-pub sent_on : (ups new : Upstreams) (asked : Asked) (bytes : List ℕ) (view : QueryView) (no_recurse : Bool) (pool : PoolId) (server : ServerId) (lane : Lane) (id : ℕ) (entry : Entry) (octets : List ℕ) →
-    Some server ≡ picked_of ups pool → lane ≡ lane_of asked.kind → entry ≡ entry_of ups asked bytes view → octets ≡ with_id id (sent_of no_recurse bytes) →
-    SendsBy ups pool server lane asked.word entry (Ok id) new → Forwards ups asked bytes view no_recurse pool (Forward server lane id octets) new
-sent_on ups new asked bytes view no_recurse pool server lane id entry octets picked is_lane is_entry is_octets sends =
+pub sent_on : (ups new : Upstreams) (asked : Asked) (bytes : List ℕ) (view : QueryView) (routed : Routed) (ask : Option (CacheId × Key)) (server : ServerId) (lane : Lane) (id : ℕ) (entry : Entry) (octets : List ℕ) →
+    Some server ≡ picked_of ups routed.pool → lane ≡ lane_of asked.kind → entry ≡ entry_of ups asked bytes view ask → octets ≡ with_id id (sent_of routed.no_recurse bytes) →
+    SendsBy ups routed.pool server lane asked.word entry (Ok id) new → Forwards ups asked bytes view routed ask (Forward server lane id octets) new
+sent_on ups new asked bytes view routed ask server lane id entry octets picked is_lane is_entry is_octets sends =
+    let pool = routed.pool in
     let s = subst (λ (l : Lane). SendsBy ups pool server l asked.word entry (Ok id) new) is_lane sends in
     let place = at_place server (lane_of asked.kind) id in
-    let left : new ≡ with_entry place (entry_of ups asked bytes view) (with_turn pool ups) = s.1 ∙ ap (λ (e : Entry). with_entry place e (with_turn pool ups)) is_entry in
-    let told : Forward server lane id octets ≡ Forward server (lane_of asked.kind) id (with_id id (sent_of no_recurse bytes)) =
+    let left : new ≡ with_entry place (entry_of ups asked bytes view ask) (with_turn pool ups) = s.1 ∙ ap (λ (e : Entry). with_entry place e (with_turn pool ups)) is_entry in
+    let told : Forward server lane id octets ≡ Forward server (lane_of asked.kind) id (with_id id (sent_of routed.no_recurse bytes)) =
     ap (λ (l : Lane). Forward server l id octets) is_lane ∙ ap (λ (o : List ℕ). Forward server (lane_of asked.kind) id o) is_octets in
-    let done : (new, Forward server lane id octets) ≡ sent (with_turn pool ups) asked bytes view no_recurse server (Some id) =
-    ap (λ (u : Upstreams). (u, Forward server lane id octets)) left ∙ ap (λ (a : Answer). (with_entry place (entry_of ups asked bytes view) (with_turn pool ups), a)) told in
-    subst (λ (p : Option ServerId). PickForwards ups asked bytes view no_recurse pool p (Forward server lane id octets) new) picked (Some id, s.0, done)
+    let done : (new, Forward server lane id octets) ≡ sent (with_turn pool ups) asked bytes view routed ask server (Some id) =
+    ap (λ (u : Upstreams). (u, Forward server lane id octets)) left ∙ ap (λ (a : Answer). (with_entry place (entry_of ups asked bytes view ask) (with_turn pool ups), a)) told in
+    subst (λ (p : Option ServerId). PickForwards ups asked bytes view routed ask p (Forward server lane id octets) new) picked (Some id, s.0, done)
+
+-- what is kept of a query that reads, and whose key is of its question
+pub asked_by : (ups : Upstreams) (asked : Asked) (bytes : List ℕ) (view : QueryView) (ask : Option (CacheId × Key)) → Reads bytes (Ok view) →
+    IfSome ask (λ ask. name_of_key ask.1 ≡ lower_name view.name) → IsAsked (entry_of ups asked bytes view ask)
+asked_by ups asked bytes view None reads key = record { view = view; reads = reads; key = tt }
+asked_by ups asked bytes view (Some ask) reads key = record { view = view; reads = reads; key = key }
 
 -- an answer that is told with a state
 told_by : (new : Upstreams) (answer : Answer) (done : Upstreams × Answer) → (new, answer) ≡ done → answer ≡ done.1
@@ -40,26 +55,39 @@ told_by new answer done is = ap (λ (d : Upstreams × Answer). d.1) is
 abbrev IsPlain : Answer → Type 0
 IsPlain answer = (marked answer ≡ false) × (is_refused answer ≡ false)
 
-sent_plain : (ups : Upstreams) (asked : Asked) (bytes : List ℕ) (view : QueryView) (no_recurse : Bool) (server : ServerId) (id : Option ℕ) → IsPlain (sent ups asked bytes view no_recurse server id).1
-sent_plain ups asked bytes view no_recurse server None = (refl, refl)
-sent_plain ups asked bytes view no_recurse server (Some id) = (refl, refl)
+sent_plain : (ups : Upstreams) (asked : Asked) (bytes : List ℕ) (view : QueryView) (routed : Routed) (ask : Option (CacheId × Key)) (server : ServerId) (id : Option ℕ) → IsPlain (sent ups asked bytes view routed ask server id).1
+sent_plain ups asked bytes view routed ask server None = (refl, refl)
+sent_plain ups asked bytes view routed ask server (Some id) = (refl, refl)
 
-picked_plain : (ups new : Upstreams) (asked : Asked) (bytes : List ℕ) (view : QueryView) (no_recurse : Bool) (pool : PoolId) (server : Option ServerId) (answer : Answer) →
-    PickForwards ups asked bytes view no_recurse pool server answer new → IsPlain answer
-picked_plain ups new asked bytes view no_recurse pool None answer is = subst IsPlain (sym (told_by new answer _ is)) (refl, refl)
-picked_plain ups new asked bytes view no_recurse pool (Some server) answer is =
-    subst IsPlain (sym (told_by new answer (sent (with_turn pool ups) asked bytes view no_recurse server is.0) is.2)) (sent_plain (with_turn pool ups) asked bytes view no_recurse server is.0)
+picked_plain : (ups new : Upstreams) (asked : Asked) (bytes : List ℕ) (view : QueryView) (routed : Routed) (ask : Option (CacheId × Key)) (server : Option ServerId) (answer : Answer) →
+    PickForwards ups asked bytes view routed ask server answer new → IsPlain answer
+picked_plain ups new asked bytes view routed ask None answer is = subst IsPlain (sym (told_by new answer _ is)) (refl, refl)
+picked_plain ups new asked bytes view routed ask (Some server) answer is =
+    subst IsPlain (sym (told_by new answer (sent (with_turn routed.pool ups) asked bytes view routed ask server is.0) is.2)) (sent_plain (with_turn routed.pool ups) asked bytes view routed ask server is.0)
 
-ruled_plain : (ups new : Upstreams) (asked : Asked) (bytes : List ℕ) (view : QueryView) (no_recurse : Bool) (rule : RuleId) (verdict : Verdict) (answer : Answer) →
-    RuleDecides ups asked bytes view no_recurse rule verdict answer new → IsPlain answer
-ruled_plain ups new asked bytes view no_recurse rule verdicts.Allow answer is = picked_plain ups new asked bytes view no_recurse default_pool (picked_of ups default_pool) answer is
-ruled_plain ups new asked bytes view no_recurse rule (verdicts.Pool pool) answer is = picked_plain ups new asked bytes view no_recurse pool (picked_of ups pool) answer is
-ruled_plain ups new asked bytes view no_recurse rule verdicts.Drop answer is = subst IsPlain (sym (told_by new answer _ is)) (refl, refl)
-ruled_plain ups new asked bytes view no_recurse rule (verdicts.Rcode rcode) answer is = subst IsPlain (sym (told_by new answer _ is)) (refl, refl)
-ruled_plain ups new asked bytes view no_recurse rule verdicts.Tc answer is = subst IsPlain (sym (told_by new answer _ is)) (refl, refl)
-ruled_plain ups new asked bytes view no_recurse rule (verdicts.Spoof addrs) answer is = subst IsPlain (sym (told_by new answer _ is)) (refl, refl)
+found_plain : (ups new : Upstreams) (asked : Asked) (bytes : List ℕ) (view : QueryView) (routed : Routed) (ask : CacheId × Key) (hit : Option (List ℕ × ℕ)) (answer : Answer) →
+    FoundAnswers ups asked bytes view routed ask hit answer new → IsPlain answer
+found_plain ups new asked bytes view routed ask None answer is = picked_plain ups new asked bytes view routed (Some ask) (picked_of ups routed.pool) answer is
+found_plain ups new asked bytes view routed ask (Some hit) answer is = subst IsPlain (sym (told_by new answer _ is.2)) (refl, refl)
+
+asked_plain : (ups new : Upstreams) (asked : Asked) (bytes : List ℕ) (view : QueryView) (routed : Routed) (ask : Option (CacheId × Key)) (answer : Answer) →
+    AskAnswers ups asked bytes view routed ask answer new → IsPlain answer
+asked_plain ups new asked bytes view routed None answer is = picked_plain ups new asked bytes view routed None (picked_of ups routed.pool) answer is
+asked_plain ups new asked bytes view routed (Some ask) answer is = found_plain ups new asked bytes view routed ask (looked_in ups.kept ask.0 ask.1 asked.moment) answer is
+
+pool_plain : (ups new : Upstreams) (asked : Asked) (bytes : List ℕ) (view : QueryView) (routed : Routed) (answer : Answer) → PoolAnswers ups asked bytes view routed answer new → IsPlain answer
+pool_plain ups new asked bytes view routed answer is = asked_plain ups new asked bytes view routed (ask_of (cache_at ups.pools routed.pool.0) asked.kind bytes view routed) answer is
+
+ruled_plain : (ups new : Upstreams) (asked : Asked) (bytes : List ℕ) (view : QueryView) (walked : Walked) (rule : RuleId) (verdict : Verdict) (answer : Answer) →
+    RuleDecides ups asked bytes view walked rule verdict answer new → IsPlain answer
+ruled_plain ups new asked bytes view walked rule verdicts.Allow answer is = pool_plain ups new asked bytes view (to_pool walked default_pool) answer is
+ruled_plain ups new asked bytes view walked rule (verdicts.Pool pool) answer is = pool_plain ups new asked bytes view (to_pool walked pool) answer is
+ruled_plain ups new asked bytes view walked rule verdicts.Drop answer is = subst IsPlain (sym (told_by new answer _ is)) (refl, refl)
+ruled_plain ups new asked bytes view walked rule (verdicts.Rcode rcode) answer is = subst IsPlain (sym (told_by new answer _ is)) (refl, refl)
+ruled_plain ups new asked bytes view walked rule verdicts.Tc answer is = subst IsPlain (sym (told_by new answer _ is)) (refl, refl)
+ruled_plain ups new asked bytes view walked rule (verdicts.Spoof addrs) answer is = subst IsPlain (sym (told_by new answer _ is)) (refl, refl)
 
 pub ended_plain : (ups new : Upstreams) (asked : Asked) (bytes : List ℕ) (view : QueryView) (walked : Walked) (rule : Option RuleId) (answer : Answer) →
     EndDecides ups asked bytes view walked rule answer new → (marked answer ≡ false) × (is_refused answer ≡ false)
-ended_plain ups new asked bytes view walked None answer is = picked_plain ups new asked bytes view walked.no_recurse default_pool (picked_of ups default_pool) answer is
-ended_plain ups new asked bytes view walked (Some rule) answer is = ruled_plain ups new asked bytes view walked.no_recurse rule walked.verdict answer is
+ended_plain ups new asked bytes view walked None answer is = pool_plain ups new asked bytes view (to_pool walked default_pool) answer is
+ended_plain ups new asked bytes view walked (Some rule) answer is = ruled_plain ups new asked bytes view walked rule walked.verdict answer is

@@ -26,6 +26,7 @@ use Rattle.lb_table.specs.declared.entry.Entry.{Entry}
 use Rattle.lb_table.specs.declared.entry.Waiting.{Waiting}
 use Rattle.lb_table.specs.Table.{due, entered, entry_at, is_at, is_due, is_for, taken_at, waits_at, without_due}
 use Rattle.lb_core.specs.Upstream.{Upstreams, IsAsked, IsTied, backends_of, loaded_by, on_backends, server_of, turned_if, with_backends, with_entry, with_turn}
+use Rattle.lb_cache.specs.Caches.{CacheLists}
 use Rattle.lb_core.specs.declared.check.Check.{Check}
 use Rattle.lb_core.specs.Expiry.{without_expired}
 use Rattle.lb_core.specs.Reply.{without}
@@ -47,13 +48,13 @@ pub on_tied : {A : Type 0} (ups : Upstreams) (park new : Backends) (given : A) (
     backends_of ups ≡ park → (new, given) ≡ edit park → (with_backends new ups, given) ≡ on_backends ups (edit (backends_of ups))
 on_tied ups park new given edit tied is = ap (on_backends ups) is ∙ ap (λ (p : Backends). on_backends ups (edit p)) (sym tied)
 
--- what a table of servers and a list of queries are together
-abbrev pub seen_as : ℕ → List Check → Backends → List Waiting → Upstreams
-seen_as timeout checks park t = record { timeout = timeout; next_server = park.next; next_cache = park.next_cache; servers = map server_of park.servers; checks = checks; pools = park.pools; outstanding = t }
+-- what a table of servers, a list of queries and caches are together
+abbrev pub seen_as : ℕ → CacheLists → List Check → Backends → List Waiting → Upstreams
+seen_as timeout caches checks park t = record { timeout = timeout; next_server = park.next; next_cache = park.next_cache; servers = map server_of park.servers; checks = checks; pools = park.pools; caches = caches.caches; outstanding = t; kept = caches.kept }
 
 -- the table of servers with their loads counted anew is the table
-pub counted_tied : (timeout : ℕ) (checks : List Check) (park : Backends) (t : List Waiting) → IsTied park t → backends_of (seen_as timeout checks park t) ≡ park
-counted_tied timeout checks park t tied = ap (λ (servers : List Loaded). record park { servers = servers }) (counted_anew t park.servers tied.loads)
+pub counted_tied : (timeout : ℕ) (caches : CacheLists) (checks : List Check) (park : Backends) (t : List Waiting) → IsTied park t → backends_of (seen_as timeout caches checks park t) ≡ park
+counted_tied timeout caches checks park t tied = ap (λ (servers : List Loaded). record park { servers = servers }) (counted_anew t park.servers tied.loads)
 
 -- what an edit leaves
 pub left_by : {A : Type 0} (new : Backends) (given : A) (done : Backends × A) → (new, given) ≡ done → new ≡ done.0
@@ -335,14 +336,14 @@ sent_tied park after turned t new place entry pools tied given asked began turn 
     let one : IsTied after new = subst (λ (n : List Waiting). IsTied after n) (sym is) (subst (λ (p : Backends). IsTied p (entered t place entry)) (sym began) (tied_in park t place entry tied given asked)) in
     subst (λ (p : Backends). IsTied p new) (sym turn) (same_servers new after pools one)
 
-pub sent_seen : (timeout : ℕ) (checks : List Check) (park after turned : Backends) (t new : List Waiting) (place : Place) (entry : Entry) (pool : PoolId) →
+pub sent_seen : (timeout : ℕ) (caches : CacheLists) (checks : List Check) (park after turned : Backends) (t new : List Waiting) (place : Place) (entry : Entry) (pool : PoolId) →
     after ≡ with_server with_one_more place.server park → turned ≡ record after { pools = change_at turned_if pool.0 after.pools } → new ≡ entered t place entry →
-    seen_as timeout checks turned new ≡ with_entry place entry (with_turn pool (seen_as timeout checks park t))
-sent_seen timeout checks park after turned t new place entry pool began turn is =
+    seen_as timeout caches checks turned new ≡ with_entry place entry (with_turn pool (seen_as timeout caches checks park t))
+sent_seen timeout caches checks park after turned t new place entry pool began turn is =
     let whole : turned ≡ record (with_server with_one_more place.server park) { pools = change_at turned_if pool.0 park.pools } = turn ∙ ap (λ (p : Backends). record p { pools = change_at turned_if pool.0 p.pools }) began in
-    ap (λ (p : Backends). seen_as timeout checks p new) whole
-    ∙ ap (λ (n : List Waiting). seen_as timeout checks (record (with_server with_one_more place.server park) { pools = change_at turned_if pool.0 park.pools }) n) is
-    ∙ ap (λ (ss : List Server). record (with_entry place entry (with_turn pool (seen_as timeout checks park t))) { servers = ss }) (still_servers with_one_more place.server park.servers (λ l. refl))
+    ap (λ (p : Backends). seen_as timeout caches checks p new) whole
+    ∙ ap (λ (n : List Waiting). seen_as timeout caches checks (record (with_server with_one_more place.server park) { pools = change_at turned_if pool.0 park.pools }) n) is
+    ∙ ap (λ (ss : List Server). record (with_entry place entry (with_turn pool (seen_as timeout caches checks park t))) { servers = ss }) (still_servers with_one_more place.server park.servers (λ l. refl))
 
 -- a query that goes
 pub taken_tied : (park after : Backends) (t new : List Waiting) (place : Place) (entry : Entry) → IsTied park t → entry_at t place ≡ Some entry →
@@ -350,12 +351,12 @@ pub taken_tied : (park after : Backends) (t new : List Waiting) (place : Place) 
 taken_tied park after t new place entry tied found ended is =
     subst (λ (n : List Waiting). IsTied after n) (sym is) (subst (λ (p : Backends). IsTied p (taken_at t (waits_at place t))) (sym ended) (tied_out park t place entry tied found))
 
-pub taken_seen : (timeout : ℕ) (checks : List Check) (park after : Backends) (t new : List Waiting) (place : Place) →
-    after ≡ with_server with_one_less place.server park → new ≡ taken_at t (waits_at place t) → seen_as timeout checks after new ≡ without place (seen_as timeout checks park t)
-taken_seen timeout checks park after t new place ended is =
-    ap (λ (p : Backends). seen_as timeout checks p new) ended
-    ∙ ap (λ (n : List Waiting). seen_as timeout checks (with_server with_one_less place.server park) n) is
-    ∙ ap (λ (ss : List Server). record (without place (seen_as timeout checks park t)) { servers = ss }) (still_servers with_one_less place.server park.servers (λ l. refl))
+pub taken_seen : (timeout : ℕ) (caches : CacheLists) (checks : List Check) (park after : Backends) (t new : List Waiting) (place : Place) →
+    after ≡ with_server with_one_less place.server park → new ≡ taken_at t (waits_at place t) → seen_as timeout caches checks after new ≡ without place (seen_as timeout caches checks park t)
+taken_seen timeout caches checks park after t new place ended is =
+    ap (λ (p : Backends). seen_as timeout caches checks p new) ended
+    ∙ ap (λ (n : List Waiting). seen_as timeout caches checks (with_server with_one_less place.server park) n) is
+    ∙ ap (λ (ss : List Server). record (without place (seen_as timeout caches checks park t)) { servers = ss }) (still_servers with_one_less place.server park.servers (λ l. refl))
 
 -- the query that is given up first goes
 pub due_tied : (park after : Backends) (t new : List Waiting) (now : ℕ) (w : Waiting) → IsTied park t → due now t ≡ Some w →
@@ -363,9 +364,9 @@ pub due_tied : (park after : Backends) (t new : List Waiting) (now : ℕ) (w : W
 due_tied park after t new now w tied found ended is =
     subst (λ (n : List Waiting). IsTied after n) (sym is) (subst (λ (p : Backends). IsTied p (without_due now t)) (sym ended) (tied_due park t now w tied found))
 
-pub due_seen : (timeout : ℕ) (checks : List Check) (park after : Backends) (t new : List Waiting) (now : ℕ) (server : ServerId) →
-    after ≡ with_server with_one_less server park → new ≡ without_due now t → seen_as timeout checks after new ≡ without_expired now (seen_as timeout checks park t)
-due_seen timeout checks park after t new now server ended is =
-    ap (λ (p : Backends). seen_as timeout checks p new) ended
-    ∙ ap (λ (n : List Waiting). seen_as timeout checks (with_server with_one_less server park) n) is
-    ∙ ap (λ (ss : List Server). record (without_expired now (seen_as timeout checks park t)) { servers = ss }) (still_servers with_one_less server park.servers (λ l. refl))
+pub due_seen : (timeout : ℕ) (caches : CacheLists) (checks : List Check) (park after : Backends) (t new : List Waiting) (now : ℕ) (server : ServerId) →
+    after ≡ with_server with_one_less server park → new ≡ without_due now t → seen_as timeout caches checks after new ≡ without_expired now (seen_as timeout caches checks park t)
+due_seen timeout caches checks park after t new now server ended is =
+    ap (λ (p : Backends). seen_as timeout caches checks p new) ended
+    ∙ ap (λ (n : List Waiting). seen_as timeout caches checks (with_server with_one_less server park) n) is
+    ∙ ap (λ (ss : List Server). record (without_expired now (seen_as timeout caches checks park t)) { servers = ss }) (still_servers with_one_less server park.servers (λ l. refl))

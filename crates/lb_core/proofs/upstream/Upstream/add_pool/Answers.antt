@@ -9,4 +9,4 @@ pub invariant_of-self : goal.invariant_of-self
 invariant_of-self c = subst (λ (p : Backends). IsUpstream p c.self.inside.checks.items c.self.inside.table) (sym (left_by _ _ _ c.add_pool.ensures)) (pool_keeps c.self.inside.checks.items c.self.inside.table (lacks c.add_pool.result) c.self.inside.park c.args.name c.self.invariant)
 
 pub returns : goal.returns
-returns c = rw (← c.self.view_is) (on_tied _ c.self.inside.park c.add_pool.new.self c.add_pool.result (λ park. added_pool (lacks c.add_pool.result) park c.args.name) (counted_tied c.self.inside.timeout c.self.inside.checks.items c.self.inside.park c.self.inside.table c.self.invariant.tied) c.add_pool.ensures)
+returns c = rw (← c.self.view_is) (on_tied _ c.self.inside.park c.add_pool.new.self c.add_pool.result (λ park. added_pool (lacks c.add_pool.result) park c.args.name) (counted_tied c.self.inside.timeout c.self.inside.caches c.self.inside.checks.items c.self.inside.park c.self.inside.table c.self.invariant.tied) c.add_pool.ensures)

@@ -11,8 +11,8 @@ use Rattle.lb_core.proofs.upstream.Upstream.add_server.Goals as goal
 pub returns-in-Err : goal.returns-in-Err
 returns-in-Err c =
     rw (← c.self.view_is)
-    (ap (λ (cs : List Check). (seen_as c.self.inside.timeout cs c.self.inside.park c.self.inside.table, Err c.refusal.result)) c.in-Err.ensures.items
-    ∙ added_seen c.self.inside.timeout c.self.inside.checks.items c.self.inside.park c.self.inside.park c.self.inside.table c.args.spec c.args.check (Err c.refusal.result) c.self.invariant.tied c.refusal.ensures)
+    (ap (λ (cs : List Check). (seen_as c.self.inside.timeout c.self.inside.caches cs c.self.inside.park c.self.inside.table, Err c.refusal.result)) c.in-Err.ensures.items
+    ∙ added_seen c.self.inside.timeout c.self.inside.caches c.self.inside.checks.items c.self.inside.park c.self.inside.park c.self.inside.table c.args.spec c.args.check (Err c.refusal.result) c.self.invariant.tied c.refusal.ensures)
 
 pub invariant_of-self-in-Ok : goal.invariant_of-self-in-Ok
 invariant_of-self-in-Ok c =
@@ -23,8 +23,8 @@ invariant_of-self-in-Ok c =
 pub returns-in-Ok : goal.returns-in-Ok
 returns-in-Ok c =
     rw (← c.self.view_is)
-    (ap (λ (cs : List Check). (seen_as c.self.inside.timeout cs c.add_server.new.self c.self.inside.table, Ok c.in-Ok.id)) (c.push.ensures.items ∙ ap (λ (pushed : Result _ _). if is_ok pushed then c.reserve.new.self.items ++ c.new.result ∷ [] else c.reserve.new.self.items) c.unwrap.ensures ∙ ap (λ (cs : List Check). cs ++ c.new.result ∷ []) c.in_default.ensures.items ∙ ap (λ (one : Check). c.self.inside.checks.items ++ one ∷ []) c.new.ensures)
-    ∙ added_seen c.self.inside.timeout c.self.inside.checks.items c.self.inside.park c.add_server.new.self c.self.inside.table c.args.spec c.args.check (Ok c.in-Ok.id) c.self.invariant.tied c.in-Ok.ensures)
+    (ap (λ (cs : List Check). (seen_as c.self.inside.timeout c.self.inside.caches cs c.add_server.new.self c.self.inside.table, Ok c.in-Ok.id)) (c.push.ensures.items ∙ ap (λ (pushed : Result _ _). if is_ok pushed then c.reserve.new.self.items ++ c.new.result ∷ [] else c.reserve.new.self.items) c.unwrap.ensures ∙ ap (λ (cs : List Check). cs ++ c.new.result ∷ []) c.in_default.ensures.items ∙ ap (λ (one : Check). c.self.inside.checks.items ++ one ∷ []) c.new.ensures)
+    ∙ added_seen c.self.inside.timeout c.self.inside.caches c.self.inside.checks.items c.self.inside.park c.add_server.new.self c.self.inside.table c.args.spec c.args.check (Ok c.in-Ok.id) c.self.invariant.tied c.in-Ok.ensures)
 
 pub invariant_of-self-in-Err-add_server : goal.invariant_of-self-in-Err-add_server
 invariant_of-self-in-Err-add_server c =
@@ -34,5 +34,5 @@ invariant_of-self-in-Err-add_server c =
 pub returns-in-Err-add_server : goal.returns-in-Err-add_server
 returns-in-Err-add_server c =
     rw (← c.self.view_is)
-    (ap (λ (cs : List Check). (seen_as c.self.inside.timeout cs c.add_server.new.self c.self.inside.table, Err c.in-Err-add_server.fault)) c.in_default.ensures.items
-    ∙ added_seen c.self.inside.timeout c.self.inside.checks.items c.self.inside.park c.add_server.new.self c.self.inside.table c.args.spec c.args.check (Err c.in-Err-add_server.fault) c.self.invariant.tied c.in-Err-add_server.ensures)
+    (ap (λ (cs : List Check). (seen_as c.self.inside.timeout c.self.inside.caches cs c.add_server.new.self c.self.inside.table, Err c.in-Err-add_server.fault)) c.in_default.ensures.items
+    ∙ added_seen c.self.inside.timeout c.self.inside.caches c.self.inside.checks.items c.self.inside.park c.add_server.new.self c.self.inside.table c.args.spec c.args.check (Err c.in-Err-add_server.fault) c.self.invariant.tied c.in-Err-add_server.ensures)

@@ -14,10 +14,10 @@ invariant_of-self c =
 pub returns-in-Ok : goal.returns-in-Ok
 returns-in-Ok c =
     rw (← c.self.view_is)
-    (ap (λ (cs : List Check). (seen_as c.self.inside.timeout cs c.remove_server.new.self c.self.inside.table, Ok tt)) c.remove_check.ensures
-    ∙ removed_seen c.self.inside.timeout c.self.inside.checks.items c.self.inside.park c.remove_server.new.self c.self.inside.table c.args.id (Ok tt) c.self.invariant.tied c.in-Ok.ensures)
+    (ap (λ (cs : List Check). (seen_as c.self.inside.timeout c.self.inside.caches cs c.remove_server.new.self c.self.inside.table, Ok tt)) c.remove_check.ensures
+    ∙ removed_seen c.self.inside.timeout c.self.inside.caches c.self.inside.checks.items c.self.inside.park c.remove_server.new.self c.self.inside.table c.args.id (Ok tt) c.self.invariant.tied c.in-Ok.ensures)
 
 pub returns-in-Err : goal.returns-in-Err
 returns-in-Err c =
     rw (← c.self.view_is)
-    (removed_seen c.self.inside.timeout c.self.inside.checks.items c.self.inside.park c.remove_server.new.self c.self.inside.table c.args.id (Err c.in-Err.fault) c.self.invariant.tied c.in-Err.ensures)
+    (removed_seen c.self.inside.timeout c.self.inside.caches c.self.inside.checks.items c.self.inside.park c.remove_server.new.self c.self.inside.table c.args.id (Err c.in-Err.fault) c.self.invariant.tied c.in-Err.ensures)

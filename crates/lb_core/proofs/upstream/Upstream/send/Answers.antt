@@ -30,6 +30,6 @@ pub returns-in-Ok : goal.returns-in-Ok
 returns-in-Ok c =
     rw (← c.self.view_is) (
       c.in-Ok.ensures.enters.0,
-      sent_seen c.self.inside.timeout c.self.inside.checks.items c.self.inside.park c.began.new.self c.count_turn.new.park c.self.inside.table c.enter.new.self (at_place c.args.server c.args.lane c.in-Ok.id) c.args.entry c.args.pool
+      sent_seen c.self.inside.timeout c.self.inside.caches c.self.inside.checks.items c.self.inside.park c.began.new.self c.count_turn.new.park c.self.inside.table c.enter.new.self (at_place c.args.server c.args.lane c.in-Ok.id) c.args.entry c.args.pool
           c.began.ensures c.count_turn.ensures c.in-Ok.ensures.enters.1,
     )

@@ -10,4 +10,4 @@ pub invariant_of-self : goal.invariant_of-self
 invariant_of-self c = subst (λ (p : Backends). IsUpstream p c.self.inside.checks.items c.self.inside.table) (sym (left_by _ _ _ c.set_mode.ensures)) (mode_keeps c.self.inside.checks.items c.self.inside.table c.args.mode c.self.inside.park c.args.id c.self.invariant)
 
 pub returns : goal.returns
-returns c = rw (← c.self.view_is) (on_tied _ c.self.inside.park c.set_mode.new.self c.set_mode.result (λ park. changed_server (with_mode c.args.mode) park c.args.id) (counted_tied c.self.inside.timeout c.self.inside.checks.items c.self.inside.park c.self.inside.table c.self.invariant.tied) c.set_mode.ensures)
+returns c = rw (← c.self.view_is) (on_tied _ c.self.inside.park c.set_mode.new.self c.set_mode.result (λ park. changed_server (with_mode c.args.mode) park c.args.id) (counted_tied c.self.inside.timeout c.self.inside.caches c.self.inside.checks.items c.self.inside.park c.self.inside.table c.self.invariant.tied) c.set_mode.ensures)

@@ -10,4 +10,4 @@ pub invariant_of-self : goal.invariant_of-self
 invariant_of-self c = subst (λ (p : Backends). IsUpstream p c.self.inside.checks.items c.self.inside.table) (sym (left_by _ _ _ c.set_policy.ensures)) (policy_keeps c.self.inside.checks.items c.self.inside.table (with_policy c.args.policy) c.self.inside.park c.args.pool c.self.invariant)
 
 pub returns : goal.returns
-returns c = rw (← c.self.view_is) (on_tied _ c.self.inside.park c.set_policy.new.self c.set_policy.result (λ park. changed_pool (with_policy c.args.policy) park c.args.pool) (counted_tied c.self.inside.timeout c.self.inside.checks.items c.self.inside.park c.self.inside.table c.self.invariant.tied) c.set_policy.ensures)
+returns c = rw (← c.self.view_is) (on_tied _ c.self.inside.park c.set_policy.new.self c.set_policy.result (λ park. changed_pool (with_policy c.args.policy) park c.args.pool) (counted_tied c.self.inside.timeout c.self.inside.caches c.self.inside.checks.items c.self.inside.park c.self.inside.table c.self.invariant.tied) c.set_policy.ensures)

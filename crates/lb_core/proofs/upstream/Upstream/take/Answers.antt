@@ -23,4 +23,4 @@ returns-clause-asked c =
 pub returns-clause-without : goal.returns-clause-without
 returns-clause-without c =
     rw (← c.self.view_is)
-    (taken_seen c.self.inside.timeout c.self.inside.checks.items c.self.inside.park c.ended.new.self c.self.inside.table c.take.new.self (at_place c.args.server c.args.lane c.args.id) c.ended.ensures c.in_ok-entry.ensures.table)
+    (taken_seen c.self.inside.timeout c.self.inside.caches c.self.inside.checks.items c.self.inside.park c.ended.new.self c.self.inside.table c.take.new.self (at_place c.args.server c.args.lane c.args.id) c.ended.ensures c.in_ok-entry.ensures.table)

@@ -21,4 +21,4 @@ returns-clause-asked c = asked_due c.self.inside.park c.self.inside.table c.args
 pub returns-clause-without : goal.returns-clause-without
 returns-clause-without c =
     rw (← c.self.view_is)
-    (due_seen c.self.inside.timeout c.self.inside.checks.items c.self.inside.park c.ended.new.self c.self.inside.table c.take_due.new.self c.args.now c.in_ok-waiting.waiting.place.server c.ended.ensures c.in_ok-waiting.ensures.table)
+    (due_seen c.self.inside.timeout c.self.inside.caches c.self.inside.checks.items c.self.inside.park c.ended.new.self c.self.inside.table c.take_due.new.self c.args.now c.in_ok-waiting.waiting.place.server c.ended.ensures c.in_ok-waiting.ensures.table)

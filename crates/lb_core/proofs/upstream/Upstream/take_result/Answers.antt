@@ -44,7 +44,7 @@ invariant_of-self-in-Down c =
 pub returns-in-No : goal.returns-in-No
 returns-in-No c =
     let checks = c.self.inside.checks.items in
-    let ups = seen_as c.self.inside.timeout checks c.self.inside.park c.self.inside.table in
+    let ups = seen_as c.self.inside.timeout c.self.inside.caches checks c.self.inside.park c.self.inside.table in
     let after = record c.index_mut.result.now { health = c.result-changed.new.self } in
     rw (← c.self.view_is)
     (result_seen ups _ c.args.server c.args.ok c.in_ok-at.at c.index_mut.result.now c.result-changed.new.self c.result-changed.result
@@ -54,21 +54,21 @@ returns-in-No c =
 pub returns-in-Up : goal.returns-in-Up
 returns-in-Up c =
     let checks = c.self.inside.checks.items in
-    let ups = seen_as c.self.inside.timeout checks c.self.inside.park c.self.inside.table in
+    let ups = seen_as c.self.inside.timeout c.self.inside.caches checks c.self.inside.park c.self.inside.table in
     let after = record c.index_mut.result.now { health = c.result-changed.new.self } in
     rw (← c.self.view_is)
     (result_seen ups _ c.args.server c.args.ok c.in_ok-at.at c.index_mut.result.now c.result-changed.new.self c.result-changed.result
     (c.in_ok-at.ensures.at ∙ ap (position (is_check c.args.server)) c.as_slice.ensures.value) (subst (λ (cs : List Check). c.in_ok-at.at < length cs) c.as_slice.ensures.value c.in_ok-at.ensures.within) c.index_mut.ensures.value c.result-changed.ensures
-    (mark_seen c.self.inside.timeout (with_check_at c.in_ok-at.at after ups).checks c.self.inside.park c.mark.new.park c.self.inside.table true c.args.server c.self.invariant.tied c.mark.ensures
+    (mark_seen c.self.inside.timeout c.self.inside.caches (with_check_at c.in_ok-at.at after ups).checks c.self.inside.park c.mark.new.park c.self.inside.table true c.args.server c.self.invariant.tied c.mark.ensures
     ∙ ap (λ (change : Changed). with_change c.args.server change (with_check_at c.in_ok-at.at after ups)) (sym c.in-Up.is)))
 
 pub returns-in-Down : goal.returns-in-Down
 returns-in-Down c =
     let checks = c.self.inside.checks.items in
-    let ups = seen_as c.self.inside.timeout checks c.self.inside.park c.self.inside.table in
+    let ups = seen_as c.self.inside.timeout c.self.inside.caches checks c.self.inside.park c.self.inside.table in
     let after = record c.index_mut.result.now { health = c.result-changed.new.self } in
     rw (← c.self.view_is)
     (result_seen ups _ c.args.server c.args.ok c.in_ok-at.at c.index_mut.result.now c.result-changed.new.self c.result-changed.result
     (c.in_ok-at.ensures.at ∙ ap (position (is_check c.args.server)) c.as_slice.ensures.value) (subst (λ (cs : List Check). c.in_ok-at.at < length cs) c.as_slice.ensures.value c.in_ok-at.ensures.within) c.index_mut.ensures.value c.result-changed.ensures
-    (mark_seen c.self.inside.timeout (with_check_at c.in_ok-at.at after ups).checks c.self.inside.park c.mark-in-Down.new.park c.self.inside.table false c.args.server c.self.invariant.tied c.mark-in-Down.ensures
+    (mark_seen c.self.inside.timeout c.self.inside.caches (with_check_at c.in_ok-at.at after ups).checks c.self.inside.park c.mark-in-Down.new.park c.self.inside.table false c.args.server c.self.invariant.tied c.mark-in-Down.ensures
     ∙ ap (λ (change : Changed). with_change c.args.server change (with_check_at c.in_ok-at.at after ups)) (sym c.in-Down.is)))
