@@ -2,7 +2,9 @@
 use Rattle.std.proofs.Common.{◌≡◌, ℕ, zero, suc, ◌+◌, ◌^◌, ◌==◌, ◌||◌, Bool, true, false, not, List, [], ◌∷◌, ◌++◌, length, map, nat_le, Option, None, Some, Result, Ok, Err, refl, sym, ◌∙◌, ap}
 use Rattle.std.specs.Prelude.{if◌then◌else◌, is_some, option_map, slice_get}
 use Rattle.lb_wire.specs.Belongs.{belongs}
+use Rattle.lb_wire.specs.declared.ids.CacheId.{CacheId}
 use Rattle.lb_wire.specs.declared.ids.PoolId.{PoolId}
+use Rattle.lb_wire.specs.declared.key.Key.{Key}
 use Rattle.lb_wire.specs.declared.ids.ServerId.{ServerId}
 use Rattle.lb_wire.specs.declared.transport.Lane.{Lane}
 use Rattle.lb_wire.specs.declared.query.QueryView.{QueryView}
@@ -17,28 +19,34 @@ use Rattle.lb_chain.specs.declared.walked.Walked.{Walked}
 use Rattle.lb_chain.specs.Edits.{Rules, moved, removed}
 use Rattle.lb_chain.specs.Seen.{SeenTwice}
 use Rattle.lb_servers.specs.declared.fault.ParkFault.{ParkFault}
-use Rattle.lb_servers.specs.Park.{Backends, added_pool, added_server, changed_pool, max_pools, max_servers, removed_server}
-use Rattle.lb_servers.specs.Pool.{pool_named, with_policy}
+use Rattle.lb_servers.specs.Park.{Backends, added_pool, added_server, changed_pool, max_pools, cache_ready_of, max_servers, removed_server}
+use Rattle.lb_servers.specs.Pool.{cache_at, pool_named, with_cache as with_pool_cache, with_policy}
 use Rattle.lb_servers.specs.Server.{change_server, is_server, marked as marked_as, server_named, with_mode}
 use Rattle.lb_table.specs.declared.entry.Entry.{Entry}
 use Rattle.lb_table.specs.declared.place.Place.{Place}
 use Rattle.lb_table.specs.Place.{at_place}
 use Rattle.lb_table.specs.Table.{due, entry_at}
+use Rattle.lb_cache.specs.declared.cached.AttachedCache.{AttachedCache}
+use Rattle.lb_cache.specs.declared.cached.Covered.{Covered}
+use Rattle.lb_cache.specs.declared.cached.KeptReply.{KeptReply}
+use Rattle.lb_cache.specs.Caches.{looked_in, with_cache, without_old}
 use Rattle.lb_core.specs.declared.asked.Asked.{Asked}
+use Rattle.lb_core.specs.declared.asked.Routed.{Routed}
 use Rattle.lb_core.specs.declared.event.Event.{Event}
 use Rattle.lb_core.specs.declared.event.Event.TheVariants.{Query, Reply, Tick, HealthResult, Edit}
 use Rattle.lb_core.specs.declared.command.Command.{Command}
-use Rattle.lb_core.specs.declared.command.Command.TheVariants.{RuleAdd, RuleRemove, RuleMove, ServerAdd, ServerRemove, ServerMode, PoolAdd, PoolPolicy, SetTimeout}
+use Rattle.lb_core.specs.declared.command.Command.TheVariants.{RuleAdd, RuleRemove, RuleMove, ServerAdd, ServerRemove, ServerMode, PoolAdd, PoolPolicy, CacheAttach, CacheDetach, Expunge, SetTimeout, Show}
 use Rattle.lb_core.specs.declared.answer.Answer.{Answer}
 use Rattle.lb_core.specs.declared.answer.Note.{Note}
 use Rattle.lb_core.specs.declared.answer.Note.TheVariants as notes
 use Rattle.lb_core.specs.Answer.{marked}
-use Rattle.lb_core.specs.Plain.{Plain, at_plain, chain_of, upstreams_of, with_chain}
+use Rattle.lb_core.specs.Plain.{Plain, at_plain, chain_of, upstreams_of, with_chain, with_upstreams}
 use Rattle.lb_core.specs.Upstream.{Upstreams, backends_of}
-use Rattle.lb_core.specs.Edit.{edit_of, place_or_end, pool_edited, rule_added, rule_by, rules_told, server_by, server_edited, servers_told, upstream_changed, upstream_edited, upstream_told}
+use Rattle.lb_core.specs.Edit.{attached_to, cache_told, detached_from, edit_of, expunged_from, expunged_of, place_or_end, pool_edited, rule_added, rule_by, rules_told, server_by, server_edited, servers_told, upstream_changed, upstream_edited, upstream_told}
 use Rattle.lb_core.specs.Query.{QuerySteps, ReadSteps, WalkedSteps, is_transfer, walked_of}
 use Rattle.lb_core.specs.Reading.{Reading, OfNone, OfQuery, OfReply, moment_of}
-use Rattle.lb_core.specs.Reply.{held_against, reply_step}
+use Rattle.lb_core.specs.Look.{AskAnswers, FoundAnswers, PoolAnswers, ask_of}
+use Rattle.lb_core.specs.Reply.{BelongsOrNot, HeldAgainst, ReplySteps}
 use Rattle.lb_core.specs.Step.{RoutesFollow, StepsAt, asked_at}
 use Rattle.lb_core.proofs.Follows.{Follows, follows_added, follows_moved, follows_removed}
 use Rattle.std.proofs.lemmas.List.{length-map, map-append}
@@ -63,9 +71,9 @@ use Rattle.lb_core.specs.declared.command.StatedAction.TheVariants as stated
 use Rattle.lb_core.specs.declared.command.StatedRule.{StatedRule}
 use Rattle.lb_core.specs.Edit.{action_by}
 use Rattle.lb_core.specs.Forward.{PickForwards, sent}
-use Rattle.lb_core.specs.Query.{EndDecides, RuleDecides, default_pool, with_passes}
-use Rattle.lb_core.specs.Routes.{RoutePool, carried_out, left_by, passed_unless, route_named, route_of, routes_of, with_added, with_rules}
-use Rattle.lb_core.specs.Upstream.{with_backends, checked_by, is_check, on_backends, picked_of, put_into, removed_checked, takes_turns, turned_if, unchecked_by, with_mark, with_turn}
+use Rattle.lb_core.specs.Query.{EndDecides, RuleDecides, default_pool, to_pool, with_passes}
+use Rattle.lb_core.specs.Routes.{RoutePool, Routes, cache_routed, caches_without, carried_out, change_route, left_by, passed_unless, route_named, route_of, routes_of, with_added, with_attached, with_detached, with_route_cache, with_rules}
+use Rattle.lb_core.specs.Upstream.{attached_if, caches_of, detached_if, with_backends, checked_by, is_check, on_backends, picked_of, put_into, removed_checked, takes_turns, turned_if, unchecked_by, with_mark, with_turn}
 use Rattle.lb_core.specs.Expiry.{Ends}
 use Rattle.lb_core.specs.Health.{after_result, result_at, result_by, result_step, with_change, with_check_at}
 use Rattle.lb_core.specs.declared.check.Check.{Check}
@@ -87,35 +95,55 @@ turn_keeps true p = refl
 turn_keeps false p = refl
 
 -- what routes see of what stands upstream
-abbrev seen_of : Upstreams → ℕ × List RoutePool
-seen_of ups = (ups.next_cache, map route_of ups.pools)
+abbrev Seen : Type 0
+Seen = ℕ × List RoutePool × List AttachedCache
+
+abbrev seen_of : Upstreams → Seen
+seen_of ups = (ups.next_cache, map route_of ups.pools, ups.caches)
+
+-- the routes that see this of it
+abbrev seen_by : Routes → Seen → Routes
+seen_by routes seen = record routes { next_cache = seen.0; pools = seen.1; caches = seen.2 }
 
 -- forwarding changes nothing of it
-sent_names : (ups : Upstreams) (asked : Asked) (bytes : List ℕ) (view : QueryView) (no_recurse : Bool) (server : ServerId) (id : Option ℕ) → seen_of (sent ups asked bytes view no_recurse server id).0 ≡ seen_of ups
-sent_names ups asked bytes view no_recurse server None = refl
-sent_names ups asked bytes view no_recurse server (Some id) = refl
+sent_names : (ups : Upstreams) (asked : Asked) (bytes : List ℕ) (view : QueryView) (routed : Routed) (ask : Option (CacheId × Key)) (server : ServerId) (id : Option ℕ) → seen_of (sent ups asked bytes view routed ask server id).0 ≡ seen_of ups
+sent_names ups asked bytes view routed ask server None = refl
+sent_names ups asked bytes view routed ask server (Some id) = refl
 
-pick_names : (ups after : Upstreams) (asked : Asked) (bytes : List ℕ) (view : QueryView) (no_recurse : Bool) (pool : PoolId) (server : Option ServerId) (answer : Answer) →
-    PickForwards ups asked bytes view no_recurse pool server answer after → seen_of after ≡ seen_of ups
-pick_names ups after asked bytes view no_recurse pool None answer is = ap seen_of (left_of after answer _ is)
-pick_names ups after asked bytes view no_recurse pool (Some server) answer is =
-    ap seen_of (left_of after answer (sent (with_turn pool ups) asked bytes view no_recurse server is.0) is.2)
-    ∙ sent_names (with_turn pool ups) asked bytes view no_recurse server is.0
-    ∙ ap (λ (pools : List RoutePool). (ups.next_cache, pools)) (still_named turned_if pool.0 ups.pools (λ p. turn_keeps (takes_turns (Some p.policy)) p))
+pick_names : (ups after : Upstreams) (asked : Asked) (bytes : List ℕ) (view : QueryView) (routed : Routed) (ask : Option (CacheId × Key)) (server : Option ServerId) (answer : Answer) →
+    PickForwards ups asked bytes view routed ask server answer after → seen_of after ≡ seen_of ups
+pick_names ups after asked bytes view routed ask None answer is = ap seen_of (left_of after answer _ is)
+pick_names ups after asked bytes view routed ask (Some server) answer is =
+    ap seen_of (left_of after answer (sent (with_turn routed.pool ups) asked bytes view routed ask server is.0) is.2)
+    ∙ sent_names (with_turn routed.pool ups) asked bytes view routed ask server is.0
+    ∙ ap (λ (pools : List RoutePool). (ups.next_cache, pools, ups.caches)) (still_named turned_if routed.pool.0 ups.pools (λ p. turn_keeps (takes_turns (Some p.policy)) p))
 
-rule_names : (ups after : Upstreams) (asked : Asked) (bytes : List ℕ) (view : QueryView) (no_recurse : Bool) (rule : RuleId) (verdict : Verdict) (answer : Answer) →
-    RuleDecides ups asked bytes view no_recurse rule verdict answer after → seen_of after ≡ seen_of ups
-rule_names ups after asked bytes view no_recurse rule verdicts.Allow answer is = pick_names ups after asked bytes view no_recurse default_pool (picked_of ups default_pool) answer is
-rule_names ups after asked bytes view no_recurse rule (verdicts.Pool pool) answer is = pick_names ups after asked bytes view no_recurse pool (picked_of ups pool) answer is
-rule_names ups after asked bytes view no_recurse rule verdicts.Drop answer is = ap seen_of (left_of after answer _ is)
-rule_names ups after asked bytes view no_recurse rule (verdicts.Rcode rcode) answer is = ap seen_of (left_of after answer _ is)
-rule_names ups after asked bytes view no_recurse rule verdicts.Tc answer is = ap seen_of (left_of after answer _ is)
-rule_names ups after asked bytes view no_recurse rule (verdicts.Spoof addrs) answer is = ap seen_of (left_of after answer _ is)
+found_names : (ups after : Upstreams) (asked : Asked) (bytes : List ℕ) (view : QueryView) (routed : Routed) (ask : CacheId × Key) (hit : Option (List ℕ × ℕ)) (answer : Answer) →
+    FoundAnswers ups asked bytes view routed ask hit answer after → seen_of after ≡ seen_of ups
+found_names ups after asked bytes view routed ask None answer is = pick_names ups after asked bytes view routed (Some ask) (picked_of ups routed.pool) answer is
+found_names ups after asked bytes view routed ask (Some hit) answer is = ap seen_of (left_of after answer _ is.2)
+
+ask_names : (ups after : Upstreams) (asked : Asked) (bytes : List ℕ) (view : QueryView) (routed : Routed) (ask : Option (CacheId × Key)) (answer : Answer) →
+    AskAnswers ups asked bytes view routed ask answer after → seen_of after ≡ seen_of ups
+ask_names ups after asked bytes view routed None answer is = pick_names ups after asked bytes view routed None (picked_of ups routed.pool) answer is
+ask_names ups after asked bytes view routed (Some ask) answer is = found_names ups after asked bytes view routed ask (looked_in ups.kept ask.0 ask.1 asked.moment) answer is
+
+pool_names : (ups after : Upstreams) (asked : Asked) (bytes : List ℕ) (view : QueryView) (routed : Routed) (answer : Answer) → PoolAnswers ups asked bytes view routed answer after → seen_of after ≡ seen_of ups
+pool_names ups after asked bytes view routed answer is = ask_names ups after asked bytes view routed (ask_of (cache_at ups.pools routed.pool.0) asked.kind bytes view routed) answer is
+
+rule_names : (ups after : Upstreams) (asked : Asked) (bytes : List ℕ) (view : QueryView) (walked : Walked) (rule : RuleId) (verdict : Verdict) (answer : Answer) →
+    RuleDecides ups asked bytes view walked rule verdict answer after → seen_of after ≡ seen_of ups
+rule_names ups after asked bytes view walked rule verdicts.Allow answer is = pool_names ups after asked bytes view (to_pool walked default_pool) answer is
+rule_names ups after asked bytes view walked rule (verdicts.Pool pool) answer is = pool_names ups after asked bytes view (to_pool walked pool) answer is
+rule_names ups after asked bytes view walked rule verdicts.Drop answer is = ap seen_of (left_of after answer _ is)
+rule_names ups after asked bytes view walked rule (verdicts.Rcode rcode) answer is = ap seen_of (left_of after answer _ is)
+rule_names ups after asked bytes view walked rule verdicts.Tc answer is = ap seen_of (left_of after answer _ is)
+rule_names ups after asked bytes view walked rule (verdicts.Spoof addrs) answer is = ap seen_of (left_of after answer _ is)
 
 end_names : (ups after : Upstreams) (asked : Asked) (bytes : List ℕ) (view : QueryView) (walked : Walked) (rule : Option RuleId) (answer : Answer) →
     EndDecides ups asked bytes view walked rule answer after → seen_of after ≡ seen_of ups
-end_names ups after asked bytes view walked None answer is = pick_names ups after asked bytes view walked.no_recurse default_pool (picked_of ups default_pool) answer is
-end_names ups after asked bytes view walked (Some rule) answer is = rule_names ups after asked bytes view walked.no_recurse rule walked.verdict answer is
+end_names ups after asked bytes view walked None answer is = pool_names ups after asked bytes view (to_pool walked default_pool) answer is
+end_names ups after asked bytes view walked (Some rule) answer is = rule_names ups after asked bytes view walked rule walked.verdict answer is
 
 -- a query, by its reading
 abbrev Follow : Plain → Event → Reading → Answer → Plain → Type 0
@@ -127,7 +155,7 @@ walk_follows true p new asked bytes view answer step = ap routes_of (left_of new
 walk_follows false p new asked bytes view answer step =
     let walked = walked_of p asked view in
     ap routes_of step.2
-    ∙ ap (λ (seen : ℕ × List RoutePool). record (routes_of (with_passes asked walked p)) { next_cache = seen.0; pools = seen.1 }) (end_names (upstreams_of p) step.0 asked bytes view walked walked.rule answer step.1)
+    ∙ ap (seen_by (routes_of (with_passes asked walked p))) (end_names (upstreams_of p) step.0 asked bytes view walked walked.rule answer step.1)
 
 read_follows : (transfer mark : Bool) (p new : Plain) (asked : Asked) (bytes : List ℕ) (view : QueryView) (answer : Answer) →
     ReadSteps transfer mark p asked bytes view answer new → routes_of new ≡ passed_unless (transfer || mark) (routes_of p) asked view
@@ -142,22 +170,27 @@ query_follows p new now origin kind word bytes (Err query_faults.Malformed) answ
 query_follows p new now origin kind word bytes (Ok view) answer step = read_follows (is_transfer view.qtype.0) (marked answer) p new (asked_at p.moment origin kind word) bytes view answer step
 
 -- a reply changes nothing of it
-pools_if : (b : Bool) (x y : Upstreams × Answer) (seen : ℕ × List RoutePool) → seen_of x.0 ≡ seen → seen_of y.0 ≡ seen → seen_of (if b then x else y).0 ≡ seen
-pools_if true x y seen first second = first
-pools_if false x y seen first second = second
+belongs_pools : (fits mark : Bool) (ups after : Upstreams) (place : Place) (moment : ℕ) (bytes : List ℕ) (view : ReplyView) (entry : Entry) (answer : Answer) →
+    BelongsOrNot fits mark ups place moment bytes view entry answer after → seen_of after ≡ seen_of ups
+belongs_pools true mark ups after place moment bytes view entry answer step = ap seen_of (left_of after answer _ step.3)
+belongs_pools false mark ups after place moment bytes view entry answer step = ap seen_of (left_of after answer _ step)
 
-held_pools : (ups : Upstreams) (place : Place) (bytes : List ℕ) (view : ReplyView) (entry : Option Entry) → seen_of (held_against ups place bytes view entry).0 ≡ seen_of ups
-held_pools ups place bytes view None = refl
-held_pools ups place bytes view (Some entry) = pools_if (belongs view entry.name entry.qtype entry.qclass) _ _ (seen_of ups) refl refl
+held_pools : (mark : Bool) (ups after : Upstreams) (place : Place) (moment : ℕ) (bytes : List ℕ) (view : ReplyView) (entry : Option Entry) (answer : Answer) →
+    HeldAgainst mark ups place moment bytes view entry answer after → seen_of after ≡ seen_of ups
+held_pools mark ups after place moment bytes view None answer step = ap seen_of (left_of after answer _ step)
+held_pools mark ups after place moment bytes view (Some entry) answer step =
+    belongs_pools (belongs view entry.name entry.qtype entry.qclass) mark ups after place moment bytes view entry answer step
 
-reply_pools : (ups : Upstreams) (server : ServerId) (lane : Lane) (bytes : List ℕ) (reading : Result ReplyView ReplyFault) → seen_of (reply_step ups server lane bytes reading).0 ≡ seen_of ups
-reply_pools ups server lane bytes (Err reply_faults.Short) = refl
-reply_pools ups server lane bytes (Err reply_faults.NotReply) = refl
-reply_pools ups server lane bytes (Ok view) = held_pools ups (at_place server lane view.id) bytes view (entry_at ups.outstanding (at_place server lane view.id))
+reply_pools : (mark : Bool) (ups after : Upstreams) (server : ServerId) (lane : Lane) (moment : ℕ) (bytes : List ℕ) (reading : Result ReplyView ReplyFault) (answer : Answer) →
+    ReplySteps mark ups server lane moment bytes reading answer after → seen_of after ≡ seen_of ups
+reply_pools mark ups after server lane moment bytes (Err reply_faults.Short) answer step = ap seen_of (left_of after answer _ step)
+reply_pools mark ups after server lane moment bytes (Err reply_faults.NotReply) answer step = ap seen_of (left_of after answer _ step)
+reply_pools mark ups after server lane moment bytes (Ok view) answer step =
+    held_pools mark ups after (at_place server lane view.id) moment bytes view (entry_at ups.outstanding (at_place server lane view.id)) answer step
 
 -- the routes with what stands upstream changed
 upstream_routes : (p : Plain) (done : Upstreams × Answer) → seen_of done.0 ≡ seen_of (upstreams_of p) → routes_of (upstream_changed p done).0 ≡ routes_of p
-upstream_routes p done is = ap (λ (seen : ℕ × List RoutePool). record (routes_of p) { next_cache = seen.0; pools = seen.1 }) is
+upstream_routes p done is = ap (seen_by (routes_of p)) is
 
 -- a pool is found by its name as it is among the routes
 where_named : (name : PoolName) (pools : List Pool) → position_or_len (λ pool. same_name pool.name name) (map route_of pools) ≡ position_or_len (is_named name) pools
@@ -287,6 +320,69 @@ policy_put p now name policy (Some pool) =
     (by_done note p now (PoolPolicy name policy) put tt (ap (λ (pools : List RoutePool). record (routes_of p) { pools = pools }) (still_named (with_policy policy) pool.0 park.pools (λ p. refl))))
     (by_fault note p now (PoolPolicy name policy) park_faults.NoSuchPool)
 
+-- a cache attached to a pool, or taken off it
+still_routed : (cache : Option CacheId) (at : ℕ) (pools : List Pool) → map route_of (change_at (with_pool_cache cache) at pools) ≡ change_route (with_route_cache cache) at (map route_of pools)
+still_routed cache at [] = refl
+still_routed cache zero (p ∷ pools) = refl
+still_routed cache (suc at) (p ∷ pools) = ap (λ (rs : List RoutePool). route_of p ∷ rs) (still_routed cache at pools)
+
+routed_at : (at : ℕ) (pools : List Pool) → cache_routed (map route_of pools) at ≡ cache_at pools at
+routed_at at [] = refl
+routed_at zero (p ∷ pools) = refl
+routed_at (suc at) (p ∷ pools) = routed_at at pools
+
+old_left : (old : Option CacheId) (caches : List AttachedCache) (kept : List KeptReply) → (without_old old (record { caches = caches; kept = kept })).caches ≡ caches_without old caches
+old_left None caches kept = refl
+old_left (Some id) caches kept = refl
+
+-- an edit of a cache leaves the routes that its answer says
+replaced_follows : (mark : Bool) (p : Plain) (now : ℕ) (command : Command) (pool : PoolId) (max max_ttl : ℕ) (ready : Result (Unit {0}) ParkFault) →
+    carried_out (routes_of p) command ≡ with_attached (routes_of p) max max_ttl (Some pool) →
+    routes_of (upstream_changed p (upstream_told notes.CacheAttached (attached_if mark (upstreams_of p) pool max max_ttl ready))).0
+    ≡ left_by (routes_of p) (Edit now command) OfNone (upstream_told notes.CacheAttached (attached_if mark (upstreams_of p) pool max max_ttl ready)).1
+replaced_follows mark p now command pool max max_ttl (Err fault) is = refl
+replaced_follows true p now command pool max max_ttl (Ok ready) is = refl
+replaced_follows false p now command pool max max_ttl (Ok ready) is =
+    let id : CacheId = record { 0 = p.next_cache } in
+    let cache : AttachedCache = record { id = id; max = max; max_ttl = max_ttl } in
+    let left : List RoutePool → List AttachedCache → Routes =
+    λ pools caches. record (routes_of p) { next_cache = p.next_cache + 1; pools = pools; caches = (with_cache cache (record { caches = caches; kept = [] })).caches } in
+    let others : (without_old (cache_at p.pools pool.0) (caches_of (upstreams_of p))).caches ≡ caches_without (cache_routed (map route_of p.pools) pool.0) p.caches =
+    old_left (cache_at p.pools pool.0) p.caches p.kept ∙ ap (λ (old : Option CacheId). caches_without old p.caches) (sym (routed_at pool.0 p.pools)) in
+    ap (λ (pools : List RoutePool). left pools (without_old (cache_at p.pools pool.0) (caches_of (upstreams_of p))).caches) (still_routed (Some id) pool.0 p.pools)
+    ∙ ap (λ (caches : List AttachedCache). left (change_route (with_route_cache (Some id)) pool.0 (map route_of p.pools)) caches) others
+    ∙ sym is
+
+attached_follows : (mark : Bool) (p : Plain) (now : ℕ) (command : Command) (max max_ttl : ℕ) (pool : Option PoolId) → carried_out (routes_of p) command ≡ with_attached (routes_of p) max max_ttl pool →
+    routes_of (upstream_changed p (attached_to mark (upstreams_of p) max max_ttl pool)).0 ≡ left_by (routes_of p) (Edit now command) OfNone (attached_to mark (upstreams_of p) max max_ttl pool).1
+attached_follows mark p now command max max_ttl None is = refl
+attached_follows mark p now command max max_ttl (Some pool) is = replaced_follows mark p now command pool max max_ttl (cache_ready_of (backends_of (upstreams_of p)) pool) is
+
+taken_follows : (p : Plain) (now : ℕ) (command : Command) (pool : PoolId) (cache : Option CacheId) → cache_at p.pools pool.0 ≡ cache →
+    carried_out (routes_of p) command ≡ with_detached (routes_of p) (Some pool) →
+    routes_of (with_upstreams (detached_if (upstreams_of p) pool cache).0 p) ≡ left_by (routes_of p) (Edit now command) OfNone (cache_told notes.CacheDetached (detached_if (upstreams_of p) pool cache).1)
+taken_follows p now command pool None has is = refl
+taken_follows p now command pool (Some id) has is =
+    let left : List RoutePool → Option CacheId → Routes = λ pools old. record (routes_of p) { pools = pools; caches = caches_without old p.caches } in
+    ap (λ (pools : List RoutePool). left pools (Some id)) (still_routed None pool.0 p.pools)
+    ∙ ap (left (change_route (with_route_cache None) pool.0 (map route_of p.pools))) (sym (routed_at pool.0 p.pools ∙ has))
+    ∙ sym is
+
+detached_follows : (p : Plain) (now : ℕ) (command : Command) (pool : Option PoolId) → carried_out (routes_of p) command ≡ with_detached (routes_of p) pool →
+    routes_of (upstream_changed p (detached_from (upstreams_of p) pool)).0 ≡ left_by (routes_of p) (Edit now command) OfNone (detached_from (upstreams_of p) pool).1
+detached_follows p now command None is = refl
+detached_follows p now command (Some pool) is = taken_follows p now command pool (cache_at p.pools pool.0) refl is
+
+emptied_follows : (p : Plain) (now : ℕ) (command : Command) (covered : Covered) (cache : Option CacheId) → carried_out (routes_of p) command ≡ routes_of p →
+    routes_of (upstream_changed p (expunged_of (upstreams_of p) covered cache)).0 ≡ left_by (routes_of p) (Edit now command) OfNone (expunged_of (upstreams_of p) covered cache).1
+emptied_follows p now command covered None is = refl
+emptied_follows p now command covered (Some id) is = sym is
+
+expunged_follows : (p : Plain) (now : ℕ) (command : Command) (covered : Covered) (pool : Option PoolId) → carried_out (routes_of p) command ≡ routes_of p →
+    routes_of (upstream_changed p (expunged_from (upstreams_of p) covered pool)).0 ≡ left_by (routes_of p) (Edit now command) OfNone (expunged_from (upstreams_of p) covered pool).1
+expunged_follows p now command covered None is = refl
+expunged_follows p now command covered (Some pool) is = emptied_follows p now command covered (cache_at p.pools pool.0) is
+
 -- a command
 edit_follows : (mark : Bool) (p : Plain) (now : ℕ) (command : Command) → IsSeen p → routes_of (edit_of mark p command).0 ≡ left_by (routes_of p) (Edit now command) OfNone (edit_of mark p command).1
 unfolding FollowsBy
@@ -300,6 +396,12 @@ edit_follows mark p now (ServerRemove name) seen = server_removed p now name (se
 edit_follows mark p now (ServerMode name mode) seen = server_put p now name mode (server_by (upstreams_of p) name)
 edit_follows mark p now (PoolAdd name) seen = pool_added mark p now name
 edit_follows mark p now (PoolPolicy name policy) seen = policy_put p now name policy (pool_named p.pools name)
+edit_follows mark p now (CacheAttach name max shards max_ttl) seen =
+    attached_follows mark p now (CacheAttach name max shards max_ttl) max max_ttl (pool_named p.pools name) (ap (λ (found : Option PoolId). with_attached (routes_of p) max max_ttl found) (named_alike name p.pools))
+edit_follows mark p now (CacheDetach name) seen =
+    detached_follows p now (CacheDetach name) (pool_named p.pools name) (ap (λ (found : Option PoolId). with_detached (routes_of p) found) (named_alike name p.pools))
+edit_follows mark p now (Expunge name covered) seen = expunged_follows p now (Expunge name covered) covered (pool_named p.pools name) refl
+edit_follows mark p now Show seen = refl
 edit_follows mark p now (SetTimeout timeout) seen = refl
 
 -- nor does a tick or a health result
@@ -307,7 +409,7 @@ tick_pools : (ups after : Upstreams) (now : ℕ) (w : Option Waiting) (answer : 
 tick_pools ups after now None answer step = ap seen_of (left_of after answer _ step)
 tick_pools ups after now (Some w) answer step = ap seen_of (left_of after answer _ step.2)
 
-same_seen_if : {A : Type 0} (ups : Upstreams) (b : Bool) (x y : Backends × A) (seen : ℕ × List RoutePool) → seen_of (with_backends x.0 ups) ≡ seen → seen_of (with_backends y.0 ups) ≡ seen → seen_of (with_backends (if b then x else y).0 ups) ≡ seen
+same_seen_if : {A : Type 0} (ups : Upstreams) (b : Bool) (x y : Backends × A) (seen : Seen) → seen_of (with_backends x.0 ups) ≡ seen → seen_of (with_backends y.0 ups) ≡ seen → seen_of (with_backends (if b then x else y).0 ups) ≡ seen
 same_seen_if ups true x y seen first second = first
 same_seen_if ups false x y seen first second = second
 
@@ -334,8 +436,8 @@ step_follows p new (Query now origin kind word bytes) (OfQuery reading) answer s
 step_follows p new (Query now origin kind word bytes) (OfReply reading) answer seen step = absurd step
 step_follows p new (Query now origin kind word bytes) OfNone answer seen step = absurd step
 step_follows p new (Reply now server lane bytes) (OfReply reading) answer seen step =
-    ap routes_of (left_of new answer (upstream_changed p (reply_step (upstreams_of p) server lane bytes reading)) step)
-    ∙ upstream_routes p (reply_step (upstreams_of p) server lane bytes reading) (reply_pools (upstreams_of p) server lane bytes reading)
+    ap routes_of step.2
+    ∙ upstream_routes p (step.0, answer) (reply_pools (marked answer) (upstreams_of p) step.0 server lane p.moment bytes reading answer step.1)
 step_follows p new (Reply now server lane bytes) (OfQuery reading) answer seen step = absurd step
 step_follows p new (Reply now server lane bytes) OfNone answer seen step = absurd step
 step_follows p new (Tick now) OfNone answer seen step =

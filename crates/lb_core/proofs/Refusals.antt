@@ -3,6 +3,7 @@ use Rattle.std.proofs.Common.{◌≡◌, ℕ, Bool, true, false, List, [], ◌�
 use Rattle.std.proofs.lemmas.Bool.{both_ways}
 use Rattle.std.specs.Prelude.{if◌then◌else◌}
 use Rattle.lb_wire.specs.Belongs.{belongs}
+use Rattle.lb_wire.specs.declared.ids.CacheId.{CacheId}
 use Rattle.lb_wire.specs.declared.ids.PoolId.{PoolId}
 use Rattle.lb_wire.specs.declared.ids.ServerId.{ServerId}
 use Rattle.lb_wire.specs.declared.transport.Lane.{Lane}
@@ -20,8 +21,8 @@ use Rattle.lb_chain.specs.Edits.{Rules, moved, removed}
 use Rattle.lb_chain.specs.Seen.{seen_rules, SeenTwice}
 use Rattle.lb_servers.specs.declared.fault.ParkFault.{ParkFault}
 use Rattle.lb_servers.specs.declared.server.Server.{Server}
-use Rattle.lb_servers.specs.Park.{Backends, added_pool, added_server, changed_pool, changed_server, removed_server}
-use Rattle.lb_servers.specs.Pool.{pool_named, with_policy}
+use Rattle.lb_servers.specs.Park.{Backends, added_pool, added_server, changed_pool, changed_server, cache_ready_of, removed_server}
+use Rattle.lb_servers.specs.Pool.{cache_at, pool_named, with_policy}
 use Rattle.lb_servers.specs.Server.{with_mode}
 use Rattle.lb_table.specs.declared.entry.Entry.{Entry}
 use Rattle.lb_table.specs.declared.entry.Waiting.{Waiting}
@@ -32,21 +33,22 @@ use Rattle.lb_health.specs.declared.health.Changed.{Changed}
 use Rattle.lb_health.specs.declared.health.Changed.TheVariants as changes
 use Rattle.lb_servers.specs.declared.server.Mode.{Mode}
 use Rattle.lb_servers.specs.declared.spec.ServerSpec.{ServerSpec}
+use Rattle.lb_cache.specs.declared.cached.Covered.{Covered}
 use Rattle.lb_core.specs.declared.asked.Asked.{Asked}
 use Rattle.lb_core.specs.declared.event.Event.{Event}
 use Rattle.lb_core.specs.declared.event.Event.TheVariants.{Query, Reply, Tick, HealthResult, Edit}
 use Rattle.lb_core.specs.declared.command.Command.{Command}
-use Rattle.lb_core.specs.declared.command.Command.TheVariants.{RuleAdd, RuleRemove, RuleMove, ServerAdd, ServerRemove, ServerMode, PoolAdd, PoolPolicy, SetTimeout}
+use Rattle.lb_core.specs.declared.command.Command.TheVariants.{RuleAdd, RuleRemove, RuleMove, ServerAdd, ServerRemove, ServerMode, PoolAdd, PoolPolicy, CacheAttach, CacheDetach, Expunge, SetTimeout, Show}
 use Rattle.lb_core.specs.declared.answer.Answer.{Answer}
 use Rattle.lb_core.specs.declared.answer.Note.{Note}
 use Rattle.lb_core.specs.declared.answer.Note.TheVariants as notes
 use Rattle.lb_core.specs.Answer.{is_refused, marked}
 use Rattle.lb_core.specs.Plain.{Plain, at_plain, chain_of, upstreams_of, with_chain, with_upstreams}
-use Rattle.lb_core.specs.Upstream.{Upstreams, added_checked, backends_of, checked_by, loaded_by, on_backends, put_into, removed_checked, server_of, unchecked_by, with_backends}
-use Rattle.lb_core.specs.Edit.{edit_of, place_or_end, pool_edited, rule_added, rule_by, rules_told, server_by, server_edited, servers_told, upstream_changed, upstream_edited, upstream_told}
+use Rattle.lb_core.specs.Upstream.{Upstreams, added_checked, attached_cache, attached_if, backends_of, checked_by, detached_if, loaded_by, on_backends, put_into, removed_checked, server_of, unchecked_by, with_backends}
+use Rattle.lb_core.specs.Edit.{attached_to, cache_told, detached_from, edit_of, expunged_from, expunged_of, place_or_end, pool_edited, rule_added, rule_by, rules_told, server_by, server_edited, servers_told, upstream_changed, upstream_edited, upstream_told}
 use Rattle.lb_core.specs.Query.{QuerySteps, ReadSteps, WalkedSteps, is_transfer, walked_of}
 use Rattle.lb_core.specs.Reading.{Reading, OfNone, OfQuery, OfReply, moment_of}
-use Rattle.lb_core.specs.Reply.{held_against, reply_step}
+use Rattle.lb_core.specs.Reply.{BelongsOrNot, HeldAgainst, ReplySteps}
 use Rattle.lb_core.specs.Expiry.{Ends}
 use Rattle.lb_core.specs.Health.{result_step, result_taken, result_told}
 use Rattle.lb_core.specs.declared.check.CheckSpec.{CheckSpec}
@@ -125,6 +127,33 @@ kept_pool : (note : Note) (edit : Backends → PoolId → Backends × Result (Un
 kept_pool note edit ups None follows is = refl
 kept_pool note edit ups (Some pool) follows is = kept_upstream (λ _. note) ups (edit (backends_of ups) pool) (edit (backends_of ups) pool) (follows (backends_of ups) pool) is
 
+-- a refused edit of a cache
+kept_replaced : (mark : Bool) (ups : Upstreams) (pool : PoolId) (max max_ttl : ℕ) (ready : Result (Unit {0}) ParkFault) → refuses (attached_if mark ups pool max max_ttl ready).1 ≡ true → (attached_if mark ups pool max max_ttl ready).0 ≡ ups
+kept_replaced mark ups pool max max_ttl (Err fault) is = refl
+kept_replaced true ups pool max max_ttl (Ok ready) is = refl
+kept_replaced false ups pool max max_ttl (Ok ready) is = absurd (false_true is)
+
+kept_attached : (mark : Bool) (ups : Upstreams) (max max_ttl : ℕ) (pool : Option PoolId) → is_refused (attached_to mark ups max max_ttl pool).1 ≡ true → (attached_to mark ups max max_ttl pool).0 ≡ ups
+kept_attached mark ups max max_ttl None is = refl
+kept_attached mark ups max max_ttl (Some pool) is =
+    kept_replaced mark ups pool max max_ttl (cache_ready_of (backends_of ups) pool) (sym (servers_refuse notes.CacheAttached (attached_cache mark ups pool max max_ttl).1) ∙ is)
+
+kept_taken : (ups : Upstreams) (pool : PoolId) (cache : Option CacheId) → is_refused (cache_told notes.CacheDetached (detached_if ups pool cache).1) ≡ true → (detached_if ups pool cache).0 ≡ ups
+kept_taken ups pool None is = refl
+kept_taken ups pool (Some id) is = absurd (false_true is)
+
+kept_detached : (ups : Upstreams) (pool : Option PoolId) → is_refused (detached_from ups pool).1 ≡ true → (detached_from ups pool).0 ≡ ups
+kept_detached ups None is = refl
+kept_detached ups (Some pool) is = kept_taken ups pool (cache_at ups.pools pool.0) is
+
+kept_emptied : (ups : Upstreams) (covered : Covered) (cache : Option CacheId) → is_refused (expunged_of ups covered cache).1 ≡ true → (expunged_of ups covered cache).0 ≡ ups
+kept_emptied ups covered None is = refl
+kept_emptied ups covered (Some id) is = absurd (false_true is)
+
+kept_expunged : (ups : Upstreams) (covered : Covered) (pool : Option PoolId) → is_refused (expunged_from ups covered pool).1 ≡ true → (expunged_from ups covered pool).0 ≡ ups
+kept_expunged ups covered None is = refl
+kept_expunged ups covered (Some pool) is = kept_emptied ups covered (cache_at ups.pools pool.0) is
+
 -- the state with what stands upstream as it was
 kept_changed : (p : Plain) (done : Upstreams × Answer) → done.0 ≡ upstreams_of p → (upstream_changed p done).0 ≡ p
 kept_changed p done is = ap (λ (u : Upstreams). with_upstreams u p) is
@@ -151,6 +180,16 @@ kept_command mark p (PoolAdd name) seen is =
 kept_command mark p (PoolPolicy name policy) seen is =
     let ups = upstreams_of p in
     kept_changed p (pool_edited (notes.PoolPolicy name policy) (changed_pool (with_policy policy)) ups (pool_named p.pools name)) (kept_pool (notes.PoolPolicy name policy) (changed_pool (with_policy policy)) ups (pool_named p.pools name) (follows_changed_pool (with_policy policy)) is)
+kept_command mark p (CacheAttach name max shards max_ttl) seen is =
+    let ups = upstreams_of p in
+    kept_changed p (attached_to mark ups max max_ttl (pool_named p.pools name)) (kept_attached mark ups max max_ttl (pool_named p.pools name) is)
+kept_command mark p (CacheDetach name) seen is =
+    let ups = upstreams_of p in
+    kept_changed p (detached_from ups (pool_named p.pools name)) (kept_detached ups (pool_named p.pools name) is)
+kept_command mark p (Expunge name covered) seen is =
+    let ups = upstreams_of p in
+    kept_changed p (expunged_from ups covered (pool_named p.pools name)) (kept_expunged ups covered (pool_named p.pools name) is)
+kept_command mark p Show seen is = absurd (false_true is)
 kept_command mark p (SetTimeout timeout) seen is = absurd (false_true is)
 
 pub left_of : {State : Type 0} (new : State) (answer : Answer) (done : State × Answer) → (new, answer) ≡ done → new ≡ done.0
@@ -179,18 +218,23 @@ kept_query mark p new asked bytes (Err query_faults.Malformed) answer step is = 
 kept_query mark p new asked bytes (Ok view) answer step is = kept_read (is_transfer view.qtype.0) mark p new asked bytes view answer step is
 
 -- no reply is refused
-taken_if : {State : Type 0} (b : Bool) (x y : State × Answer) → is_refused x.1 ≡ false → is_refused y.1 ≡ false → is_refused (if b then x else y).1 ≡ false
-taken_if true x y first second = first
-taken_if false x y first second = second
+taken_belongs : (fits mark : Bool) (ups after : Upstreams) (place : Place) (moment : ℕ) (bytes : List ℕ) (view : ReplyView) (entry : Entry) (answer : Answer) →
+    BelongsOrNot fits mark ups place moment bytes view entry answer after → is_refused answer ≡ false
+taken_belongs true mark ups after place moment bytes view entry answer step = ap is_refused (told_of after answer _ step.3)
+taken_belongs false mark ups after place moment bytes view entry answer step = ap is_refused (told_of after answer _ step)
 
-taken_held : (ups : Upstreams) (place : Place) (bytes : List ℕ) (view : ReplyView) (entry : Option Entry) → is_refused (held_against ups place bytes view entry).1 ≡ false
-taken_held ups place bytes view None = refl
-taken_held ups place bytes view (Some entry) = taken_if (belongs view entry.name entry.qtype entry.qclass) _ _ refl refl
+taken_held : (mark : Bool) (ups after : Upstreams) (place : Place) (moment : ℕ) (bytes : List ℕ) (view : ReplyView) (entry : Option Entry) (answer : Answer) →
+    HeldAgainst mark ups place moment bytes view entry answer after → is_refused answer ≡ false
+taken_held mark ups after place moment bytes view None answer step = ap is_refused (told_of after answer _ step)
+taken_held mark ups after place moment bytes view (Some entry) answer step =
+    taken_belongs (belongs view entry.name entry.qtype entry.qclass) mark ups after place moment bytes view entry answer step
 
-taken_reply : (ups : Upstreams) (server : ServerId) (lane : Lane) (bytes : List ℕ) (reading : Result ReplyView ReplyFault) → is_refused (reply_step ups server lane bytes reading).1 ≡ false
-taken_reply ups server lane bytes (Err reply_faults.Short) = refl
-taken_reply ups server lane bytes (Err reply_faults.NotReply) = refl
-taken_reply ups server lane bytes (Ok view) = taken_held ups (at_place server lane view.id) bytes view (entry_at ups.outstanding (at_place server lane view.id))
+taken_reply : (mark : Bool) (ups after : Upstreams) (server : ServerId) (lane : Lane) (moment : ℕ) (bytes : List ℕ) (reading : Result ReplyView ReplyFault) (answer : Answer) →
+    ReplySteps mark ups server lane moment bytes reading answer after → is_refused answer ≡ false
+taken_reply mark ups after server lane moment bytes (Err reply_faults.Short) answer step = ap is_refused (told_of after answer _ step)
+taken_reply mark ups after server lane moment bytes (Err reply_faults.NotReply) answer step = ap is_refused (told_of after answer _ step)
+taken_reply mark ups after server lane moment bytes (Ok view) answer step =
+    taken_held mark ups after (at_place server lane view.id) moment bytes view (entry_at ups.outstanding (at_place server lane view.id)) answer step
 
 -- no tick and no health result is refused
 taken_tick : (ups after : Upstreams) (now : ℕ) (w : Option Waiting) (answer : Answer) → Ends ups now w answer after → is_refused answer ≡ false
@@ -208,7 +252,7 @@ kept_step p new (Query now origin kind word bytes) (OfQuery reading) answer seen
 kept_step p new (Query now origin kind word bytes) (OfReply reading) answer seen step is = absurd step
 kept_step p new (Query now origin kind word bytes) OfNone answer seen step is = absurd step
 kept_step p new (Reply now server lane bytes) (OfReply reading) answer seen step is =
-    absurd (both_ways (is_refused answer) (ap is_refused (told_of new answer (upstream_changed p (reply_step (upstreams_of p) server lane bytes reading)) step) ∙ taken_reply (upstreams_of p) server lane bytes reading) is)
+    absurd (both_ways (is_refused answer) (taken_reply (marked answer) (upstreams_of p) step.0 server lane p.moment bytes reading answer step.1) is)
 kept_step p new (Reply now server lane bytes) (OfQuery reading) answer seen step is = absurd step
 kept_step p new (Reply now server lane bytes) OfNone answer seen step is = absurd step
 kept_step p new (Tick now) OfNone answer seen step is = absurd (both_ways (is_refused answer) (taken_tick (upstreams_of p) step.0 p.moment (due p.moment p.outstanding) answer step.1) is)

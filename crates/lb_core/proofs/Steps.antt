@@ -33,7 +33,7 @@ use Rattle.lb_core.specs.Answer.{marked}
 use Rattle.lb_core.specs.Edit.{edit_of, upstream_changed, MayLackAt}
 use Rattle.lb_core.specs.Plain.{Plain, at_plain, plain_of, with_upstreams}
 use Rattle.lb_core.specs.Reading.{OfNone, OfQuery, OfReply}
-use Rattle.lb_core.specs.Reply.{held_against, reply_step}
+use Rattle.lb_core.specs.Reply.{MayKeep, ReplySteps}
 use Rattle.lb_core.specs.Expiry.{Ends, Expires}
 use Rattle.lb_core.specs.Health.{result_step, result_taken, result_told}
 use Rattle.lb_core.specs.Step.{Answers, MayMarkAt, StepsAt, asked_at}
@@ -77,34 +77,19 @@ query_answers twice m now t old new ups after origin kind word bytes answer is s
       mark = λ marks. subst (λ (p : Plain). MayMarkAt p (Query now origin kind word bytes)) then_old (mark marks);
     }
 
-unmarked_if : {State : Type 0} (b : Bool) (x y : State × Answer) → marked x.1 ≡ false → marked y.1 ≡ false → marked (if b then x else y).1 ≡ false
-unmarked_if true x y first second = first
-unmarked_if false x y first second = second
-
--- a reply is answered without a mark
-unmarked_held : (ups : Upstreams) (place : Place) (bytes : List ℕ) (view : ReplyView) (entry : Option Entry) → marked (held_against ups place bytes view entry).1 ≡ false
-unmarked_held ups place bytes view None = refl
-unmarked_held ups place bytes view (Some entry) = unmarked_if (belongs view entry.name entry.qtype entry.qclass) _ _ refl refl
-
-pub unmarked_reply : (ups : Upstreams) (server : ServerId) (lane : Lane) (bytes : List ℕ) (reading : Result ReplyView ReplyFault) → marked (reply_step ups server lane bytes reading).1 ≡ false
-unmarked_reply ups server lane bytes (Err reply_faults.Short) = refl
-unmarked_reply ups server lane bytes (Err reply_faults.NotReply) = refl
-unmarked_reply ups server lane bytes (Ok view) = unmarked_held ups (at_place server lane view.id) bytes view (entry_at ups.outstanding (at_place server lane view.id))
-
 -- an event of a reply
 pub reply_answers : SeenTwice → (m now t : ℕ) (chain : Rules) (ups after : Upstreams) (server : ServerId) (lane : Lane) (bytes : List ℕ) (answer : Answer) →
     t ≡ max m now →
-    ((reading : Result ReplyView ReplyFault) × ReadsReply bytes reading × ((after, answer) ≡ reply_step ups server lane bytes reading)) →
+    ((reading : Result ReplyView ReplyFault) × ReadsReply bytes reading × ReplySteps (marked answer) ups server lane t bytes reading answer after) →
+    (IsTrue (marked answer) → MayKeep ups server lane t bytes) →
     Answers (plain_of m chain ups) (Reply now server lane bytes) answer (plain_of t chain after)
-reply_answers twice m now t chain ups after server lane bytes answer is step =
+reply_answers twice m now t chain ups after server lane bytes answer is step mark =
     let then_old : plain_of t chain ups ≡ at_plain now (plain_of m chain ups) = sym (later twice m now t chain ups is) in
-    let told : answer ≡ (reply_step ups server lane bytes step.0).1 = ap (λ (d : Upstreams × Answer). d.1) step.2 in
     record {
       reading = OfReply step.0;
       reads = step.1;
-      step = subst (λ (p : Plain). StepsAt p (Reply now server lane bytes) (OfReply step.0) answer (plain_of t chain after)) then_old
-          (ap (upstream_changed (plain_of t chain ups)) step.2);
-      mark = λ marks. absurd (false_true (sym (ap marked told ∙ unmarked_reply ups server lane bytes step.0) ∙ marks));
+      step = subst (λ (p : Plain). StepsAt p (Reply now server lane bytes) (OfReply step.0) answer (plain_of t chain after)) then_old (after, step.2, refl);
+      mark = λ marks. subst (λ (p : Plain). MayMarkAt p (Reply now server lane bytes)) then_old (mark marks);
     }
 
 -- a tick is answered without a mark

@@ -33,7 +33,7 @@ use Rattle.lb_table.specs.declared.fault.EnterFault.{EnterFault}
 use Rattle.lb_table.specs.declared.fault.EnterFault.TheVariants.{LaneFull, NoMemory}
 use Rattle.lb_table.specs.Place.{at_place}
 use Rattle.lb_table.specs.Table.{FirstFree, entered, is_for}
-use Rattle.lb_cache.specs.Caches.{CacheLists, expunged_in, name_of_key, with_cache, without_old}
+use Rattle.lb_cache.specs.Caches.{CacheLists, expunged_in, name_of_key, with_cache, without_cache, without_old}
 use Rattle.lb_cache.specs.declared.cached.AttachedCache.{AttachedCache}
 use Rattle.lb_cache.specs.declared.cached.KeptReply.{KeptReply}
 use Rattle.lb_core.specs.declared.answer.Totals.{Totals}
@@ -149,10 +149,12 @@ abbrev pub attached_cache : Bool → Upstreams → PoolId → ℕ → ℕ → Up
 attached_cache lacking ups pool max max_ttl = attached_if lacking ups pool max max_ttl (cache_ready_of (backends_of ups) pool)
 
 -- the cache of a pool taken off it, with what it keeps
+abbrev pub detached_if : Upstreams → PoolId → Option CacheId → Upstreams × Option CacheId
+detached_if ups pool None = (ups, None)
+detached_if ups pool (Some id) = (with_caches (without_cache id (caches_of ups)) (on_backends ups (detached (backends_of ups) pool)).0, Some id)
+
 abbrev pub detached_cache : Upstreams → PoolId → Upstreams × Option CacheId
-detached_cache ups pool =
-    let done = on_backends ups (detached (backends_of ups) pool) in
-    (with_caches (without_old done.1 (caches_of ups)) done.0, done.1)
+detached_cache ups pool = detached_if ups pool (cache_at ups.pools pool.0)
 
 -- a cache expunged
 abbrev pub expunged_cache : Upstreams → CacheId → Covered → Upstreams × ℕ

@@ -5,7 +5,7 @@ ghost use Rattle.lb_core.specs.Runs.{OneRunPerMarks, TicksEndTheDue};
 ghost use Rattle.lb_core.specs.Step.{RefusalsChangeNothing, RoutesFollow};
 
 use lb_chain::seen_twice;
-use lb_wire::{one_reading, one_reply_reading};
+use lb_wire::{one_message, one_reading, one_reply_reading, one_survey};
 
 /// Where memory was wanting at the same events, a run has one list of answers and one end.
 pub fn one_run_per_marks()
@@ -13,6 +13,8 @@ pub fn one_run_per_marks()
 {
     one_reading();
     one_reply_reading();
+    one_message();
+    one_survey();
 }
 
 /// An event that is refused, or that met want of memory, changes nothing but the moment.
@@ -23,7 +25,7 @@ pub fn refusals_change_nothing()
 }
 
 /// Where queries go after an event follows from where they went before it, the event, what its octets read as, and its
-/// answer: no server and no outstanding query has a part in it.
+/// answer: no server, no outstanding query and no kept reply has a part in it.
 pub fn routes_follow()
     ensures { RoutesFollow }
 {

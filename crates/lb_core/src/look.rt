@@ -1,11 +1,13 @@
 //! Look-up: a query is answered by a reply that its pool's cache keeps, where one lives.
 
 ghost use Rattle.std.specs.Prelude.{◌≡◌, ◌&&◌, ◌==◌, not, IfOk, IfErr, OnErr, List, ℕ};
-ghost use Rattle.lb_name.specs.Name.{lower_name};
+ghost use Rattle.std.specs.List.{AllByRecursion};
+ghost use Rattle.lb_name.specs.Name.{lower_name, IsSame};
+ghost use Rattle.lb_wire.specs.Aging.{Outlives};
 ghost use Rattle.lb_wire.specs.Flags.{opcode_of};
 ghost use Rattle.lb_wire.specs.Key.{key_with_name};
 ghost use Rattle.lb_wire.specs.Message.{Message, Lays};
-ghost use Rattle.lb_wire.specs.Query.{IsQuery, view_of};
+ghost use Rattle.lb_wire.specs.Query.{without_recursion, IsQuery, view_of};
 ghost use Rattle.lb_cache.specs.Caches.{name_of_key, IsKeepable};
 ghost use Rattle.lb_core.specs.Forward.{sent_of};
 ghost use Rattle.lb_core.specs.Look.{may_use as may_use_spec, Hits, PoolAnswers};
@@ -85,20 +87,37 @@ fn key_to_send(
     ensures name { IfOk result (λ key. name_of_key key ≡ lower_name view.now.name) }
     ensures unchanged { bytes.new.items ≡ bytes.old.items }
 {
+    if no_recurse {
+        return key_without_rd(alloc, bytes, view, kind);
+    }
+    // A law, which does nothing.
+    key_has_name();
+    key_of(alloc, bytes.as_slice(), view, kind)
+}
+
+/// The key of a query that is sent with RD 0. Its octets come out as they went in.
+fn key_without_rd(
+    alloc: Global,
+    bytes: &mut [u8],
+    view: &QueryView,
+    kind: Kind,
+) -> Result<Key, AllocError>
+    requires view { (m : Message) × Lays bytes.old m × (view.now ≡ view_of m) }
+    ensures key { IfOk result (λ key. key ≡ key_with_name kind view.now.name (without_recursion bytes.old)) }
+    ensures name { IfOk result (λ key. name_of_key key ≡ lower_name view.now.name) }
+    ensures unchanged { bytes.new ≡ bytes.old }
+{
     // Laws, which do nothing.
     cleared_is_laid();
     key_has_name();
-    if !no_recurse {
-        return key_of(alloc, bytes.as_slice(), view, kind);
-    }
     let flags = [bytes[2], bytes[3]];
     clear_rd(bytes);
-    let key = key_of(alloc, bytes.as_slice(), view, kind);
+    let key = key_of(alloc, bytes, view, kind);
     bytes[2..4].copy_from_slice(&flags);
     key
 }
 
-/// A kept reply as the client of a query gets it.
+/// A kept reply as the client of a query gets it. The one error is want of memory.
 fn hit_answer(
     alloc: Global,
     hit: &Hit<'_>,
@@ -110,8 +129,17 @@ fn hit_answer(
     ensures { IfOk result (λ answer. (octets : List ℕ) × Hits view.now hit.now.bytes.now hit.now.secs octets × (answer ≡ Local octets locals.Hit)) }
 {
     let mut bytes = Vec::from_slice(alloc, hit.bytes)?;
-    age(&mut bytes, hit.secs);
-    respell(&mut bytes, &view.name);
-    restore_id(&mut bytes, view.id);
+    answer_as(&mut bytes, hit.secs, view);
     Ok(Answer::Local(Octets::from_vec(bytes), LocalReason::Hit))
+}
+
+/// Makes the octets of a kept reply those of a query's answer, so many seconds later: with its ID, and its spelling of the
+/// question name.
+fn answer_as(octets: &mut [u8], secs: u32, view: &QueryView)
+    requires { (m : Message) × Lays octets.old m × IsSame m.name view.now.name × AllByRecursion (Outlives secs) m.records }
+    ensures { Hits view.now octets.old secs octets.new }
+{
+    age(octets, secs);
+    respell(octets, &view.name);
+    restore_id(octets, view.id);
 }

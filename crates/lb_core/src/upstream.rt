@@ -300,7 +300,8 @@ impl Upstream {
     pub(crate) fn detach_cache(&mut self, pool: PoolId) -> Option<CacheId>
         ensures { (self.new, result) ≡ detached_cache self.old pool }
     {
-        let id = self.park.detach_cache(pool)?;
+        let id = self.park.cache_of(pool)?;
+        self.park.detach_cache(pool);
         self.caches.detach(id);
         Some(id)
     }

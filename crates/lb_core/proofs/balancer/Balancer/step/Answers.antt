@@ -11,7 +11,7 @@ pub returns-in-Reply : goal.returns-in-Reply
 returns-in-Reply c =
     rw (← c.self.view_is, c.in-Reply.is)
     (reply_answers c.seen_twice.ensures c.self.inside.moment c.in-Reply.now c.max-self-inside-in-Reply.result c.self.inside.chain c.self.inside.upstream c.answer_reply.new.upstream c.in-Reply.server c.in-Reply.lane c.in-Reply.bytes c.answer_reply.result
-    c.max-self-inside-in-Reply.ensures c.answer_reply.ensures)
+    c.max-self-inside-in-Reply.ensures c.answer_reply.ensures.step c.answer_reply.ensures.mark)
 
 pub returns-in-Tick : goal.returns-in-Tick
 returns-in-Tick c =
