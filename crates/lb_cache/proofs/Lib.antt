@@ -1,4 +1,8 @@
+mod AreShelves
 mod Keys
+mod IsKeepable
+mod KeptIn
+mod KeptOf
 mod Places
 mod Puts
 mod Expunged
