@@ -11,6 +11,8 @@ use Rattle.lb_cache.specs.declared.cached.AttachedCache.{AttachedCache}
 use Rattle.lb_cache.specs.declared.cached.KeptReply.{KeptReply}
 use Rattle.lb_cache.specs.declared.caches.Shelf.{Shelf}
 use Rattle.lb_cache.specs.Caches.{AreShelves, IsKept, attached_of, cache_with, has_id, has_number, kept_of}
+use Rattle.lb_cache.specs.Cache.{Caching}
+use Rattle.lb_cache.proofs.KeptIn.{SameLimits}
 use Rattle.lb_cache.proofs.KeptOf.{among, each_kept, each_weaker, AreHigher, AreLower, AreOthers}
 use Rattle.lb_cache.proofs.Places.{all_dropped, all_taken}
 
@@ -143,3 +145,7 @@ pub keeps_at : (id : CacheId) (shelves : List Shelf) (at : ℕ) (s : Shelf) → 
 keeps_at id shelves at s stands read was =
     let P : Shelf → Type 0 = λ shelf. AllByRecursion IsKept shelf.cache.replies in
     subst P (sym read) (All-from_recursion P shelves was.keepable at s stands.within)
+
+-- the attached cache is the same where its limits are
+pub same_attached : (s : Shelf) (new : Caching) → SameLimits s.cache new → attached_of (record { id = s.id; cache = new }) ≡ attached_of s
+same_attached s new same = ap (λ (m : _). record { id = s.id; max = m; max_ttl = new.max_ttl }) same.0 ∙ ap (λ (t : _). record { id = s.id; max = s.cache.max; max_ttl = t }) same.1

@@ -114,3 +114,19 @@ expunged_in_none id covered lists others =
     let fail : AllByRecursion (λ k. covers_in id covered k ≡ false) lists.kept = each_weaker (λ k. is_of id k ≡ false) (λ k. covers_in id covered k ≡ false) (λ k other. rw other refl) lists.kept others in
     ap (λ (ks : List KeptReply). (record lists { kept = ks }, 0)) (sym (filter_all (λ k. not (covers_in id covered k)) lists.kept (each_not (covers_in id covered) lists.kept fail)))
     ∙ ap (λ (n : ℕ). (record lists { kept = filter (λ k. not (covers_in id covered k)) lists.kept }, n)) (sym (count_none (covers_in id covered) lists.kept fail))
+
+-- a cache's limits stay as they are
+abbrev pub SameLimits : Caching → Caching → Type 0
+SameLimits old new = (new.max ≡ old.max) × (new.max_ttl ≡ old.max_ttl)
+
+both_same : (old : Caching) (b : Bool) (x y : Caching × Kept) → SameLimits old x.0 → SameLimits old y.0 → SameLimits old (cond b x y).0
+both_same old true x y first second = first
+both_same old false x y first second = second
+
+pub kept_limits : (lacking : Bool) (cache : Caching) (r : CachedReply) (now : ℕ) → SameLimits cache (kept_with lacking cache r now).0
+kept_limits lacking cache r now =
+    let full : Caching × Kept = cond (list_any (is_dead now) cache.replies) (put_in_one lacking cache r (filter (lives now) cache.replies)) (cache, NoRoom) in
+    let new_key : Caching × Kept = cond (nat_lt (length cache.replies) cache.max) (put_in_one lacking cache r cache.replies) full in
+    both_same cache (list_any (has_key r.key) cache.replies) (put_in_one lacking cache r (filter (has_other r.key) cache.replies)) new_key (refl, refl)
+    (both_same cache (nat_lt (length cache.replies) cache.max) (put_in_one lacking cache r cache.replies) full (refl, refl)
+    (both_same cache (list_any (is_dead now) cache.replies) (put_in_one lacking cache r (filter (lives now) cache.replies)) (cache, NoRoom) (refl, refl) (refl, refl)))

@@ -49,7 +49,7 @@ pub each_weaker : {X : Type 0} (P Q : X → Type 0) → ((x : X) → P x → Q x
 each_weaker P Q step [] all = tt
 each_weaker P Q step (x ∷ xs) all = (step x all.0, each_weaker P Q step xs all.1)
 
-each_map : {X Y : Type 0} (f : X → Y) (P : Y → Type 0) → ((x : X) → P (f x)) → (xs : List X) → AllByRecursion P (map f xs)
+pub each_map : {X Y : Type 0} (f : X → Y) (P : Y → Type 0) → ((x : X) → P (f x)) → (xs : List X) → AllByRecursion P (map f xs)
 each_map f P holds [] = tt
 each_map f P holds (x ∷ xs) = (holds x, each_map f P holds xs)
 

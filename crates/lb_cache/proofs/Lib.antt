@@ -7,3 +7,4 @@ mod Places
 mod Puts
 mod Expunged
 mod Questions
+mod WithCache

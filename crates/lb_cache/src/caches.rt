@@ -1,9 +1,9 @@
 //! The attached caches of all pools.
 
 ghost use Rattle.std.specs.Prelude.{◌≡◌, ◌<◌, [], IfOk, IfSome, OnErr, OnOk, Some, length, option_map};
-ghost use Rattle.std.specs.List.{position};
+ghost use Rattle.std.specs.List.{flat_map, position};
 ghost use Rattle.lb_cache.specs.Cache.{expunged, lacks};
-ghost use Rattle.lb_cache.specs.Caches.{cache_with, covers, expunged_in, has_number, is_old, kept_in, looked_in, no_caches, with_cache, without_cache, without_old, IsKeepable};
+ghost use Rattle.lb_cache.specs.Caches.{cache_with, covers, expunged_in, has_number, is_old, kept_in, kept_of, looked_in, no_caches, with_cache, without_cache, without_old, IsKeepable};
 
 use crate::cache::Cache;
 use crate::cached::{AttachedCache, Covered};
@@ -56,11 +56,7 @@ impl Caches {
     pub fn kept_len(&self) -> u128
         ensures { result ≡ length self.now.kept }
     {
-        let mut kept = 0;
-        for shelf in self.shelves.iter() {
-            kept += shelf.cache.len() as u128;
-        }
-        kept
+        count_kept(self.shelves.as_slice())
     }
 
     /// The attached cache with a number.
@@ -167,6 +163,17 @@ fn place_of(shelves: &[Shelf], id: CacheId) -> Option<usize>
     ensures within { IfSome result (λ at. at < length shelves.now) }
 {
     shelves.iter().position(|shelf| has_number(shelf, id))
+}
+
+/// How many replies the caches keep together.
+fn count_kept(shelves: &[Shelf]) -> u128
+    ensures { result ≡ length (flat_map kept_of shelves.now) }
+{
+    let mut kept = 0u128;
+    for shelf in shelves {
+        kept += shelf.cache.len() as u128;
+    }
+    kept
 }
 
 /// Expunges a cache.
