@@ -1,10 +1,10 @@
 -- The lists of caches of which some are taken off, and of those with another one.
-use Rattle.std.proofs.Common.{◌≡◌, Bool, true, false, not, ℕ, suc, ◌+◌, ◌<◌, ◌≤◌, ◌==◌, ◌&&◌, nat_lt, List, [], ◌∷◌, ◌++◌, map, length, get_or, take, drop, Option, None, Some, inl, inr, refl, sym, ◌∙◌, ap, arith, subst}
+use Rattle.std.proofs.Common.{◌≡◌, Bool, true, false, not, ℕ, suc, ◌<◌, ◌==◌, ◌&&◌, nat_lt, List, [], ◌∷◌, ◌++◌, map, get_or, take, drop, Option, None, Some, inl, inr, refl, sym, ◌∙◌, ap, arith, subst}
 use Rattle.std.specs.List.{All, AllByRecursion, AllPairs, filter, flat_map, insert}
 use Rattle.std.specs.List.Sorted.{IsPartitionedBy, IsPartitionPoint}
-use Rattle.std.proofs.lemmas.Bool.{cases_Bool, cases_lt, cond-true, cond-false, eq-eqb, eqb-true, ltb-false, ltb-true, lt-ltb}
+use Rattle.std.proofs.lemmas.Bool.{cases_Bool, cases_lt, cond-true, cond-false, eq-eqb, ltb-false, ltb-true, lt-ltb}
 use Rattle.std.proofs.lemmas.List.{map-append, take-append-drop}
-use Rattle.std.proofs.lemmas.List.Elements.{All-append, All-cons, All-drop, All-from_recursion, All-head, All-map, All-nil, All-tail, All-take, filter-append, filter_agree, filter_passes, recursion_from_All}
+use Rattle.std.proofs.lemmas.List.Elements.{All-append, All-cons, All-drop, All-from_recursion, All-head, All-map, All-tail, All-take, filter-append, filter_passes, recursion_from_All}
 use Rattle.std.proofs.lemmas.List.Kept.{AllPairs-cons, AllPairs-filter}
 use Rattle.std.proofs.lemmas.Grind.{flat_map-append}
 use Rattle.lb_wire.specs.declared.ids.CacheId.{CacheId}
@@ -14,7 +14,7 @@ use Rattle.lb_cache.specs.declared.caches.Shelf.{Shelf}
 use Rattle.lb_cache.specs.declared.reply.CachedReply.{CachedReply}
 use Rattle.lb_cache.specs.Caches.{AreShelves, CacheLists, IsKept, attached_of, has_id, has_number, held_by, is_lower, is_of, is_old, kept_of, lists_of, with_cache, without_cache, without_old}
 use Rattle.lb_cache.proofs.IsKeepable.{each_filter}
-use Rattle.lb_cache.proofs.KeptOf.{each_map, each_weaker, filter_all, filter_none}
+use Rattle.lb_cache.proofs.KeptOf.{each_map, filter_all, filter_none}
 use Rattle.lb_cache.proofs.Places.{all_dropped, all_taken, back_of, front_of}
 
 map_filter : {X Y : Type 0} (f : X → Y) (q : Y → Bool) (xs : List X) → map f (filter (λ x. q (f x)) xs) ≡ filter q (map f xs)
@@ -28,13 +28,13 @@ filter_both : {X : Type 0} (p q : X → Bool) (xs : List X) → filter (λ x. p 
 filter_both p q [] = refl
 filter_both {X} p q (x ∷ xs) = elim (cases_Bool (q x)) [
   | inl second ↦ elim (cases_Bool (p x)) [
-      | inl first ↦ rw (first, second) (rw first (ap (λ (ys : List X). x ∷ ys) (filter_both p q xs)))
-      | inr other ↦ rw (other, second) (rw other (filter_both p q xs))
-    ]
+    | inl first ↦ rw (first, second) (rw first (ap (λ (ys : List X). x ∷ ys) (filter_both p q xs)))
+    | inr other ↦ rw (other, second) (rw other (filter_both p q xs))
+  ]
   | inr goes ↦ elim (cases_Bool (p x)) [
-      | inl first ↦ rw (first, goes) (filter_both p q xs)
-      | inr other ↦ rw (other, goes) (filter_both p q xs)
-    ]
+    | inl first ↦ rw (first, goes) (filter_both p q xs)
+    | inr other ↦ rw (other, goes) (filter_both p q xs)
+  ]
 ]
 
 -- what is kept without a cache
@@ -92,6 +92,9 @@ parted_below id shelves order = λ i j d le within before. elim (cases_lt i j) [
       rw same before
 ]
 
+both_lists : (a b : List AttachedCache) (k l : List KeptReply) → a ≡ b → k ≡ l → ◌≡◌ {A = CacheLists} (record { caches = a; kept = k }) (record { caches = b; kept = l })
+both_lists a b k l caches kept = ap (λ (cs : List AttachedCache). record { caches = cs; kept = k }) caches ∙ ap (λ (ks : List KeptReply). record { caches = b; kept = ks }) kept
+
 -- the lists with a new cache in its place
 pub lists_inserted : (others : List Shelf) (at : ℕ) (new : Shelf) → IsPlaceOf new.id others at → new.cache.replies ≡ [] →
     lists_of (insert others at new) ≡ record { caches = filter (is_lower (attached_of new)) (map attached_of others) ++ attached_of new ∷ filter (λ o. not (is_lower (attached_of new) o)) (map attached_of others); kept = flat_map kept_of others }
@@ -106,16 +109,16 @@ lists_inserted others at new point empty =
     let first : filter p (map attached_of others) ≡ front = ap (filter p) whole ∙ front_of p front back passes fails in
     let second : filter n (map attached_of others) ≡ back = ap (filter n) whole ∙ back_of p front back passes fails in
     let caches : map attached_of (insert others at new) ≡ filter p (map attached_of others) ++ attached_of new ∷ filter n (map attached_of others) =
-      map-append attached_of (take at others) (new ∷ drop at others)
-      ∙ ap (λ (cs : List AttachedCache). cs ++ attached_of new ∷ back) (sym first)
-      ∙ ap (λ (cs : List AttachedCache). filter p (map attached_of others) ++ attached_of new ∷ cs) (sym second) in
+    map-append attached_of (take at others) (new ∷ drop at others)
+    ∙ ap (λ (cs : List AttachedCache). cs ++ attached_of new ∷ back) (sym first)
+    ∙ ap (λ (cs : List AttachedCache). filter p (map attached_of others) ++ attached_of new ∷ cs) (sym second) in
     let kept : flat_map kept_of (insert others at new) ≡ flat_map kept_of others =
-      flat_map-append kept_of (take at others) (new ∷ drop at others)
-      ∙ ap (λ (rs : List CachedReply). flat_map kept_of (take at others) ++ (map (held_by new.id) rs ++ flat_map kept_of (drop at others))) empty
-      ∙ sym (flat_map-append kept_of (take at others) (drop at others))
-      ∙ ap (flat_map kept_of) (take-append-drop at others) in
-    ap (λ (cs : List AttachedCache). record { caches = cs; kept = flat_map kept_of (insert others at new) }) caches
-    ∙ ap (λ (ks : List KeptReply). record { caches = filter p (map attached_of others) ++ attached_of new ∷ filter n (map attached_of others); kept = ks }) kept
+    flat_map-append kept_of (take at others) (new ∷ drop at others)
+    ∙ ap (λ (rs : List CachedReply). flat_map kept_of (take at others) ++ (map (held_by new.id) rs ++ flat_map kept_of (drop at others))) empty
+    ∙ sym (flat_map-append kept_of (take at others) (drop at others))
+    ∙ ap (flat_map kept_of) (take-append-drop at others) in
+    let sorted : List AttachedCache = filter p (map attached_of others) ++ attached_of new ∷ filter n (map attached_of others) in
+    both_lists (map attached_of (insert others at new)) sorted (flat_map kept_of (insert others at new)) (flat_map kept_of others) caches kept
 
 pub lists_with : (old : Option CacheId) (shelves : List Shelf) (at : ℕ) (new : Shelf) → IsPlaceOf new.id (others_of old new.id shelves) at → new.cache.replies ≡ [] →
     lists_of (insert (others_of old new.id shelves) at new) ≡ with_cache (attached_of new) (without_old old (lists_of shelves))
@@ -177,7 +180,7 @@ inserted_are others at new was none point empty =
     let new_keeps : P new = subst (λ (rs : List CachedReply). AllByRecursion IsKept rs) (sym empty) tt in
     record {
       order = pairs_append R front (new ∷ back) (subst (AllPairs R) first (AllPairs-filter R p others was.order))
-        (AllPairs-cons R new back over (subst (AllPairs R) second (AllPairs-filter R (λ s. not (p s)) others was.order)))
-        (λ k d lt. All-cons (R (get_or front k d)) new back (below k d lt) (λ j e within. omega (arith, below k d lt, over j e within)));
+          (AllPairs-cons R new back over (subst (AllPairs R) second (AllPairs-filter R (λ s. not (p s)) others was.order)))
+          (λ k d lt. All-cons (R (get_or front k d)) new back (below k d lt) (λ j e within. omega (arith, below k d lt, over j e within)));
       keepable = recursion_from_All P (front ++ new ∷ back) (All-append P front (new ∷ back) (All-take P at others keeps) (All-cons P new back new_keeps (All-drop P at others keeps)));
     }

@@ -1,4 +1,4 @@
-use Rattle.std.proofs.Common.{◌≡◌, None, Some, List, ℕ, option_map, ◌∙◌, sym, ap}
+use Rattle.std.proofs.Common.{◌≡◌, None, List, option_map, ◌∙◌, sym, ap}
 use Rattle.std.specs.List.{flat_map, position}
 use Rattle.lb_cache.specs.declared.caches.Shelf.{Shelf}
 use Rattle.lb_cache.specs.Cache.{looked}

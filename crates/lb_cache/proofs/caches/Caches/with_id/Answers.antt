@@ -1,8 +1,7 @@
-use Rattle.std.proofs.Common.{◌≡◌, None, Some, ◌∙◌, sym, ap, arith}
+use Rattle.std.proofs.Common.{◌≡◌, None, Some, ◌∙◌, sym, ap}
 use Rattle.std.specs.List.{position}
-use Rattle.lb_cache.specs.declared.cached.AttachedCache.{AttachedCache}
 use Rattle.lb_cache.specs.declared.caches.Shelf.{Shelf}
-use Rattle.lb_cache.specs.Caches.{CacheLists, attached_of, cache_with, has_number}
+use Rattle.lb_cache.specs.Caches.{CacheLists, cache_with, has_number}
 use Rattle.lb_cache.proofs.AreShelves.{cache_found, no_cache, none_has, stands_at}
 use Rattle.lb_cache.proofs.caches.Caches.with_id.Goals as goal
 
