@@ -1,5 +1,6 @@
 -- A cache attached to a pool, or taken off it, beside the table of servers.
-use Rattle.std.proofs.Common.{◌≡◌, ℕ, Bool, true, false, IsTrue, List, Option, Some, Result, Ok, Err, refl, sym, ◌∙◌, ap}
+use Rattle.std.proofs.Common.{◌≡◌, ℕ, ◌^◌, ◌==◌, Bool, true, false, IsTrue, List, Option, Some, Result, Ok, Err, refl, sym, ◌∙◌, ap}
+use Rattle.std.specs.Prelude.{if◌then◌else◌, is_some, slice_get}
 use Rattle.lb_wire.specs.declared.ids.CacheId.{CacheId}
 use Rattle.lb_wire.specs.declared.ids.PoolId.{PoolId}
 use Rattle.lb_servers.specs.declared.fault.ParkFault.{ParkFault}
@@ -12,7 +13,6 @@ use Rattle.lb_cache.specs.Caches.{CacheLists, with_cache, without_cache, without
 use Rattle.lb_table.specs.declared.entry.Waiting.{Waiting}
 use Rattle.lb_core.specs.declared.answer.Answer.TheVariants.{Refused}
 use Rattle.lb_core.specs.declared.answer.EditFault.TheVariants.{Servers}
-use Rattle.lb_core.specs.declared.answer.Note.{Note}
 use Rattle.lb_core.specs.declared.answer.Note.TheVariants.{CacheAttached}
 use Rattle.lb_core.specs.declared.check.Check.{Check}
 use Rattle.lb_core.specs.Answer.{marked}
@@ -50,8 +50,35 @@ attached_seen timeout caches lists checks park new t pool max shards max_ttl num
     ∙ ap (λ (d : Upstreams × CacheId). (with_caches (with_cache (own d.1) (without_old (cache_at park.pools pool.0) caches)) d.0, Ok d.1)) (on_tied ups park new given (λ p. attached p pool) seen is)
     ∙ ap (attached_if false ups pool max max_ttl) (sym (ap (λ (p : Backends). cache_ready_of p pool) seen ∙ ready))
 
+-- what was told, without the number
+abbrev as_unit : {A : Type 0} → Result A ParkFault → Result (Unit {0}) ParkFault
+as_unit (Ok a) = Ok tt
+as_unit (Err fault) = Err fault
+
+-- that a pool can be given a cache is no question of memory
+plain_if : (b : Bool) (x y : Result (Unit {0}) ParkFault) → lacks x ≡ false → lacks y ≡ false → lacks (if b then x else y) ≡ false
+plain_if true x y first second = first
+plain_if false x y first second = second
+
+plain_ready : (park : Backends) (pool : PoolId) → lacks (cache_ready_of park pool) ≡ false
+plain_ready park pool =
+    plain_if (is_some (slice_get park.pools pool.0)) (if park.next_cache == 2 ^ 64 then Err faults.NoMoreIds else Ok tt) (Err faults.NoSuchPool)
+    (plain_if (park.next_cache == 2 ^ 64) (Err faults.NoMoreIds) (Ok tt) refl refl) refl
+
 -- one that lacked memory: no other refusal meets it
-lacked : (ups : Upstreams) (pool : PoolId) (max max_ttl : ℕ) (ready : Result (Unit {0}) ParkFault) → ((fault : ParkFault) → ready ≡ Err fault → fault ≡ faults.NoMemory → ⊥) →
+lacked : (ups : Upstreams) (pool : PoolId) (max max_ttl : ℕ) (ready : Result (Unit {0}) ParkFault) → lacks ready ≡ false →
     (attached_if true ups pool max max_ttl ready).1 ≡ Err faults.NoMemory → (id : CacheId) × ((attached_if false ups pool max max_ttl ready).1 ≡ Ok id)
-lacked ups pool max max_ttl (Ok done) other is = (_, refl)
-lacked ups pool max max_ttl (Err fault) other is = absurd (other fault refl (cc is))
+lacked ups pool max max_ttl (Ok done) plain is = (record { 0 = ups.next_cache }, refl)
+lacked ups pool max max_ttl (Err fault) plain is =
+    absurd (false_true (sym plain ∙ ap (λ (r : Result CacheId ParkFault). lacks (as_unit r)) is))
+
+pub may_attach : (ups new : Upstreams) (max max_ttl : ℕ) (found : Option PoolId) (pool : PoolId) (fault : ParkFault) → Some pool ≡ found →
+    (new, Err fault) ≡ attached_cache (lacks {A = CacheId} (Err fault)) ups pool max max_ttl → IsTrue (marked (Refused (Servers fault))) → Lacks (λ mark. attached_to mark ups max max_ttl found)
+may_attach ups new max max_ttl found pool faults.NoMemory there is mark =
+    let done = lacked ups pool max max_ttl (cache_ready_of (backends_of ups) pool) (plain_ready (backends_of ups) pool) (sym (ap (λ (d : Upstreams × Result CacheId ParkFault). d.1) is)) in
+    (CacheAttached done.0, ap (λ (f : Option PoolId). (attached_to false ups max max_ttl f).1) (sym there) ∙ ap (servers_told CacheAttached) done.1)
+may_attach ups new max max_ttl found pool faults.NoSuchServer there is mark = absurd (false_true mark)
+may_attach ups new max max_ttl found pool faults.NoSuchPool there is mark = absurd (false_true mark)
+may_attach ups new max max_ttl found pool faults.NameTaken there is mark = absurd (false_true mark)
+may_attach ups new max max_ttl found pool faults.TooMany there is mark = absurd (false_true mark)
+may_attach ups new max max_ttl found pool faults.NoMoreIds there is mark = absurd (false_true mark)

@@ -1,9 +1,9 @@
 -- A reply that belongs to the query which waits for it is kept, and delivered.
-use Rattle.std.proofs.Common.{◌≡◌, ℕ, ◌<◌, ◌≤◌, ◌+◌, ◌++◌, Bool, true, false, IsTrue, List, length, drop, map, min, Option, Some, None, Ok, not, ◌==◌, ◌&&◌, refl, sym, ◌∙◌, ap, subst, arith, nat_lt}
+use Rattle.std.proofs.Common.{◌≡◌, ℕ, ◌≤◌, ◌++◌, Bool, true, false, IsTrue, List, drop, Option, Some, None, Ok, not, refl, sym, ◌∙◌, ap, subst, arith, nat_lt}
 use Rattle.std.specs.Prelude.{IfSome, if◌then◌else◌, option_map}
-use Rattle.std.specs.List.{AllByRecursion, count_by, filter, find, list_any}
+use Rattle.std.specs.List.{AllByRecursion, count_by, filter, list_any}
 use Rattle.std.proofs.lemmas.List.{append_assoc}
-use Rattle.lb_name.specs.Name.{IsSame, labels_of, lower_name, wire_of}
+use Rattle.lb_name.specs.Name.{labels_of, lower_name, wire_of}
 use Rattle.lb_name.specs.Laws.{SplitsBack}
 use Rattle.lb_wire.specs.Aging.{LeastIsOutlived, NoneIsOutlived, Outlives}
 use Rattle.lb_wire.specs.Belongs.{AsksSame, belongs}
@@ -32,9 +32,9 @@ use Rattle.lb_table.specs.Table.{entry_at}
 use Rattle.lb_core.specs.declared.answer.Answer.{Answer}
 use Rattle.lb_core.specs.declared.answer.Answer.TheVariants.{Deliver}
 use Rattle.lb_core.specs.Answer.{is_unkept, marked}
-use Rattle.lb_core.specs.Lifetime.{LivesFor, is_keepable, least_of, life_by, life_of, max_failure}
+use Rattle.lb_core.specs.Lifetime.{is_keepable, least_of, life_by, life_of, max_failure}
 use Rattle.lb_core.specs.Reply.{BelongsOrNot, HeldAgainst, IsLeft, Keeps, KeepsAt, MayKeep, ReplySteps, delivered_octets, kept_for, without}
-use Rattle.lb_core.specs.Upstream.{IsAsked, IsKeyFor, Upstreams}
+use Rattle.lb_core.specs.Upstream.{IsKeyFor, Upstreams}
 use Rattle.lb_core.proofs.ChainEdits.{false_true}
 use Rattle.lb_core.proofs.HitOctets.{behind, question_of}
 use Rattle.lb_core.proofs.Tied.{eq_numbers, found_at}
