@@ -1,6 +1,7 @@
 use Rattle.std.proofs.Common.{[]}
 use Rattle.lb_core.proofs.ProvLists.{Puts}
 use Rattle.lb_core.proofs.ProvAsks.{ask_for}
+use Rattle.lb_core.proofs.ProvStanding.{standing}
 use Rattle.lb_core.proofs.laws.cached_answers_are_kept_replies.Goals as goal
 
 pub returns : goal.returns
