@@ -151,7 +151,7 @@ outstanding_told opening before event reading _ asked old new is after told =
 
 -- the kept replies after an event
 kept_told : OneSurvey → (opening : Routes) (before : List Told) (old : Plain) (event : Event) (reading : Reading) (answer : Answer) (new : List KeptReply) →
-    Known opening before old → KeptAfter old (record { event = event; reading = reading; answer = answer }) event answer new →
+    Known opening before old → KeptAfter old event reading answer new →
     Tells (standing opening (record { event = event; reading = reading; answer = answer } ∷ before)) (max old.moment (moment_of event)) new
 kept_told one opening before old (Reply now server lane bytes) reading (Deliver origin sent kept.Yes) new known after =
     let t : Told = record { event = Reply now server lane bytes; reading = reading; answer = Deliver origin sent kept.Yes } in
@@ -171,6 +171,7 @@ kept_told one opening before old (Edit now command) reading (Edited note) new kn
     let r : Routes = routes_in opening before in
     sifts_told (standing opening before) (standing opening (t ∷ before)) (ended_by r command) old.moment (max old.moment now) old.kept new (λ a. refl) (omega arith)
       (subst (λ (routes : Routes). Sifts (λ k. ended_by routes command (ask_for k)) old.kept new) known.routes after) known.kept
+kept_told one opening before old (Reply now server lane bytes) reading (Deliver origin sent _) new known after = same_told (standing opening before) old.moment (max old.moment now) old.kept new (omega arith) after known.kept
 kept_told one opening before old event reading _ new known after = same_told (standing opening before) old.moment (max old.moment (moment_of event)) old.kept new (omega arith) after known.kept
 
 -- the history tells of the next state

@@ -42,8 +42,11 @@ pub record Stood : Type 0 where
   pub reading : Reading
   pub moment : ℕ
 
+abbrev pub stood_by : Routes → Event → Reading → CacheId × Key → Stood
+stood_by routes event reading ask = record { cache = cache_with ask.0 routes.caches; event = event; reading = reading; moment = max routes.moment (moment_of event) }
+
 abbrev pub stood_of : Routes → Told → CacheId × Key → Stood
-stood_of routes t ask = record { cache = cache_with ask.0 routes.caches; event = t.event; reading = t.reading; moment = max routes.moment (moment_of t.event) }
+stood_of routes t ask = stood_by routes t.event t.reading ask
 
 -- the latest reply kept for a cache and key that nothing has ended since
 abbrev pub standing : Routes → List Told → CacheId × Key → Option Stood

@@ -4,6 +4,7 @@ use Rattle.std.specs.Prelude.{◌≡◌, ℕ, max, Bool, true, false, List, [], 
 use Rattle.std.specs.List.{All, Contains}
 use Rattle.lb_wire.specs.BigEndian.{number_at}
 use Rattle.lb_wire.specs.declared.ids.CacheId.{CacheId}
+use Rattle.lb_wire.specs.declared.kept.Kept.{Kept}
 use Rattle.lb_wire.specs.declared.kept.Kept.TheVariants as kept
 use Rattle.lb_wire.specs.declared.key.Key.{Key}
 use Rattle.lb_table.specs.declared.entry.Waiting.{Waiting}
@@ -25,7 +26,7 @@ use Rattle.lb_core.specs.Reading.{Reading, moment_of}
 use Rattle.lb_core.specs.Routes.{routes_of}
 use Rattle.lb_core.proofs.ProvAsks.{ask_for, same_ask}
 use Rattle.lb_core.proofs.ProvLists.{Puts, Sifts}
-use Rattle.lb_core.proofs.ProvStanding.{Stood, stood_of}
+use Rattle.lb_core.proofs.ProvStanding.{Stood, stood_by}
 
 -- a reply as it stands in the list
 abbrev pub held : CacheId × Key → Stood → ℕ → KeptReply
@@ -71,21 +72,26 @@ pub record AnswersOne (outstanding : List Waiting) (place : Place) (ask : CacheI
   pub asked_is : waiting.entry.cache ≡ Some ask
 
 -- a reply that is kept
-pub record KeepsReply (old : Plain) (t : Told) (place : Place) (new : List KeptReply) : Type 0 where
+pub record KeepsReply (old : Plain) (event : Event) (reading : Reading) (place : Place) (new : List KeptReply) : Type 0 where
   pub ask : CacheId × Key
   pub life : ℕ
   pub answers : AnswersOne old.outstanding place ask
-  pub lives_so : LivesSo (stood_of (routes_of old) t ask) life
-  pub keeps : KeepsOne (max old.moment (moment_of t.event)) (held ask (stood_of (routes_of old) t ask) life) old.kept new
+  pub lives_so : LivesSo (stood_by (routes_of old) event reading ask) life
+  pub keeps : KeepsOne (max old.moment (moment_of event)) (held ask (stood_by (routes_of old) event reading ask) life) old.kept new
+
+-- what becomes of the kept replies where this is told of a reply
+abbrev pub KeptTold : Plain → Event → Reading → Place → Kept → List KeptReply → Type 0
+KeptTold old event reading place kept.Yes new = KeepsReply old event reading place new
+KeptTold old event reading place _ new = new ≡ old.kept
 
 -- the kept replies after an event
-abbrev pub KeptAfter : Plain → Told → Event → Answer → List KeptReply → Type 0
-KeptAfter old t (Reply now server lane bytes) (Deliver origin sent kept.Yes) new = KeepsReply old t (at_place server lane (number_at bytes 0)) new
-KeptAfter old t (Edit now command) (Edited note) new = Sifts (λ k. ended_by (routes_of old) command (ask_for k)) old.kept new
-KeptAfter old t _ _ new = new ≡ old.kept
+abbrev pub KeptAfter : Plain → Event → Reading → Answer → List KeptReply → Type 0
+KeptAfter old (Reply now server lane bytes) reading (Deliver origin sent told) new = KeptTold old (Reply now server lane bytes) reading (at_place server lane (number_at bytes 0)) told new
+KeptAfter old (Edit now command) reading (Edited note) new = Sifts (λ k. ended_by (routes_of old) command (ask_for k)) old.kept new
+KeptAfter old _ _ _ new = new ≡ old.kept
 
 -- what each step does, besides to the routes
 pub record Turns (old : Plain) (t : Told) (new : Plain) : Type 0 where
   pub answered : marked t.answer ≡ false → AnsweredFrom (looked old.kept (max old.moment (moment_of t.event)) (asks (routes_of old) t)) t.reading t.answer
   pub outstanding : OutstandingAfter (asks (routes_of old) t) t.answer old.outstanding new.outstanding
-  pub kept : KeptAfter old t t.event t.answer new.kept
+  pub kept : KeptAfter old t.event t.reading t.answer new.kept

@@ -113,12 +113,12 @@ cache_named routes name = cache_at_pool routes (route_named routes.pools name)
 
 abbrev pub is_cache : CacheId × Key → Option CacheId → Bool
 is_cache ask None = false
-is_cache ask (Some id) = id.0 == ask.0.0
+is_cache ask (Some id) = ask.0.0 == id.0
 
 -- whether a command ends what is kept for a cache and key: it expunges the key there, or takes the cache off its pool, or puts
 -- another in its place, or gives its number to a new one, which never happens where each number is given once
 abbrev pub ended_by : Routes → Command → CacheId × Key → Bool
-ended_by routes (CacheAttach name max shards max_ttl) ask = is_cache ask (cache_named routes name) || routes.next_cache == ask.0.0
+ended_by routes (CacheAttach name max shards max_ttl) ask = is_cache ask (cache_named routes name) || ask.0.0 == routes.next_cache
 ended_by routes (CacheDetach name) ask = is_cache ask (cache_named routes name)
 ended_by routes (Expunge name covered) ask = is_cache ask (cache_named routes name) && covers_key covered ask.1
 ended_by routes _ ask = false
