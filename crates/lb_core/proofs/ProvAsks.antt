@@ -1,5 +1,5 @@
 -- What a query asks of a cache, and where it waits: two of which the tests say that they are the same are equal.
-use Rattle.std.proofs.Common.{◌≡◌, ℕ, ◌≤◌, ◌+◌, ◌*◌, Bool, true, false, ◌==◌, ◌&&◌, List, nat_lt, bytes_eq, refl, sym, ◌∙◌, ap, arith}
+use Rattle.std.proofs.Common.{◌≡◌, ℕ, ◌≤◌, ◌+◌, ◌*◌, Bool, true, false, ◌==◌, ◌&&◌, List, bytes_eq, refl, ◌∙◌, ap, arith}
 use Rattle.std.specs.Cmp.Lexicographic.{bytes_decides}
 use Rattle.std.proofs.lemmas.Bool.{and_parts, and_from, eqb-true, eq-eqb, ltb-true, lt-ltb}
 use Rattle.lb_wire.specs.declared.ids.CacheId.{CacheId}

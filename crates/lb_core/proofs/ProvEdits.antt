@@ -1,6 +1,6 @@
 -- What the steps of commands, ticks and health results do to the outstanding queries and the kept replies.
-use Rattle.std.proofs.Common.{◌≡◌, ℕ, zero, suc, ◌+◌, ◌==◌, Bool, true, false, not, ◌&&◌, ◌||◌, List, [], ◌∷◌, length, map, max, Option, None, Some, Result, Ok, Err, refl, sym, ◌∙◌, ap, subst}
-use Rattle.std.specs.Prelude.{if◌then◌else◌, option_map, slice_get}
+use Rattle.std.proofs.Common.{◌≡◌, ℕ, ◌==◌, Bool, false, not, ◌&&◌, ◌||◌, List, [], ◌∷◌, length, map, Option, None, Some, Result, Ok, Err, refl, sym, ◌∙◌, subst}
+use Rattle.std.specs.Prelude.{slice_get}
 use Rattle.std.specs.List.{All, Contains, filter, position, position_or_len}
 use Rattle.std.proofs.lemmas.Bool.{cond_both, or_from, or_parts}
 use Rattle.std.proofs.lemmas.List.{length-map}
@@ -20,14 +20,13 @@ use Rattle.lb_servers.specs.declared.fault.ParkFault.{ParkFault}
 use Rattle.lb_servers.specs.declared.fault.ParkFault.TheVariants as park_faults
 use Rattle.lb_servers.specs.declared.pool.Pool.{Pool}
 use Rattle.lb_servers.specs.declared.pool.PoolName.{PoolName}
-use Rattle.lb_servers.specs.declared.server.Mode.{Mode}
-use Rattle.lb_table.specs.Table.{due, is_due, without_due}
+use Rattle.lb_table.specs.Table.{is_due}
 use Rattle.lb_table.specs.declared.entry.Waiting.{Waiting}
 use Rattle.lb_cache.specs.Caches.{covers_in, covers_key, is_of, without_old}
 use Rattle.lb_cache.specs.declared.cached.Covered.{Covered}
 use Rattle.lb_cache.specs.declared.cached.KeptReply.{KeptReply}
 use Rattle.lb_core.specs.declared.answer.Answer.{Answer}
-use Rattle.lb_core.specs.declared.answer.Answer.TheVariants.{Dropped, Local, Forward, Deliver, Expired, Quiet, Ignored, Edited, Refused, NoMemory}
+use Rattle.lb_core.specs.declared.answer.Answer.TheVariants.{Edited, Refused}
 use Rattle.lb_core.specs.declared.answer.Note.{Note}
 use Rattle.lb_core.specs.declared.answer.Note.TheVariants as notes
 use Rattle.lb_core.specs.declared.check.Check.{Check}
@@ -36,14 +35,14 @@ use Rattle.lb_core.specs.declared.command.Command.{Command}
 use Rattle.lb_core.specs.declared.command.Command.TheVariants.{RuleAdd, RuleRemove, RuleMove, ServerAdd, ServerRemove, ServerMode, PoolAdd, PoolPolicy, CacheAttach, CacheDetach, Expunge, SetTimeout, Show}
 use Rattle.lb_core.specs.declared.event.Event.TheVariants.{Tick, HealthResult, Edit}
 use Rattle.lb_core.specs.Answer.{Leaves}
-use Rattle.lb_core.specs.Edit.{attached_to, cache_told, detached_from, edit_of, expunged_from, expunged_of, place_or_end, pool_edited, rule_added, rule_by, rules_edited, rules_told, server_by, server_edited, servers_told, upstream_changed, upstream_edited, upstream_told}
+use Rattle.lb_core.specs.Edit.{attached_to, cache_told, detached_from, edit_of, expunged_from, expunged_of, place_or_end, pool_edited, rule_added, rule_by, rules_edited, server_by, server_edited, servers_told, upstream_changed, upstream_told}
 use Rattle.lb_core.specs.Expiry.{Ends}
 use Rattle.lb_core.specs.Health.{result_at, result_by, result_step, result_told, with_change}
 use Rattle.lb_core.specs.Plain.{Plain, at_plain, chain_of, upstreams_of, with_upstreams}
 use Rattle.lb_core.specs.Provenance.{cache_named, ended_by, is_cache}
 use Rattle.lb_core.specs.Reading.{OfNone}
-use Rattle.lb_core.specs.Routes.{RoutePool, route_named, route_of, routes_of}
-use Rattle.lb_core.specs.Upstream.{Upstreams, added_checked, attached_cache, attached_if, backends_of, caches_of, detached_cache, detached_if, is_check, on_backends, put_into, removed_checked, replaced_cache, totals_of, with_check, without_check}
+use Rattle.lb_core.specs.Routes.{route_named, route_of, routes_of}
+use Rattle.lb_core.specs.Upstream.{Upstreams, added_checked, attached_if, backends_of, caches_of, detached_if, is_check, on_backends, put_into, removed_checked, replaced_cache, totals_of, with_check, without_check}
 use Rattle.lb_core.proofs.ProvAsks.{ask_for}
 use Rattle.lb_core.proofs.ProvLists.{Sifts, sifts_filter, sifts_none}
 use Rattle.lb_core.proofs.ProvQueries.{routed_cache}

@@ -1,41 +1,34 @@
 -- What a history tells of the plain state, that it tells so after each step, and what the answers follow from it.
-use Rattle.std.proofs.Common.{◌≡◌, ℕ, ◌≤◌, ◌<◌, ◌+◌, ◌*◌, ◌-◌, ◌/◌, Bool, true, false, not, List, [], ◌∷◌, ◌++◌, max, cond, Option, None, Some, Ok, Err, ◌⊎◌, inl, inr, refl, sym, ◌∙◌, ap, subst, arith}
-use Rattle.std.specs.Prelude.{if◌then◌else◌, option_and_then}
-use Rattle.std.specs.List.{All, Contains, find}
-use Rattle.std.proofs.lemmas.Bool.{cases_Bool, both_ways, cond-true, cond-false, ltb-true, lt-ltb}
+use Rattle.std.proofs.Common.{◌≡◌, ℕ, ◌≤◌, ◌<◌, ◌+◌, ◌*◌, Bool, false, List, [], ◌∷◌, max, cond, Option, None, Some, Ok, Err, ◌⊎◌, inl, inr, refl, sym, ◌∙◌, ap, subst, arith}
+use Rattle.std.specs.List.{All, Contains}
+use Rattle.std.proofs.lemmas.Bool.{cases_Bool, both_ways, cond-true, cond-false, lt-ltb}
 use Rattle.std.proofs.lemmas.Option.{same_Some, none-some}
 use Rattle.std.proofs.lemmas.List.Elements.{All-nil, All-weaker, All-contains}
 use Rattle.lb_wire.specs.BigEndian.{number_at}
-use Rattle.lb_wire.specs.Reply.{OneSurvey, Surveys}
+use Rattle.lb_wire.specs.Reply.{OneSurvey}
 use Rattle.lb_wire.specs.declared.ids.CacheId.{CacheId}
 use Rattle.lb_wire.specs.declared.kept.Kept.TheVariants as kept
 use Rattle.lb_wire.specs.declared.key.Key.{Key}
-use Rattle.lb_wire.specs.declared.reply.ReplyView.{ReplyView}
 use Rattle.lb_wire.specs.declared.tally.Survey.{Survey}
 use Rattle.lb_table.specs.declared.entry.Waiting.{Waiting}
 use Rattle.lb_table.specs.declared.place.Place.{Place}
 use Rattle.lb_table.specs.Place.{at_place, same_place}
 use Rattle.lb_table.specs.Table.{is_at}
-use Rattle.lb_cache.specs.Caches.{is_under, looked_in}
-use Rattle.lb_cache.specs.Reply.{hit_of, lives}
 use Rattle.lb_cache.specs.declared.cached.AttachedCache.{AttachedCache}
 use Rattle.lb_cache.specs.declared.cached.KeptReply.{KeptReply}
-use Rattle.lb_cache.specs.declared.reply.CachedReply.{CachedReply}
 use Rattle.lb_core.specs.declared.event.Event.{Event}
 use Rattle.lb_core.specs.declared.event.Event.TheVariants.{Query, Reply, Tick, HealthResult, Edit}
 use Rattle.lb_core.specs.declared.answer.Answer.{Answer}
-use Rattle.lb_core.specs.declared.answer.Answer.TheVariants.{Deliver, Edited, Forward, Local}
-use Rattle.lb_core.specs.declared.answer.LocalReason.TheVariants as locals
-use Rattle.lb_core.specs.Answer.{marked}
-use Rattle.lb_core.specs.Lifetime.{LivesFor, life_of}
+use Rattle.lb_core.specs.declared.answer.Answer.TheVariants.{Deliver, Edited, Forward}
+use Rattle.lb_core.specs.Lifetime.{life_of}
 use Rattle.lb_core.specs.Plain.{Plain}
-use Rattle.lb_core.specs.Provenance.{Told, FromTrace, HitsFor, LivesIn, Provenance, Serves, asks, ended_by, ends, is_hit, octets_of, routes_in, seconds_since}
+use Rattle.lb_core.specs.Provenance.{Told, LivesIn, asks, ended_by, routes_in}
 use Rattle.lb_core.specs.Reading.{Reading, OfQuery, OfReply, OfNone, moment_of}
 use Rattle.lb_core.specs.Routes.{Routes, routes_after, routes_of}
 use Rattle.lb_core.proofs.ProvAsks.{ask_for, ask_itself, place_itself, same_ask, same_asks, same_places}
-use Rattle.lb_core.proofs.ProvLists.{Finds, Puts, Sifts, find_cases}
-use Rattle.lb_core.proofs.ProvStanding.{Stood, asked_under, is_for, kept_by, standing, stands_at, stood_of, to_since}
-use Rattle.lb_core.proofs.ProvTurns.{AnsweredFrom, AnswersOne, KeepsOne, KeepsReply, KeptAfter, LivesSo, OutstandingAfter, SendsOne, Turns, held, looked}
+use Rattle.lb_core.proofs.ProvLists.{Sifts}
+use Rattle.lb_core.proofs.ProvStanding.{Stood, asked_under, is_for, standing, stood_of}
+use Rattle.lb_core.proofs.ProvTurns.{KeepsOne, KeptAfter, LivesSo, OutstandingAfter, Turns, held}
 
 -- a reply has one life
 pub one_life : OneSurvey → (cache : Option AttachedCache) (event : Event) (reading : Reading) (a b : ℕ) → LivesIn cache event reading a → LivesIn cache event reading b → a ≡ b

@@ -1,7 +1,6 @@
 -- What the step of a query does to the outstanding queries, and what it is answered from.
-use Rattle.std.proofs.Common.{◌≡◌, ℕ, ◌+◌, Bool, true, false, List, [], ◌∷◌, map, max, Option, None, Some, Result, Ok, Err, refl, sym, ◌∙◌, ap, subst}
+use Rattle.std.proofs.Common.{◌≡◌, ℕ, Bool, true, false, List, map, Option, None, Some, Result, Ok, Err, refl, sym, ◌∙◌, ap, subst}
 use Rattle.std.specs.Prelude.{if◌then◌else◌, option_and_then, option_map, slice_get}
-use Rattle.std.specs.List.{All, Contains}
 use Rattle.std.proofs.lemmas.Bool.{both_ways}
 use Rattle.std.proofs.lemmas.List.Elements.{All-contains_itself}
 use Rattle.std.proofs.lemmas.Option.{slice_get-map}
@@ -36,14 +35,14 @@ use Rattle.lb_core.specs.Answer.{Leaves, marked}
 use Rattle.lb_core.specs.Forward.{PickForwards, failure_of, lane_of, sent}
 use Rattle.lb_core.specs.Look.{AskAnswers, FoundAnswers, PoolAnswers, ask_of}
 use Rattle.lb_core.specs.Plain.{Plain, at_plain, upstreams_of}
-use Rattle.lb_core.specs.Provenance.{asked_by, asks, asks_at, pool_by, pool_of}
+use Rattle.lb_core.specs.Provenance.{asked_by, asks_at, pool_by, pool_of}
 use Rattle.lb_core.specs.Query.{EndDecides, QuerySteps, ReadSteps, RuleDecides, WalkedSteps, default_pool, is_transfer, to_pool, walked_of}
 use Rattle.lb_core.specs.Reading.{Reading, OfQuery}
-use Rattle.lb_core.specs.Routes.{RoutePool, cache_routed, route_cache, route_of, routes_of}
+use Rattle.lb_core.specs.Routes.{cache_routed, route_cache, route_of, routes_of}
 use Rattle.lb_core.specs.Step.{asked_at}
 use Rattle.lb_core.specs.Upstream.{Upstreams, picked_of, with_turn}
 use Rattle.lb_core.proofs.ProvLists.{none_pass, puts_insert}
-use Rattle.lb_core.proofs.ProvTurns.{AnsweredFrom, OutstandingAfter, SendsOne, Turns, looked}
+use Rattle.lb_core.proofs.ProvTurns.{AnsweredFrom, OutstandingAfter, Turns, looked}
 
 -- what a query that asks this does to what stands upstream
 pub record AsksOf (ups : Upstreams) (now : ℕ) (reading : Reading) (asked : Option (CacheId × Key)) (new : Upstreams) (answer : Answer) : Type 0 where

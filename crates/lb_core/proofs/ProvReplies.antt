@@ -1,14 +1,13 @@
 -- What the step of a reply does to the outstanding queries and the kept replies.
-use Rattle.std.proofs.Common.{◌≡◌, ℕ, ◌+◌, Bool, true, false, not, ◌&&◌, List, [], ◌∷◌, max, Option, None, Some, Result, Ok, Err, ◌⊎◌, inl, inr, refl, sym, ◌∙◌, ap, subst, nat_lt}
-use Rattle.std.specs.Prelude.{if◌then◌else◌, option_map}
-use Rattle.std.specs.List.{All, Contains, count_by, filter, find, list_any}
-use Rattle.std.proofs.lemmas.Bool.{and_right, cases_Bool, cond_both, eqb-true}
+use Rattle.std.proofs.Common.{◌≡◌, ℕ, Bool, true, false, not, ◌&&◌, List, max, Option, None, Some, Result, Ok, Err, ◌⊎◌, inl, inr, refl, sym, ◌∙◌, ap, subst, nat_lt}
+use Rattle.std.specs.Prelude.{option_map}
+use Rattle.std.specs.List.{All, Contains, count_by, filter, list_any}
+use Rattle.std.proofs.lemmas.Bool.{and_right, cond_both, eqb-true}
 use Rattle.std.proofs.lemmas.Option.{none-some, same_Some}
 use Rattle.std.proofs.lemmas.List.Elements.{All-contains, All-contains_itself, All-weaker}
 use Rattle.lb_wire.specs.Belongs.{belongs}
 use Rattle.lb_wire.specs.BigEndian.{number_at}
 use Rattle.lb_wire.specs.Reply.{ReadsReply}
-use Rattle.lb_wire.specs.declared.addr.Origin.{Origin}
 use Rattle.lb_wire.specs.declared.ids.CacheId.{CacheId}
 use Rattle.lb_wire.specs.declared.ids.ServerId.{ServerId}
 use Rattle.lb_wire.specs.declared.kept.Kept.{Kept}
@@ -20,7 +19,6 @@ use Rattle.lb_wire.specs.declared.reply.ReplyView.{ReplyView}
 use Rattle.lb_wire.specs.declared.transport.Lane.{Lane}
 use Rattle.lb_table.specs.Place.{at_place}
 use Rattle.lb_table.specs.Table.{entry_at, is_at, taken_at, waits_at}
-use Rattle.lb_table.specs.declared.entry.Entry.{Entry}
 use Rattle.lb_table.specs.declared.entry.Waiting.{Waiting}
 use Rattle.lb_table.specs.declared.place.Place.{Place}
 use Rattle.lb_cache.specs.Caches.{cache_with, goes_before, has_id, is_dead_in, is_of, is_under, kept_in, put_in_order, put_unless}
@@ -28,22 +26,20 @@ use Rattle.lb_cache.specs.Reply.{lives}
 use Rattle.lb_cache.specs.declared.cached.AttachedCache.{AttachedCache}
 use Rattle.lb_cache.specs.declared.cached.KeptReply.{KeptReply}
 use Rattle.lb_core.specs.declared.answer.Answer.{Answer}
-use Rattle.lb_core.specs.declared.answer.Answer.TheVariants.{Deliver, Ignored}
+use Rattle.lb_core.specs.declared.answer.Answer.TheVariants.{Ignored}
 use Rattle.lb_core.specs.declared.answer.IgnoreReason.{IgnoreReason}
 use Rattle.lb_core.specs.declared.answer.IgnoreReason.TheVariants as ignores
 use Rattle.lb_core.specs.declared.event.Event.{Event}
 use Rattle.lb_core.specs.declared.event.Event.TheVariants.{Reply}
-use Rattle.lb_core.specs.Answer.{Leaves}
-use Rattle.lb_core.specs.Lifetime.{LivesFor}
 use Rattle.lb_core.specs.Plain.{Plain, at_plain, upstreams_of, with_upstreams}
 use Rattle.lb_core.specs.Provenance.{LivesIn}
 use Rattle.lb_core.specs.Reading.{OfReply}
-use Rattle.lb_core.specs.Reply.{BelongsOrNot, Delivers, HeldAgainst, IsLeft, Keeps, KeepsAt, ReplySteps, delivered_octets, kept_for, without}
+use Rattle.lb_core.specs.Reply.{BelongsOrNot, HeldAgainst, IsLeft, Keeps, KeepsAt, ReplySteps, kept_for}
 use Rattle.lb_core.specs.Routes.{routes_of}
 use Rattle.lb_core.specs.Upstream.{Upstreams}
 use Rattle.lb_core.proofs.ProvAsks.{ask_for, same_ask, same_places}
 use Rattle.lb_core.proofs.ProvLists.{Puts, Sifts, all_removed, find_cases, none_pass, puts_between, sifts_filter, sifts_none}
-use Rattle.lb_core.proofs.ProvStanding.{Stood, stood_by}
+use Rattle.lb_core.proofs.ProvStanding.{stood_by}
 use Rattle.lb_core.proofs.ProvTurns.{AnswersOne, KeepsOne, KeptTold, LivesSo, Turns, held}
 
 -- what is left where one is taken out

@@ -1,5 +1,5 @@
 -- In a run from nothing outstanding and kept, each answer follows from the events with their answers before it.
-use Rattle.std.proofs.Common.{◌≡◌, ℕ, ◌||◌, Bool, true, false, List, [], ◌∷◌, max, Option, None, Some, Ok, Err, refl, sym, ◌∙◌, ap, subst}
+use Rattle.std.proofs.Common.{◌≡◌, ℕ, ◌||◌, Bool, true, false, List, [], ◌∷◌, max, Option, None, Some, Ok, refl, sym, ◌∙◌, ap, subst}
 use Rattle.lb_wire.specs.Reply.{OneSurvey}
 use Rattle.lb_wire.specs.declared.ids.PoolId.{PoolId}
 use Rattle.lb_wire.specs.declared.query.QueryView.{QueryView}
@@ -14,8 +14,8 @@ use Rattle.lb_core.specs.declared.event.Event.{Event}
 use Rattle.lb_core.specs.declared.event.Event.TheVariants.{Query, Reply, Tick, HealthResult, Edit}
 use Rattle.lb_core.specs.Answer.{marked}
 use Rattle.lb_core.specs.Edit.{rule_by}
-use Rattle.lb_core.specs.Plain.{Plain, at_plain, with_upstreams}
-use Rattle.lb_core.specs.Provenance.{AreTold, MeetsProvenance, Provenance, Told, routes_in}
+use Rattle.lb_core.specs.Plain.{Plain}
+use Rattle.lb_core.specs.Provenance.{AreTold, Provenance, Told}
 use Rattle.lb_core.specs.Query.{is_transfer}
 use Rattle.lb_core.specs.Reading.{Reading, OfQuery, OfReply, OfNone, ReadsEvent, moment_of}
 use Rattle.lb_core.specs.Routes.{Routes, at_routes, carried_out, left_by, passed_unless, route_named, routes_after, routes_of, with_added, with_attached, with_detached}

@@ -1,8 +1,8 @@
 -- The answer to an event is what its history says of it.
-use Rattle.std.proofs.Common.{◌≡◌, ℕ, ◌≤◌, ◌<◌, ◌+◌, ◌*◌, ◌-◌, ◌/◌, Bool, true, false, List, [], ◌∷◌, ◌++◌, max, cond, Option, None, Some, inl, inr, refl, sym, ◌∙◌, ap, subst, arith}
-use Rattle.std.specs.Prelude.{if◌then◌else◌, option_and_then}
-use Rattle.std.specs.List.{All, Contains, find}
-use Rattle.std.proofs.lemmas.Bool.{cases_Bool, both_ways, cond-true, cond-false, ltb-true, lt-ltb}
+use Rattle.std.proofs.Common.{◌≡◌, ℕ, ◌≤◌, ◌<◌, ◌+◌, ◌*◌, ◌-◌, ◌/◌, true, false, List, max, Option, None, Some, inl, inr, refl, sym, ◌∙◌, ap, subst, arith}
+use Rattle.std.specs.Prelude.{option_and_then}
+use Rattle.std.specs.List.{Contains}
+use Rattle.std.proofs.lemmas.Bool.{both_ways, cond-true, ltb-true, lt-ltb}
 use Rattle.std.proofs.lemmas.Option.{same_Some, none-some, cond_some}
 use Rattle.std.proofs.lemmas.List.Elements.{All-contains}
 use Rattle.lb_wire.specs.Reply.{OneSurvey}
@@ -11,17 +11,13 @@ use Rattle.lb_wire.specs.declared.key.Key.{Key}
 use Rattle.lb_cache.specs.Caches.{is_under, looked_in}
 use Rattle.lb_cache.specs.Reply.{hit_of, lives}
 use Rattle.lb_cache.specs.declared.cached.KeptReply.{KeptReply}
-use Rattle.lb_cache.specs.declared.reply.CachedReply.{CachedReply}
-use Rattle.lb_core.specs.declared.answer.Answer.{Answer}
-use Rattle.lb_core.specs.declared.answer.Answer.TheVariants.{Local}
-use Rattle.lb_core.specs.declared.answer.LocalReason.TheVariants as locals
 use Rattle.lb_core.specs.Answer.{marked}
 use Rattle.lb_core.specs.Plain.{Plain}
-use Rattle.lb_core.specs.Provenance.{Told, FromTrace, HitsFor, Serves, asks, is_hit, octets_of, routes_in, seconds_since}
-use Rattle.lb_core.specs.Reading.{Reading, moment_of}
-use Rattle.lb_core.specs.Routes.{Routes, routes_of}
+use Rattle.lb_core.specs.Provenance.{Told, FromTrace, Serves, asks, is_hit, octets_of, routes_in, seconds_since}
+use Rattle.lb_core.specs.Reading.{moment_of}
+use Rattle.lb_core.specs.Routes.{Routes}
 use Rattle.lb_core.proofs.ProvAsks.{ask_for, ask_itself, same_asks}
-use Rattle.lb_core.proofs.ProvLists.{Finds, find_cases}
+use Rattle.lb_core.proofs.ProvLists.{find_cases}
 use Rattle.lb_core.proofs.ProvStanding.{Stood, standing, stands_at, stood_of, to_since}
 use Rattle.lb_core.proofs.ProvTurns.{AnsweredFrom, LivesSo, Turns, held, looked}
 use Rattle.lb_core.proofs.ProvKnown.{Known, Stands, Tells, one_life}

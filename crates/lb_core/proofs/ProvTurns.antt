@@ -1,6 +1,6 @@
 -- What a step does to the outstanding queries and the kept replies, whichever server is picked, whichever query is due and
 -- wherever a list is grown.
-use Rattle.std.specs.Prelude.{◌≡◌, ℕ, max, Bool, true, false, List, [], ◌∷◌, ◌⊎◌, Option, None, Some, option_and_then}
+use Rattle.std.specs.Prelude.{◌≡◌, ℕ, max, true, false, List, ◌⊎◌, Option, None, Some, option_and_then}
 use Rattle.std.specs.List.{All, Contains}
 use Rattle.lb_wire.specs.BigEndian.{number_at}
 use Rattle.lb_wire.specs.declared.ids.CacheId.{CacheId}

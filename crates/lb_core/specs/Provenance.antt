@@ -17,7 +17,6 @@ use Rattle.lb_chain.specs.Walk.{walk_of}
 use Rattle.lb_servers.specs.declared.pool.PoolName.{PoolName}
 use Rattle.lb_table.specs.declared.place.Place.{Place}
 use Rattle.lb_table.specs.Place.{at_place, same_place}
-use Rattle.lb_cache.specs.Reply.{same_key}
 use Rattle.lb_cache.specs.declared.cached.AttachedCache.{AttachedCache}
 use Rattle.lb_core.specs.declared.command.Command.{Command}
 use Rattle.lb_core.specs.declared.command.Command.TheVariants.{CacheAttach, CacheDetach, Expunge}
