@@ -34,10 +34,10 @@ not_true b is = ap not is
 not_false : (b : Bool) → b ≡ false → not b ≡ true
 not_false b is = ap not is
 
-all_taken : {X : Type 0} (P : X → Type 0) (xs : List X) (i : ℕ) → AllWithin P xs 0 i → All P (take i xs)
+pub all_taken : {X : Type 0} (P : X → Type 0) (xs : List X) (i : ℕ) → AllWithin P xs 0 i → All P (take i xs)
 all_taken P xs i all = λ k d lt. subst P (sym (get_or-take i xs k d (omega (arith, length-take i xs)))) (all k d (omega arith) (omega (arith, length-take i xs)))
 
-all_dropped : {X : Type 0} (P : X → Type 0) (xs : List X) (i : ℕ) → AllWithin P xs i (length xs) → All P (drop i xs)
+pub all_dropped : {X : Type 0} (P : X → Type 0) (xs : List X) (i : ℕ) → AllWithin P xs i (length xs) → All P (drop i xs)
 all_dropped P xs i all = λ k d lt. subst P (sym (get_or-drop i xs k d)) (all (i + k) d (omega arith) (omega (arith, length-drop i xs)))
 
 -- a front that passes and a back that does not, told apart

@@ -1,9 +1,9 @@
 //! The attached caches of all pools.
 
 ghost use Rattle.std.specs.Prelude.{◌≡◌, ◌<◌, [], IfOk, IfSome, OnErr, OnOk, Some, length, option_map};
-ghost use Rattle.std.specs.List.{position};
+ghost use Rattle.std.specs.List.{flat_map, position};
 ghost use Rattle.lb_cache.specs.Cache.{expunged, lacks};
-ghost use Rattle.lb_cache.specs.Caches.{cache_with, covers, expunged_in, has_number, is_old, kept_in, looked_in, no_caches, with_cache, without_cache, without_old, IsKeepable};
+ghost use Rattle.lb_cache.specs.Caches.{cache_with, covers, expunged_in, has_number, is_old, kept_in, kept_of, looked_in, no_caches, with_cache, without_cache, without_old, IsKeepable};
 
 use crate::cache::Cache;
 use crate::cached::{AttachedCache, Covered};
@@ -38,44 +38,47 @@ impl Model for Caches {
 impl Caches {
     /// No cache. It takes no memory.
     pub fn new(alloc: Global) -> Caches
-        requires never { ⊥ }
         ensures { result ≡ no_caches }
     {
-        unreachable!();
+        Caches {
+            shelves: Vec::new(alloc),
+        }
     }
 
     /// How many caches are attached.
     pub fn len(&self) -> usize
-        requires never { ⊥ }
         ensures { result ≡ length self.now.caches }
     {
-        unreachable!();
+        self.shelves.len()
     }
 
     /// How many replies they keep together, dead ones that are still held included.
     pub fn kept_len(&self) -> u128
-        requires never { ⊥ }
         ensures { result ≡ length self.now.kept }
     {
-        unreachable!();
+        count_kept(self.shelves.as_slice())
     }
 
     /// The attached cache with a number.
     pub fn with_id(&self, id: CacheId) -> Option<AttachedCache>
-        requires never { ⊥ }
         ensures { result ≡ cache_with id self.now.caches }
     {
-        unreachable!();
+        let shelf = &self.shelves[place_of(self.shelves.as_slice(), id)?];
+        Some(AttachedCache {
+            id: shelf.id,
+            max: shelf.cache.max(),
+            max_ttl: shelf.cache.max_ttl(),
+        })
     }
 
     /// The reply that a cache keeps under a key, where it lives at a moment, in milliseconds: a message with the key's question
     /// name that may be aged by the seconds told.
     pub fn look(&self, id: CacheId, key: &Key, now: u64) -> Option<Hit<'_>>
-        requires never { ⊥ }
         ensures found { option_map (λ hit. (hit.bytes.now, hit.secs)) result ≡ looked_in self.now.kept id key.now now }
         ensures keepable { IfSome result (λ hit. IsKeepable key.now hit.bytes.now hit.secs) }
     {
-        unreachable!();
+        let at = place_of(self.shelves.as_slice(), id)?;
+        self.shelves[at].cache.look(key, now)
     }
 
     /// Keeps a reply in an attached cache under a key, for so many seconds from a moment on, in milliseconds.
@@ -87,13 +90,16 @@ impl Caches {
         life: u32,
         now: u64,
     ) -> Kept
-        requires never { ⊥ }
         requires attached { cache_with cache.now.id self.old.caches ≡ Some cache.now }
         requires keepable { IsKeepable key bytes.now life }
         ensures caches { self.new.caches ≡ self.old.caches }
         ensures kept { (self.new.kept, result) ≡ kept_in (lacks result) cache.now.max self.old.kept (record { cache = cache.now.id; reply = record { key = key; bytes = bytes.now; moment = now; life = life } }) now }
     {
-        unreachable!();
+        match place_of(self.shelves.as_slice(), cache.id) {
+            Some(at) => self.shelves[at].cache.put(key, bytes, life, now),
+            // it is attached
+            None => unreachable!(),
+        }
     }
 
     /// Attaches a cache that keeps nothing yet under a number, in the place of an old one, where there is one. Where memory is
@@ -104,28 +110,33 @@ impl Caches {
         id: CacheId,
         cache: Cache,
     ) -> Result<(), AllocError>
-        requires never { ⊥ }
         requires empty { cache.replies ≡ [] }
         ensures attached { OnOk result (self.new ≡ with_cache (record { id = id; max = cache.max; max_ttl = cache.max_ttl }) (without_old old self.old)) }
         ensures unchanged { OnErr result (self.new ≡ self.old) }
     {
-        unreachable!();
+        self.shelves.reserve(1)?;
+        self.shelves
+            .retain(|shelf| !has_number(shelf, id) && !is_old(shelf, old));
+        let at = self.shelves.partition_point(|shelf| shelf.id.0 < id.0);
+        self.shelves.insert(at, Shelf { id, cache }).unwrap();
+        Ok(())
     }
 
     /// Takes a cache off, with what it keeps.
     pub fn detach(&mut self, id: CacheId)
-        requires never { ⊥ }
         ensures { self.new ≡ without_cache id self.old }
     {
-        unreachable!();
+        self.shelves.retain(|shelf| !has_number(shelf, id));
     }
 
     /// Expunges what a cache keeps, dead replies too, and gives how many those were; none, where no such cache is attached.
     pub fn expunge(&mut self, id: CacheId, covered: &Covered) -> usize
-        requires never { ⊥ }
         ensures { (self.new, result) ≡ expunged_in id covered.now self.old }
     {
-        unreachable!();
+        match place_of(self.shelves.as_slice(), id) {
+            Some(at) => expunge(&mut self.shelves[at].cache, covered),
+            None => 0,
+        }
     }
 }
 
@@ -152,6 +163,17 @@ fn place_of(shelves: &[Shelf], id: CacheId) -> Option<usize>
     ensures within { IfSome result (λ at. at < length shelves.now) }
 {
     shelves.iter().position(|shelf| has_number(shelf, id))
+}
+
+/// How many replies the caches keep together.
+fn count_kept(shelves: &[Shelf]) -> u128
+    ensures { result ≡ length (flat_map kept_of shelves.now) }
+{
+    let mut kept = 0u128;
+    for shelf in shelves {
+        kept += shelf.cache.len() as u128;
+    }
+    kept
 }
 
 /// Expunges a cache.

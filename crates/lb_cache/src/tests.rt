@@ -1,8 +1,11 @@
 //! The cache, by values worked out by hand.
 
-use crate::{Cache, CachedReply, MaxEntries, MaxTtl, Shards};
+ghost use Rattle.std.specs.Prelude.{◌≡◌, [], ◌∷◌, IfOk};
+ghost use Rattle.lb_cache.specs.Caches.{name_of_key};
+
+use crate::{Cache, CachedReply, Caches, Covered, MaxEntries, MaxTtl, Shards};
 use lb_name::Name;
-use lb_wire::{Kept, Key, Kind, Octets, RecordType};
+use lb_wire::{CacheId, Kept, Key, Kind, Octets, RecordType};
 use std::alloc::{AllocError, Global};
 use std::test::Fail;
 
@@ -152,5 +155,100 @@ fn by_transport_and_then_by_octets(rt: HostRuntime) -> Result<(), Fail> {
     }
     let list = cache.list(alloc)?;
     assert_eq!(rt; lives(list.as_slice()), [3, 4, 2, 1]);
+    Ok(())
+}
+
+/// What stands behind the header without its ID of a query for example.com, type A and class IN.
+const ASKED: [u8; 27] = [
+    1, 0, 0, 1, 0, 0, 0, 0, 0, 0, 7, 101, 120, 97, 109, 112, 108, 101, 3, 99, 111, 109, 0, 0, 1, 0,
+    1,
+];
+
+/// A reply to it without records: ID 7, QR 1.
+const REPLY: [u8; 29] = [
+    0, 7, 128, 0, 0, 1, 0, 0, 0, 0, 0, 0, 7, 101, 120, 97, 109, 112, 108, 101, 3, 99, 111, 109, 0,
+    0, 1, 0, 1,
+];
+
+/// The key of that query.
+fn asked(alloc: Global, kind: Kind) -> Result<Key, AllocError>
+    ensures { IfOk result (λ key. name_of_key key ≡ (101 ∷ 120 ∷ 97 ∷ 109 ∷ 112 ∷ 108 ∷ 101 ∷ []) ∷ (99 ∷ 111 ∷ 109 ∷ []) ∷ []) }
+{
+    Ok(Key {
+        kind,
+        octets: Octets::from_vec(Vec::from_slice(alloc, ASKED.as_slice())?),
+    })
+}
+
+/// Keeps that reply in a cache under a key of that query, for a second.
+fn keep(caches: &mut Caches, id: u64, key: Key, now: u64) -> Option<Kept>
+    requires { name_of_key key ≡ (101 ∷ 120 ∷ 97 ∷ 109 ∷ 112 ∷ 108 ∷ 101 ∷ []) ∷ (99 ∷ 111 ∷ 109 ∷ []) ∷ [] }
+{
+    let cache = caches.with_id(CacheId(id))?;
+    Some(caches.keep(&cache, key, REPLY.as_slice(), 1, now))
+}
+
+/// How many octets are found in a cache under a key, and how many seconds ago they came.
+fn found_in(caches: &Caches, id: u64, key: &Key, now: u64) -> Option<(usize, u32)> {
+    let hit = caches.look(CacheId(id), key, now)?;
+    Some((hit.bytes.len(), hit.secs))
+}
+
+#[test]
+fn two_caches(rt: HostRuntime) -> Result<(), Fail> {
+    let alloc = rt.alloc();
+    let mut caches = Caches::new(alloc);
+    caches.attach(None, CacheId(2), cache(alloc, 1)?)?;
+    caches.attach(None, CacheId(1), cache(alloc, 10)?)?;
+    let (one, two) = (asked(alloc, Kind::Datagram)?, asked(alloc, Kind::Stream)?);
+    let again = asked(alloc, Kind::Datagram)?;
+    assert_eq!(rt; (caches.len(), caches.kept_len()), (2, 0));
+    assert_eq!(rt;
+        keep(&mut caches, 1, asked(alloc, Kind::Datagram)?, 0),
+        Some(Kept::Yes)
+    );
+    assert_eq!(rt; keep(&mut caches, 2, again, 0), Some(Kept::Yes));
+    assert_eq!(rt;
+        keep(&mut caches, 2, asked(alloc, Kind::Stream)?, 999),
+        Some(Kept::NoRoom)
+    );
+    assert_eq!(rt; found_in(&caches, 1, &one, 999), Some((29, 0)));
+    assert_eq!(rt;
+        (
+            found_in(&caches, 1, &two, 0),
+            found_in(&caches, 1, &one, 1000)
+        ),
+        (None, None)
+    );
+    assert_eq!(rt;
+        keep(&mut caches, 2, asked(alloc, Kind::Datagram)?, 500),
+        Some(Kept::Yes)
+    );
+    assert_eq!(rt;
+        (found_in(&caches, 2, &one, 1499), caches.kept_len()),
+        (Some((29, 0)), 2)
+    );
+    let name = Name::parse_text("example.com")?;
+    assert_eq!(rt; caches.expunge(CacheId(3), &Covered::All), 0);
+    assert_eq!(rt;
+        caches.expunge(CacheId(1), &Covered::Suffix(Name::parse_text("net")?)),
+        0
+    );
+    assert_eq!(rt; caches.expunge(CacheId(1), &Covered::Name(name, None)), 1);
+    assert_eq!(rt;
+        (caches.kept_len(), found_in(&caches, 1, &one, 500)),
+        (1, None)
+    );
+    assert_eq!(rt; caches.expunge(CacheId(2), &Covered::All), 1);
+    caches.attach(Some(CacheId(2)), CacheId(3), cache(alloc, 5)?)?;
+    assert_eq!(rt;
+        (
+            caches.with_id(CacheId(3)).map(|c| c.max.get()),
+            caches.with_id(CacheId(2)).is_none()
+        ),
+        (Some(5), true)
+    );
+    caches.detach(CacheId(1));
+    assert_eq!(rt; caches.len(), 1);
     Ok(())
 }

@@ -1,5 +1,5 @@
 -- The octets of a hit, step by step: aged, respelled, and with another ID.
-use Rattle.std.proofs.Common.{◌≡◌, ℕ, List, ◌++◌, drop, take, refl, sym, ◌∙◌, ap, subst}
+use Rattle.std.proofs.Common.{◌≡◌, ℕ, List, ◌++◌, drop, take, ◌∙◌, ap}
 use Rattle.std.specs.List.{flat_map}
 use Rattle.lb_name.specs.Name.{IsSame}
 use Rattle.lb_wire.specs.Aging.{aged}

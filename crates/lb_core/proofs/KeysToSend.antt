@@ -1,10 +1,9 @@
 -- The key of the message to be sent, and the name in it.
-use Rattle.std.proofs.Common.{◌≡◌, ℕ, ◌≤◌, List, length, Option, Result, Ok, Err, sym, ◌∙◌, ap, subst, arith}
+use Rattle.std.proofs.Common.{◌≡◌, ℕ, ◌≤◌, List, length, Result, Ok, Err, sym, ◌∙◌, ap, subst, arith}
 use Rattle.std.specs.Prelude.{IfOk}
-use Rattle.std.specs.declared.alloc.AllocError.{AllocError}
 use Rattle.lb_name.specs.Name.{lower_name}
 use Rattle.lb_wire.specs.Key.{KeyHasName, key_with_name}
-use Rattle.lb_wire.specs.Message.{Message, Lays, message_octets}
+use Rattle.lb_wire.specs.Message.{Message, Lays}
 use Rattle.lb_wire.specs.Query.{ClearedIsLaid, undesired, view_of, without_recursion}
 use Rattle.lb_wire.specs.declared.key.Key.{Key}
 use Rattle.lb_wire.specs.declared.query.QueryView.{QueryView}

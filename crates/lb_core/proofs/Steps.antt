@@ -1,7 +1,5 @@
 -- Steps of the balancer over its plain state.
-use Rattle.std.proofs.Common.{◌≡◌, ℕ, Bool, true, false, IsTrue, List, Option, Some, None, Result, Ok, Err, max, refl, sym, ◌∙◌, ap, subst, arith}
-use Rattle.std.specs.Prelude.{if◌then◌else◌}
-use Rattle.lb_wire.specs.Belongs.{belongs}
+use Rattle.std.proofs.Common.{◌≡◌, ℕ, Bool, false, IsTrue, List, Option, Some, None, Result, max, refl, sym, ◌∙◌, ap, subst, arith}
 use Rattle.lb_wire.specs.Query.{Reads}
 use Rattle.lb_wire.specs.Reply.{ReadsReply}
 use Rattle.lb_wire.specs.declared.addr.Origin.{Origin}
@@ -12,16 +10,12 @@ use Rattle.lb_wire.specs.declared.query.QueryView.{QueryView}
 use Rattle.lb_wire.specs.declared.query.QueryFault.{QueryFault}
 use Rattle.lb_wire.specs.declared.reply.ReplyView.{ReplyView}
 use Rattle.lb_wire.specs.declared.reply.ReplyFault.{ReplyFault}
-use Rattle.lb_wire.specs.declared.reply.ReplyFault.TheVariants as reply_faults
 use Rattle.lb_chain.specs.declared.numbered.Numbered.{Numbered}
 use Rattle.lb_chain.specs.declared.walked.Walked.{Walked}
 use Rattle.lb_chain.specs.Edits.{Rules}
 use Rattle.lb_chain.specs.Counting.{counted}
 use Rattle.lb_chain.specs.Seen.{seen_rules, SeenTwice}
-use Rattle.lb_table.specs.declared.place.Place.{Place}
-use Rattle.lb_table.specs.declared.entry.Entry.{Entry}
-use Rattle.lb_table.specs.Place.{at_place}
-use Rattle.lb_table.specs.Table.{due, entry_at}
+use Rattle.lb_table.specs.Table.{due}
 use Rattle.lb_table.specs.declared.entry.Waiting.{Waiting}
 use Rattle.lb_health.specs.declared.health.Changed.{Changed}
 use Rattle.lb_health.specs.declared.health.Changed.TheVariants as changes

@@ -62,10 +62,10 @@ abbrev pub Keeps : Bool → Upstreams → ℕ → List ℕ → ReplyView → Opt
 Keeps lacking ups moment bytes view None told new = IsLeft new told (ups.kept, kept.No)
 Keeps lacking ups moment bytes view (Some ask) told new = KeepsAt lacking ups moment bytes view ask.1 (cache_with ask.0 ups.caches) told new
 
--- a reply that belongs to a query: it goes to its client, and may be kept
+-- a reply that belongs to a query: the query goes, and the reply goes to its client, and may be kept
 abbrev pub Delivers : Bool → Upstreams → Place → ℕ → List ℕ → ReplyView → Entry → Answer → Upstreams → Type 0
 Delivers lacking ups place moment bytes view entry answer new =
-    (told : Kept) × (list : List KeptReply) × Keeps lacking ups moment bytes view entry.cache told list
+    (told : Kept) × (list : List KeptReply) × Keeps lacking (without place ups) moment bytes view entry.cache told list
     × Leaves new answer (record (without place ups) { kept = list }, Deliver entry.origin (delivered_octets view entry bytes) told)
 
 -- a reply held against the question of a query: it belongs to it, or not
@@ -94,4 +94,4 @@ pub record MayKeep (ups : Upstreams) (server : ServerId) (lane : Lane) (moment :
   pub waits : entry_at ups.outstanding (at_place server lane view.id) ≡ Some entry
   pub fits : belongs view entry.name entry.qtype entry.qclass ≡ true
   pub list : List KeptReply
-  pub keeps : Keeps false ups moment bytes view entry.cache kept.Yes list
+  pub keeps : Keeps false (without (at_place server lane view.id) ups) moment bytes view entry.cache kept.Yes list

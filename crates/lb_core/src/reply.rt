@@ -1,8 +1,8 @@
 //! The life of a reply.
 
-ghost use Rattle.std.specs.Prelude.{◌≡◌, ◌≤◌, ◌==◌, true, IsTrue, IfSome, length, List, ℕ, Result};
+ghost use Rattle.std.specs.Prelude.{◌≡◌, ◌≤◌, ◌==◌, IsTrue, IfSome, length, List, ℕ, Result};
 ghost use Rattle.lb_wire.specs.BigEndian.{number_at};
-ghost use Rattle.lb_wire.specs.Belongs.{belongs, AsksSame};
+ghost use Rattle.lb_wire.specs.Belongs.{AsksSame};
 ghost use Rattle.lb_wire.specs.Reply.{ReadsReply, Replies};
 ghost use Rattle.lb_wire.specs.declared.reply.ReplyView.{ReplyView};
 ghost use Rattle.lb_wire.specs.declared.reply.ReplyFault.{ReplyFault};
@@ -21,7 +21,7 @@ ghost use Rattle.lb_core.specs.declared.answer.Answer.TheVariants.{Deliver};
 use crate::answer::{Answer, IgnoreReason};
 use crate::lifetime::lifetime;
 use crate::upstream::Upstream;
-use lb_name::Name;
+use lb_name::{Name, splits_back};
 use lb_table::Entry;
 use lb_wire::{
     CacheId, Kept, Key, Lane, Octets, ReplyFault, ReplyView, ServerId, least_is_outlived,
@@ -68,9 +68,11 @@ fn keep_and_deliver(
 ) -> Answer
     requires reads { Replies bytes.items view.now }
     requires asked { IsAsked entry }
-    requires same { belongs view.now entry.name entry.qtype entry.qclass ≡ true }
+    requires same { view.now.questions ≡ 1 → AsksSame view.now.question entry.name }
     ensures { (told : KeptValue) × (list : List KeptReply) × Keeps (marked result) upstream.old moment bytes.items view.now entry.cache told list × (upstream.new ≡ record upstream.old { kept = list }) × (result ≡ Deliver entry.origin (delivered_octets view.now entry bytes.items) told) }
 {
+    // A law, which does nothing.
+    splits_back();
     let Entry {
         origin,
         asked,

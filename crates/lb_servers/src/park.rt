@@ -1,6 +1,6 @@
 //! The table of servers and pools.
 
-ghost use Rattle.std.specs.Prelude.{◌≡◌, ℕ, ◌+◌, ◌<◌, ◌^◌, Bool, IsTrue, IfNone, IfOk, Ok, Err, length, option_map, slice_get, Result};
+ghost use Rattle.std.specs.Prelude.{◌≡◌, ℕ, ◌+◌, ◌<◌, ◌≤◌, ◌^◌, Bool, IsTrue, IfNone, IfOk, Ok, Err, length, option_map, slice_get, Result};
 ghost use Rattle.std.specs.List.{All};
 ghost use Rattle.lb_wire.specs.declared.ids.PoolId.{PoolId};
 ghost use Rattle.lb_wire.specs.declared.ids.ServerId.{ServerId};
@@ -72,7 +72,8 @@ impl Park {
 
     /// The number that the next cache gets; 2^64 once all are given.
     pub fn next_cache(&self) -> u128
-        ensures { result ≡ self.now.next_cache }
+        ensures number { result ≡ self.now.next_cache }
+        ensures fits { result ≤ 2 ^ 64 }
     {
         u128::from(self.last_cache) + 1
     }

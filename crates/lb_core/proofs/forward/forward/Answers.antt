@@ -1,4 +1,4 @@
-use Rattle.std.proofs.Common.{◌≡◌, ℕ, sym, subst, ◌∙◌, ap, List, Option}
+use Rattle.std.proofs.Common.{◌≡◌, ℕ, sym, subst, ◌∙◌, ap, List}
 use Rattle.lb_core.specs.Forward.{entry_of}
 use Rattle.lb_core.specs.Upstream.{IsAsked}
 use Rattle.lb_core.proofs.Forwards.{asked_by, sent_on}
