@@ -1,7 +1,7 @@
 //! What holds of every step and of every run. Each function is a law: its contract is the statement, and a call does
 //! nothing but bring it to the caller's proof.
 
-ghost use Rattle.lb_core.specs.Runs.{OneRunPerMarks, TicksEndTheDue};
+ghost use Rattle.lb_core.specs.Runs.{CachedAnswersAreKeptReplies, OneRunPerMarks, TicksEndTheDue};
 ghost use Rattle.lb_core.specs.Step.{RefusalsChangeNothing, RoutesFollow};
 
 use lb_chain::seen_twice;
@@ -38,4 +38,13 @@ pub fn ticks_end_the_due()
     ensures { TicksEndTheDue }
 {
     seen_twice();
+}
+
+/// In every run that begins without outstanding queries and kept replies, each answer from a cache is a kept reply's, and
+/// where one serves a query it is given.
+pub fn cached_answers_are_kept_replies()
+    ensures { CachedAnswersAreKeptReplies }
+{
+    one_survey();
+    routes_follow();
 }
