@@ -8,3 +8,7 @@ returns-clause-run c =
     let left : into_iter_items c.loop-event.event-iterator ≡ [] = nil_from_length _ (search rules) in
     let whole = c.loop-event.invariant.3 [] c.loop-event.balancer (rw left refl) in
     rw append-nil at whole
+
+pub returns-clause-provenance : goal.returns-clause-provenance
+returns-clause-provenance c = λ outstanding kept.
+    c.cached_answers_are_kept_replies.ensures c.args.balancer.now c.loop-event.balancer c.args.events.items c.loop-event.answers.items outstanding kept (returns-clause-run c)
