@@ -1,15 +1,15 @@
 -- In a run from any state, each hit comes from a reply that was kept when the run began, or that came in it.
-use Rattle.std.proofs.Common.{◌≡◌, ℕ, ◌<◌, ◌+◌, ◌*◌, ◌-◌, ◌/◌, Bool, true, false, List, [], ◌∷◌, ◌++◌, max, Option, None, Some, ◌⊎◌, inl, inr, refl, sym, ◌∙◌, ap, subst}
+use Rattle.std.proofs.Common.{◌≡◌, ℕ, ◌+◌, ◌*◌, ◌-◌, ◌/◌, true, false, List, [], ◌∷◌, max, Option, None, Some, ◌⊎◌, inl, inr, refl, sym, ◌∙◌, ap, subst}
 use Rattle.std.specs.Prelude.{option_and_then}
-use Rattle.std.specs.List.{All, AllByRecursion, Contains}
-use Rattle.std.proofs.lemmas.Bool.{both_ways, cases_Bool, ltb-true}
+use Rattle.std.specs.List.{All, Contains}
+use Rattle.std.proofs.lemmas.Bool.{both_ways, ltb-true}
 use Rattle.std.proofs.lemmas.Option.{cond_some, none-some}
 use Rattle.std.proofs.lemmas.List.Elements.{All-contains, All-contains_itself, All-weaker}
 use Rattle.lb_wire.specs.BigEndian.{number_at}
 use Rattle.lb_wire.specs.declared.ids.CacheId.{CacheId}
 use Rattle.lb_wire.specs.declared.kept.Kept.TheVariants as kept
 use Rattle.lb_wire.specs.declared.key.Key.{Key}
-use Rattle.lb_table.specs.Place.{at_place, same_place}
+use Rattle.lb_table.specs.Place.{at_place}
 use Rattle.lb_table.specs.Table.{is_at}
 use Rattle.lb_table.specs.declared.entry.Waiting.{Waiting}
 use Rattle.lb_table.specs.declared.place.Place.{Place}
@@ -22,17 +22,16 @@ use Rattle.lb_core.specs.declared.event.Event.{Event}
 use Rattle.lb_core.specs.declared.event.Event.TheVariants.{Edit, Reply}
 use Rattle.lb_core.specs.Answer.{marked}
 use Rattle.lb_core.specs.Plain.{Plain}
-use Rattle.lb_core.specs.Provenance.{AreTold, AskedAt, CameIn, HitFrom, HitsFor, HitsFrom, LastSent, LivesIn, Told, WaitedAt, asks, ended_by, is_hit, is_sent, routes_in}
+use Rattle.lb_core.specs.Provenance.{AreTold, AskedAt, CameIn, HitFrom, HitsFor, HitsFrom, LastSent, LivesIn, Told, asks, ended_by, is_hit, is_sent, routes_in}
 use Rattle.lb_core.specs.Reading.{Reading, moment_of}
-use Rattle.lb_core.specs.Routes.{Routes, at_routes, routes_after, routes_of}
+use Rattle.lb_core.specs.Routes.{Routes, routes_after, routes_of}
 use Rattle.lb_core.specs.Runs.{HitsComeFromReplies, IsRun}
 use Rattle.lb_core.specs.Step.{RoutesFollow}
 use Rattle.lb_core.proofs.ProvAsks.{ask_for, apart, place_itself, same_ask, same_asks}
 use Rattle.lb_core.proofs.ProvLists.{find_cases}
-use Rattle.lb_core.proofs.ProvRuns.{left_moment, step_turn}
+use Rattle.lb_core.proofs.ProvRuns.{step_turn}
 use Rattle.lb_core.proofs.ProvStanding.{stood_by}
-use Rattle.lb_core.proofs.ProvTurns.{AnsweredFrom, KeepsReply, KeptAfter, OutstandingAfter, Turns, held, looked}
-use Rattle.lb_core.specs.declared.event.Event.TheVariants.{Query, Tick, HealthResult}
+use Rattle.lb_core.proofs.ProvTurns.{AnsweredFrom, KeptAfter, OutstandingAfter, Turns, held, looked}
 
 module _ (first : Plain) where
   -- what an outstanding query asked is known
