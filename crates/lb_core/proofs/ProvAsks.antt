@@ -64,8 +64,8 @@ lived m now reply before is =
 pub place_itself : (a : Place) → same_place a a ≡ true
 place_itself a = and_from (a.server.0 == a.server.0) _ (eq-eqb a.server.0 a.server.0 refl)
     (and_from (same_lane a.lane a.lane) (a.id == a.id)
-      (and_from (same_kind a.lane.kind a.lane.kind) _ (kind_itself a.lane.kind) (eq-eqb a.lane.number a.lane.number refl))
-      (eq-eqb a.id a.id refl))
+    (and_from (same_kind a.lane.kind a.lane.kind) _ (kind_itself a.lane.kind) (eq-eqb a.lane.number a.lane.number refl))
+    (eq-eqb a.id a.id refl))
 
 abbrev place_from : ℕ → Kind → ℕ → ℕ → Place
 place_from server kind number id = record { server = record { 0 = server }; lane = record { kind = kind; number = number }; id = id }
@@ -84,5 +84,6 @@ same_places a b is =
 -- where one is not the other, the other is not the one
 pub apart : (a b : Place) → same_place b a ≡ false → same_place a b ≡ false
 apart a b none = elim (cases_Bool (same_place a b)) [
-      inl same ↦ absurd (both_ways (same_place b a) none (ap (λ (z : Place). same_place b z) (same_places a b same) ∙ place_itself b))
-    | inr other ↦ other ]
+  | inl same ↦ absurd (both_ways (same_place b a) none (ap (λ (z : Place). same_place b z) (same_places a b same) ∙ place_itself b))
+  | inr other ↦ other
+]

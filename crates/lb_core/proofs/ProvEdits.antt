@@ -164,9 +164,11 @@ module _ (old : Plain) (now : ℕ) where
         ready (Err fault) = record { waiting_is = refl; kept_is = refl }
         ready (Ok done) = cond_both mark (ups, Err park_faults.NoMemory) (replaced_cache ups pool most max_ttl) (λ d. UpsEdited old attach (upstream_told notes.CacheAttached d))
             (λ _. record { waiting_is = refl; kept_is = refl })
-            (λ _. record { waiting_is = refl;
+            (λ _. record {
+              waiting_is = refl;
               kept_is = subst (λ (cache : Option CacheId). Sifts (goes_at cache) old.kept (filter (λ k. not (is_of (record { 0 = old.next_cache }) k)) (without_old (cache_at old.pools pool.0) (caches_of ups)).kept))
-                (sym (cache_is name pool is)) (sifted (cache_at old.pools pool.0)) })
+                  (sym (cache_is name pool is)) (sifted (cache_at old.pools pool.0));
+            })
 
   detach_edit : (name : PoolName) (pool : Option PoolId) → pool_named old.pools name ≡ pool → UpsEdited old (CacheDetach name) (detached_from ups pool)
   detach_edit name None is = record { waiting_is = refl; kept_is = refl }
@@ -174,8 +176,10 @@ module _ (old : Plain) (now : ℕ) where
     where
       by : (cache : Option CacheId) → cache_named (routes_of old) name ≡ cache → UpsEdited old (CacheDetach name) (let done = detached_if ups pool cache in (done.0, cache_told notes.CacheDetached done.1))
       by None at = record { waiting_is = refl; kept_is = refl }
-      by (Some id) at = record { waiting_is = refl;
-        kept_is = subst (λ (cache : Option CacheId). Sifts (λ k. is_cache (ask_for k) cache) old.kept (filter (λ k. not (is_of id k)) old.kept)) (sym at) (sifts_filter (is_of id) old.kept) }
+      by (Some id) at = record {
+        waiting_is = refl;
+        kept_is = subst (λ (cache : Option CacheId). Sifts (λ k. is_cache (ask_for k) cache) old.kept (filter (λ k. not (is_of id k)) old.kept)) (sym at) (sifts_filter (is_of id) old.kept);
+      }
 
   expunge_edit : (name : PoolName) (covered : Covered) (pool : Option PoolId) → pool_named old.pools name ≡ pool → UpsEdited old (Expunge name covered) (expunged_from ups covered pool)
   expunge_edit name covered None is = record { waiting_is = refl; kept_is = refl }
@@ -183,9 +187,11 @@ module _ (old : Plain) (now : ℕ) where
     where
       by : (cache : Option CacheId) → cache_named (routes_of old) name ≡ cache → UpsEdited old (Expunge name covered) (expunged_of ups covered cache)
       by None at = record { waiting_is = refl; kept_is = refl }
-      by (Some id) at = record { waiting_is = refl;
+      by (Some id) at = record {
+        waiting_is = refl;
         kept_is = subst (λ (cache : Option CacheId). Sifts (λ k. is_cache (ask_for k) cache && covers_key covered k.reply.key) old.kept (filter (λ k. not (covers_in id covered k)) old.kept)) (sym at)
-          (sifts_filter (covers_in id covered) old.kept) }
+            (sifts_filter (covers_in id covered) old.kept);
+      }
 
   edit_so : (mark : Bool) (command : Command) → PlainEdited old command (edit_of mark plain command)
   edit_so mark (RuleAdd place rule) = rule_edit (RuleAdd place rule) (λ k. refl) mark place (rule_by (pool_named plain.pools) rule)
@@ -197,8 +203,8 @@ module _ (old : Plain) (now : ℕ) where
       same_ups old (ServerAdd spec check) (λ k. refl) notes.ServerAdded done.0 done.1 (checked_waits check made.1 made.0) (checked_keeps check made.1 made.0)
   edit_so mark (ServerRemove name) =
       server_edit (ServerRemove name) (λ k. refl) notes.ServerRemoved removed_checked
-        (λ id. let made = on_backends ups (removed_server (backends_of ups) id) in unchecked_waits id made.1 made.0)
-        (λ id. let made = on_backends ups (removed_server (backends_of ups) id) in unchecked_keeps id made.1 made.0) (server_by ups name)
+      (λ id. let made = on_backends ups (removed_server (backends_of ups) id) in unchecked_waits id made.1 made.0)
+      (λ id. let made = on_backends ups (removed_server (backends_of ups) id) in unchecked_keeps id made.1 made.0) (server_by ups name)
   edit_so mark (ServerMode name mode) = server_edit (ServerMode name mode) (λ k. refl) (λ id. notes.ServerMode id mode) (put_into mode) (λ id. refl) (λ id. refl) (server_by ups name)
   edit_so mark (PoolAdd name) =
       let done = on_backends ups (added_pool mark (backends_of ups) name) in same_ups old (PoolAdd name) (λ k. refl) (λ _. notes.PoolAdded name) done.0 done.1 refl refl

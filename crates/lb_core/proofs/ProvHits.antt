@@ -49,8 +49,16 @@ module _ (first : Plain) where
 
   still_from : (before : List Told) (t : Told) (k : KeptReply) → IsFrom before k → IsFrom (t ∷ before) k
   still_from before t k (inl there) = inl there
-  still_from before t k (inr came) = inr (record { since = t ∷ came.since; reply = came.reply; earlier = came.earlier; parts = ap (λ (ts : List Told). t ∷ ts) came.parts; kept = came.kept;
-    octets = came.octets; moment = came.moment; lives = came.lives })
+  still_from before t k (inr came) = inr (record {
+    since = t ∷ came.since;
+    reply = came.reply;
+    earlier = came.earlier;
+    parts = ap (λ (ts : List Told). t ∷ ts) came.parts;
+    kept = came.kept;
+    octets = came.octets;
+    moment = came.moment;
+    lives = came.lives;
+  })
 
   record Sourced (before : List Told) (plain : Plain) : Type 0 where
     pub routes : routes_of plain ≡ routes_in (routes_of first) before
@@ -72,12 +80,20 @@ module _ (first : Plain) where
       let t : Told = record { event = event; reading = reading; answer = Forward server lane id bytes } in
       let place : Place = at_place server lane id in
       All-weaker (λ w. (w ≡ after.sent) ⊎ Contains old w) (AskedSo (t ∷ before)) (λ w from. elim from [
-            inl this ↦ λ ask is.
-              let sent : LastSent (routes_of first) (t ∷ before) place ask = record { since = []; query = t; earlier = before; parts = refl; sent = place_itself place; last = tt;
-                asked = sym after.asked_is ∙ ap (λ (w : Waiting). w.entry.cache) (sym this) ∙ is } in
-              inl (subst (λ (p : Place). LastSent (routes_of first) (t ∷ before) p ask) (sym (ap (λ (w : Waiting). w.place) this ∙ after.place_is)) sent)
-          | inr was ↦ λ ask is.
-              still_asked before t w.place ask (apart place w.place (All-contains (λ (w : Waiting). is_at place w ≡ false) old w after.free was)) (All-contains (AskedSo before) old w all was ask is) ]) new after.puts.each
+        | inl this ↦ λ ask is.
+            let sent : LastSent (routes_of first) (t ∷ before) place ask = record {
+              since = [];
+              query = t;
+              earlier = before;
+              parts = refl;
+              sent = place_itself place;
+              last = tt;
+              asked = sym after.asked_is ∙ ap (λ (w : Waiting). w.entry.cache) (sym this) ∙ is;
+            } in
+            inl (subst (λ (p : Place). LastSent (routes_of first) (t ∷ before) p ask) (sym (ap (λ (w : Waiting). w.place) this ∙ after.place_is)) sent)
+        | inr was ↦ λ ask is.
+            still_asked before t w.place ask (apart place w.place (All-contains (λ (w : Waiting). is_at place w ≡ false) old w after.free was)) (All-contains (AskedSo before) old w all was ask is)
+      ]) new after.puts.each
   outstanding_sourced before event reading answer old new after all =
       let t : Told = record { event = event; reading = reading; answer = answer } in
       All-weaker (Contains old) (AskedSo (t ∷ before)) (λ w there ask is. still_asked before t w.place ask refl (All-contains (AskedSo before) old w all there ask is)) new after
@@ -93,15 +109,21 @@ module _ (first : Plain) where
       let k : KeptReply = held after.ask (stood_by (routes_of old) (Reply now server lane bytes) reading after.ask) after.life in
       let w = after.answers.waiting in
       let asked : AskedAt first before (at_place server lane (number_at bytes 0)) after.ask =
-          subst (λ (p : Place). AskedAt first before p after.ask) after.answers.place_is (All-contains (AskedSo before) old.outstanding w sourced.outstanding after.answers.there after.ask after.answers.asked_is) in
+      subst (λ (p : Place). AskedAt first before p after.ask) after.answers.place_is (All-contains (AskedSo before) old.outstanding w sourced.outstanding after.answers.there after.ask after.answers.asked_is) in
       let came : CameIn first (t ∷ before) k = record {
-        since = []; reply = t; earlier = before; parts = refl; kept = asked; octets = refl;
+        since = [];
+        reply = t;
+        earlier = before;
+        parts = refl;
+        kept = asked;
+        octets = refl;
         moment = ap (λ (r : Routes). max r.moment now) sourced.routes;
         lives = subst (λ (r : Routes). LivesIn (cache_with after.ask.0 r.caches) (Reply now server lane bytes) reading after.life) sourced.routes after.lives_so;
       } in
       All-weaker (λ o. (o ≡ k) ⊎ (Contains old.kept o × (same_ask (ask_for o) (ask_for k) ≡ false))) (IsFrom (t ∷ before)) (λ o from. elim from [
-            inl is ↦ inr (subst (CameIn first (t ∷ before)) (sym is) came)
-          | inr was ↦ still_from before t o (All-contains (IsFrom before) old.kept o sourced.kept was.0) ]) new after.keeps.each
+        | inl is ↦ inr (subst (CameIn first (t ∷ before)) (sym is) came)
+        | inr was ↦ still_from before t o (All-contains (IsFrom before) old.kept o sourced.kept was.0)
+      ]) new after.keeps.each
   kept_sourced before old (Reply now server lane bytes) reading (Deliver origin sent told) new sourced after =
       same_sourced before (record { event = Reply now server lane bytes; reading = reading; answer = Deliver origin sent told }) old.kept new sourced.kept after
   kept_sourced before old (Edit now command) reading (Edited note) new sourced after =
@@ -113,7 +135,7 @@ module _ (first : Plain) where
   sourced_after before old new t sourced turns routes = record {
     routes = routes ∙ ap (λ (r : Routes). routes_after r t.event t.reading t.answer) sourced.routes;
     outstanding = outstanding_sourced before t.event t.reading t.answer old.outstanding new.outstanding
-      (subst (λ (r : Routes). OutstandingAfter (asks r t) t.answer old.outstanding new.outstanding) sourced.routes turns.outstanding) sourced.outstanding;
+        (subst (λ (r : Routes). OutstandingAfter (asks r t) t.answer old.outstanding new.outstanding) sourced.routes turns.outstanding) sourced.outstanding;
     kept = kept_sourced before old t.event t.reading t.answer new.kept sourced turns.kept;
   }
 
@@ -126,21 +148,22 @@ module _ (first : Plain) where
   hit_of_found : (before : List Told) (old : Plain) (now : ℕ) (t : Told) (ask : CacheId × Key) (hit : List ℕ × ℕ) → Sourced before old → asks (routes_in (routes_of first) before) t ≡ Some ask →
       looked_in old.kept ask.0 ask.1 now ≡ Some hit → AnsweredFrom (Some hit) t.reading t.answer → HitFrom first before now t
   hit_of_found before old now t ask hit sourced asked is from = elim (find_cases (is_under ask.0 ask.1) old.kept) [
-        inl some ↦
-          let k : KeptReply = some.0 in
-          let given : hit_of now k.reply ≡ Some hit = sym (ap (option_and_then (λ (k : KeptReply). hit_of now k.reply)) some.1.is) ∙ is in
-          let living = cond_some (lives now k.reply) (k.reply.bytes, (now - k.reply.moment) / 1000) hit given in
-          let same : ask_for k ≡ ask = same_asks (ask_for k) ask some.1.passes in
-          record {
-            reply = k;
-            from = All-contains (IsFrom before) old.kept k sourced.kept some.1.there;
-            asked = asked ∙ ap (λ (a : CacheId × Key). Some a) (sym same);
-            alive = ltb-true now (k.reply.moment + 1000 * k.reply.life) living.0;
-            octets = from.0;
-            answer = from.1;
-            hits = subst (λ (h : List ℕ × ℕ). HitsFor t.reading h.0 h.1 from.0) (sym living.1) from.2;
-          }
-      | inr none ↦ absurd (none-some hit (sym (ap (option_and_then (λ (k : KeptReply). hit_of now k.reply)) none.0) ∙ is)) ]
+    | inl some ↦
+        let k : KeptReply = some.0 in
+        let given : hit_of now k.reply ≡ Some hit = sym (ap (option_and_then (λ (k : KeptReply). hit_of now k.reply)) some.1.is) ∙ is in
+        let living = cond_some (lives now k.reply) (k.reply.bytes, (now - k.reply.moment) / 1000) hit given in
+        let same : ask_for k ≡ ask = same_asks (ask_for k) ask some.1.passes in
+        record {
+          reply = k;
+          from = All-contains (IsFrom before) old.kept k sourced.kept some.1.there;
+          asked = asked ∙ ap (λ (a : CacheId × Key). Some a) (sym same);
+          alive = ltb-true now (k.reply.moment + 1000 * k.reply.life) living.0;
+          octets = from.0;
+          answer = from.1;
+          hits = subst (λ (h : List ℕ × ℕ). HitsFor t.reading h.0 h.1 from.0) (sym living.1) from.2;
+        }
+    | inr none ↦ absurd (none-some hit (sym (ap (option_and_then (λ (k : KeptReply). hit_of now k.reply)) none.0) ∙ is))
+  ]
 
   hit_cases : (before : List Told) (old : Plain) (now : ℕ) (t : Told) (asked : Option (CacheId × Key)) (gives : Option (List ℕ × ℕ)) → Sourced before old → asks (routes_in (routes_of first) before) t ≡ asked →
       looked old.kept now asked ≡ gives → AnsweredFrom gives t.reading t.answer → is_hit t.answer ≡ true → HitFrom first before now t
@@ -153,9 +176,9 @@ module _ (first : Plain) where
       let now : ℕ = max old.moment (moment_of t.event) in
       let r : Routes = routes_in (routes_of first) before in
       let from : AnsweredFrom (looked old.kept now (asks r t)) t.reading t.answer =
-          subst (λ (r : Routes). AnsweredFrom (looked old.kept now (asks r t)) t.reading t.answer) sourced.routes (turns.answered (unmarked t.answer hit)) in
+      subst (λ (r : Routes). AnsweredFrom (looked old.kept now (asks r t)) t.reading t.answer) sourced.routes (turns.answered (unmarked t.answer hit)) in
       subst (λ (m : ℕ). HitFrom first before (max m (moment_of t.event)) t) (ap (λ (r : Routes). r.moment) sourced.routes)
-        (hit_cases before old now t (asks r t) (looked old.kept now (asks r t)) sourced refl refl from hit)
+      (hit_cases before old now t (asks r t) (looked old.kept now (asks r t)) sourced refl refl from hit)
 
   -- a run that follows a history
   record RunHits (before : List Told) (events : List Event) (answers : List Answer) : Type 0 where

@@ -67,38 +67,41 @@ pub record Tells (F : CacheId × Key → Option Stood) (now : ℕ) (list : List 
 keeps_told : OneSurvey → (F G : CacheId × Key → Option Stood) (S : CacheId × Key → Stood) (ask : CacheId × Key) (life m now : ℕ) (old new : List KeptReply) →
     ((a : CacheId × Key) → G a ≡ cond (same_ask a ask) (Some (S a)) (F a)) → m ≤ now → LivesSo (S ask) life → KeepsOne now (held ask (S ask) life) old new → Tells F m old → Tells G now new
 keeps_told one F G S ask life m now old new goes later lives_so keeps tells = record {
-      each = All-weaker (λ o. (o ≡ held ask (S ask) life) ⊎ (Contains old o × (same_ask (ask_for o) ask ≡ false))) (Stands G) (λ o from. elim from [
-            inl is ↦ subst (Stands G) (sym is) (record { stood = S ask; is = goes ask ∙ cond-true (same_ask ask ask) (Some (S ask)) (F ask) (ask_itself ask); whole = refl; lives_so = lives_so })
-          | inr was ↦
-              let stands : Stands F o = All-contains (Stands F) old o tells.each was.0 in
-              record { stood = stands.stood; is = goes (ask_for o) ∙ cond-false (same_ask (ask_for o) ask) (Some (S (ask_for o))) (F (ask_for o)) was.1 ∙ stands.is; whole = stands.whole; lives_so = stands.lives_so } ]) new keeps.each;
-      whole = λ a stood long is so alive. elim (cases_Bool (same_ask a ask)) [
-            inl same ↦
-              let here : S a ≡ stood = same_Some (S a) stood (sym (goes a ∙ cond-true (same_ask a ask) (Some (S a)) (F a) same) ∙ is) in
-              let asked : a ≡ ask = same_asks a ask same in
-              let there : S ask ≡ stood = sym (ap S asked) ∙ here in
-              let lifetime : life ≡ long = one_life one stood.cache stood.event stood.reading life long (subst (λ (s : Stood). LivesSo s life) there lives_so) so in
-              let whole : held ask (S ask) life ≡ held a stood long =
-                  ap (λ (z : CacheId × Key). held z (S ask) life) (sym asked) ∙ ap (λ (s : Stood). held a s life) there ∙ ap (held a stood) lifetime in
-              subst (Contains new) whole keeps.here
-          | inr other ↦
-              let was : F a ≡ Some stood = sym (goes a ∙ cond-false (same_ask a ask) (Some (S a)) (F a) other) ∙ is in
-              keeps.rest (held a stood long) (tells.whole a stood long was so (omega (arith, later, alive))) other (lt-ltb now (stood.moment + 1000 * long) alive) ];
-    }
+  each = All-weaker (λ o. (o ≡ held ask (S ask) life) ⊎ (Contains old o × (same_ask (ask_for o) ask ≡ false))) (Stands G) (λ o from. elim from [
+    | inl is ↦ subst (Stands G) (sym is) (record { stood = S ask; is = goes ask ∙ cond-true (same_ask ask ask) (Some (S ask)) (F ask) (ask_itself ask); whole = refl; lives_so = lives_so })
+    | inr was ↦
+        let stands : Stands F o = All-contains (Stands F) old o tells.each was.0 in
+        record { stood = stands.stood; is = goes (ask_for o) ∙ cond-false (same_ask (ask_for o) ask) (Some (S (ask_for o))) (F (ask_for o)) was.1 ∙ stands.is; whole = stands.whole; lives_so = stands.lives_so }
+  ]) new keeps.each;
+  whole = λ a stood long is so alive. elim (cases_Bool (same_ask a ask)) [
+    | inl same ↦
+        let here : S a ≡ stood = same_Some (S a) stood (sym (goes a ∙ cond-true (same_ask a ask) (Some (S a)) (F a) same) ∙ is) in
+        let asked : a ≡ ask = same_asks a ask same in
+        let there : S ask ≡ stood = sym (ap S asked) ∙ here in
+        let lifetime : life ≡ long = one_life one stood.cache stood.event stood.reading life long (subst (λ (s : Stood). LivesSo s life) there lives_so) so in
+        let whole : held ask (S ask) life ≡ held a stood long =
+        ap (λ (z : CacheId × Key). held z (S ask) life) (sym asked) ∙ ap (λ (s : Stood). held a s life) there ∙ ap (held a stood) lifetime in
+        subst (Contains new) whole keeps.here
+    | inr other ↦
+        let was : F a ≡ Some stood = sym (goes a ∙ cond-false (same_ask a ask) (Some (S a)) (F a) other) ∙ is in
+        keeps.rest (held a stood long) (tells.whole a stood long was so (omega (arith, later, alive))) other (lt-ltb now (stood.moment + 1000 * long) alive)
+  ];
+}
 
 -- some of what is kept ends
 sifts_told : (F G : CacheId × Key → Option Stood) (E : CacheId × Key → Bool) (m now : ℕ) (old new : List KeptReply) →
     ((a : CacheId × Key) → G a ≡ cond (E a) None (F a)) → m ≤ now → Sifts (λ k. E (ask_for k)) old new → Tells F m old → Tells G now new
 sifts_told F G E m now old new goes later sifts tells = record {
-      each = All-weaker (λ o. Contains old o × (E (ask_for o) ≡ false)) (Stands G) (λ o was.
-          let stands : Stands F o = All-contains (Stands F) old o tells.each was.0 in
-          record { stood = stands.stood; is = goes (ask_for o) ∙ cond-false (E (ask_for o)) None (F (ask_for o)) was.1 ∙ stands.is; whole = stands.whole; lives_so = stands.lives_so }) new sifts.each;
-      whole = λ a stood long is so alive. elim (cases_Bool (E a)) [
-            inl ended ↦ absurd (none-some stood (sym (goes a ∙ cond-true (E a) None (F a) ended) ∙ is))
-          | inr other ↦
-              let was : F a ≡ Some stood = sym (goes a ∙ cond-false (E a) None (F a) other) ∙ is in
-              sifts.rest (held a stood long) (tells.whole a stood long was so (omega (arith, later, alive))) other ];
-    }
+  each = All-weaker (λ o. Contains old o × (E (ask_for o) ≡ false)) (Stands G) (λ o was.
+      let stands : Stands F o = All-contains (Stands F) old o tells.each was.0 in
+      record { stood = stands.stood; is = goes (ask_for o) ∙ cond-false (E (ask_for o)) None (F (ask_for o)) was.1 ∙ stands.is; whole = stands.whole; lives_so = stands.lives_so }) new sifts.each;
+  whole = λ a stood long is so alive. elim (cases_Bool (E a)) [
+    | inl ended ↦ absurd (none-some stood (sym (goes a ∙ cond-true (E a) None (F a) ended) ∙ is))
+    | inr other ↦
+        let was : F a ≡ Some stood = sym (goes a ∙ cond-false (E a) None (F a) other) ∙ is in
+        sifts.rest (held a stood long) (tells.whole a stood long was so (omega (arith, later, alive))) other
+  ];
+}
 
 -- nothing is kept and nothing ends
 same_told : (F : CacheId × Key → Option Stood) (m now : ℕ) (old new : List KeptReply) → m ≤ now → new ≡ old → Tells F m old → Tells F now new
@@ -130,10 +133,11 @@ outstanding_told opening before event reading (Forward server lane id bytes) ask
     let place : Place = at_place server lane id in
     let sent : asked_under opening (t ∷ before) place ≡ asked = cond-true (same_place place place) (asks (routes_in opening before) t) (asked_under opening before place) (place_itself place) ∙ is in
     All-weaker (λ w. (w ≡ after.sent) ⊎ Contains old w) (ToldAsked opening (t ∷ before)) (λ w from. elim from [
-          inl this ↦ subst (ToldAsked opening (t ∷ before)) (sym this) (subst (λ (p : Place). asked_under opening (t ∷ before) p ≡ after.sent.entry.cache) (sym after.place_is) (sent ∙ sym after.asked_is))
-        | inr was ↦
-            let other : same_place place w.place ≡ false = apart place w.place (All-contains (λ (w : Waiting). is_at place w ≡ false) old w after.free was) in
-            cond-false (same_place place w.place) (asks (routes_in opening before) t) (asked_under opening before w.place) other ∙ All-contains (ToldAsked opening before) old w told was ]) new after.puts.each
+      | inl this ↦ subst (ToldAsked opening (t ∷ before)) (sym this) (subst (λ (p : Place). asked_under opening (t ∷ before) p ≡ after.sent.entry.cache) (sym after.place_is) (sent ∙ sym after.asked_is))
+      | inr was ↦
+          let other : same_place place w.place ≡ false = apart place w.place (All-contains (λ (w : Waiting). is_at place w ≡ false) old w after.free was) in
+          cond-false (same_place place w.place) (asks (routes_in opening before) t) (asked_under opening before w.place) other ∙ All-contains (ToldAsked opening before) old w told was
+    ]) new after.puts.each
 outstanding_told opening before event reading _ asked old new is after told =
     All-weaker (Contains old) (λ (w : Waiting). asked_under opening before w.place ≡ w.entry.cache) (λ w there. All-contains (ToldAsked opening before) old w told there) new after
 
@@ -147,18 +151,18 @@ kept_told one opening before old (Reply now server lane bytes) reading (Deliver 
     let m : ℕ = max old.moment now in
     let w = after.answers.waiting in
     let under : asked_under opening before place ≡ Some after.ask =
-        subst (λ (p : Place). asked_under opening before p ≡ w.entry.cache) after.answers.place_is (All-contains (ToldAsked opening before) old.outstanding w known.outstanding after.answers.there) ∙ after.answers.asked_is in
+    subst (λ (p : Place). asked_under opening before p ≡ w.entry.cache) after.answers.place_is (All-contains (ToldAsked opening before) old.outstanding w known.outstanding after.answers.there) ∙ after.answers.asked_is in
     let S : Routes → CacheId × Key → Stood = λ r a. stood_of r t a in
     let goes : (a : CacheId × Key) → standing opening (t ∷ before) a ≡ cond (same_ask a after.ask) (Some (S (routes_in opening before) a)) (standing opening before a) =
-        λ a. ap (λ (o : Option (CacheId × Key)). cond (is_for a o) (Some (S (routes_in opening before) a)) (standing opening before a)) under in
+    λ a. ap (λ (o : Option (CacheId × Key)). cond (is_for a o) (Some (S (routes_in opening before) a)) (standing opening before a)) under in
     keeps_told one (standing opening before) (standing opening (t ∷ before)) (S (routes_in opening before)) after.ask after.life old.moment m old.kept new goes (omega arith)
-      (subst (λ (r : Routes). LivesSo (S r after.ask) after.life) known.routes after.lives_so)
-      (subst (λ (r : Routes). KeepsOne m (held after.ask (S r after.ask) after.life) old.kept new) known.routes after.keeps) known.kept
+    (subst (λ (r : Routes). LivesSo (S r after.ask) after.life) known.routes after.lives_so)
+    (subst (λ (r : Routes). KeepsOne m (held after.ask (S r after.ask) after.life) old.kept new) known.routes after.keeps) known.kept
 kept_told one opening before old (Edit now command) reading (Edited note) new known after =
     let t : Told = record { event = Edit now command; reading = reading; answer = Edited note } in
     let r : Routes = routes_in opening before in
     sifts_told (standing opening before) (standing opening (t ∷ before)) (ended_by r command) old.moment (max old.moment now) old.kept new (λ a. refl) (omega arith)
-      (subst (λ (routes : Routes). Sifts (λ k. ended_by routes command (ask_for k)) old.kept new) known.routes after) known.kept
+    (subst (λ (routes : Routes). Sifts (λ k. ended_by routes command (ask_for k)) old.kept new) known.routes after) known.kept
 kept_told one opening before old (Reply now server lane bytes) reading (Deliver origin sent _) new known after = same_told (standing opening before) old.moment (max old.moment now) old.kept new (omega arith) after known.kept
 kept_told one opening before old event reading _ new known after = same_told (standing opening before) old.moment (max old.moment (moment_of event)) old.kept new (omega arith) after known.kept
 
@@ -166,8 +170,8 @@ kept_told one opening before old event reading _ new known after = same_told (st
 pub known_after : OneSurvey → (opening : Routes) (before : List Told) (old new : Plain) (t : Told) → Known opening before old → Turns old t new →
     routes_of new ≡ routes_after (routes_of old) t.event t.reading t.answer → new.moment ≡ max old.moment (moment_of t.event) → Known opening (t ∷ before) new
 known_after one opening before old new t known turns routes moment = record {
-      routes = routes ∙ ap (λ (r : Routes). routes_after r t.event t.reading t.answer) known.routes;
-      outstanding = outstanding_told opening before t.event t.reading t.answer (asks (routes_of old) t) old.outstanding new.outstanding
-        (sym (ap (λ (r : Routes). asks r t) known.routes)) turns.outstanding known.outstanding;
-      kept = subst (λ (m : ℕ). Tells (standing opening (t ∷ before)) m new.kept) (sym moment) (kept_told one opening before old t.event t.reading t.answer new.kept known turns.kept);
-    }
+  routes = routes ∙ ap (λ (r : Routes). routes_after r t.event t.reading t.answer) known.routes;
+  outstanding = outstanding_told opening before t.event t.reading t.answer (asks (routes_of old) t) old.outstanding new.outstanding
+      (sym (ap (λ (r : Routes). asks r t) known.routes)) turns.outstanding known.outstanding;
+  kept = subst (λ (m : ℕ). Tells (standing opening (t ∷ before)) m new.kept) (sym moment) (kept_told one opening before old t.event t.reading t.answer new.kept known turns.kept);
+}

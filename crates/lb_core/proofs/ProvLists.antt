@@ -21,10 +21,12 @@ contains_cases y xs x (suc k, lt, is) = inr (k, omega (arith, lt), is)
 contains_filter : {X : Type 0} (p : X → Bool) (xs : List X) (x : X) → Contains xs x → p x ≡ true → Contains (filter p xs) x
 contains_filter p [] x there passes = there
 contains_filter {X} p (y ∷ ys) x there passes = elim (contains_cases y ys x there) [
-      inl is ↦ rw (ap p is ∙ passes) (subst (λ (z : X). Contains (z ∷ filter p ys) x) (sym is) (contains_head x (filter p ys)))
-    | inr behind ↦ elim (cases_Bool (p y)) [
-          inl pass ↦ rw pass (contains_tail y (filter p ys) x (contains_filter p ys x behind passes))
-        | inr fail ↦ rw fail (contains_filter p ys x behind passes) ] ]
+  | inl is ↦ rw (ap p is ∙ passes) (subst (λ (z : X). Contains (z ∷ filter p ys) x) (sym is) (contains_head x (filter p ys)))
+  | inr behind ↦ elim (cases_Bool (p y)) [
+    | inl pass ↦ rw pass (contains_tail y (filter p ys) x (contains_filter p ys x behind passes))
+    | inr fail ↦ rw fail (contains_filter p ys x behind passes)
+  ]
+]
 
 -- what holds of each that stays
 all_filter : {X : Type 0} (P Q : X → Type 0) (p : X → Bool) (xs : List X) → All P xs → ((x : X) → P x → p x ≡ true → Q x) → All Q (filter p xs)
@@ -50,10 +52,11 @@ puts_insert {X} x old at =
       each = All-append P (take at old) (x ∷ drop at old) (All-take P at old all) (All-cons P x (drop at old) (inl refl) (All-drop P at old all));
       here = Contains-append_right (take at old) (x ∷ drop at old) x (contains_head x (drop at old));
       rest = λ y there.
-        let split : Contains (take at old ++ drop at old) y = subst (λ (zs : List X). Contains zs y) (sym (take-append-drop at old)) there in
-        elim (Contains-append_cases (take at old) (drop at old) y split) [
-          inl front ↦ Contains-append_left (take at old) (x ∷ drop at old) y front
-        | inr back ↦ Contains-append_right (take at old) (x ∷ drop at old) y (contains_tail x (drop at old) y back) ];
+          let split : Contains (take at old ++ drop at old) y = subst (λ (zs : List X). Contains zs y) (sym (take-append-drop at old)) there in
+          elim (Contains-append_cases (take at old) (drop at old) y split) [
+            | inl front ↦ Contains-append_left (take at old) (x ∷ drop at old) y front
+            | inr back ↦ Contains-append_right (take at old) (x ∷ drop at old) y (contains_tail x (drop at old) y back)
+          ];
     }
 
 -- so does putting it between those that a test parts
@@ -67,8 +70,9 @@ puts_between {X} before x old =
       each = All-append P front (x ∷ back) (All-filter before P old all) (All-cons P x back (inl refl) (All-filter (λ y. not (before y)) P old all));
       here = Contains-append_right front (x ∷ back) x (contains_head x back);
       rest = λ y there. elim (cases_Bool (before y)) [
-          inl first ↦ Contains-append_left front (x ∷ back) y (contains_filter before old y there first)
-        | inr later ↦ Contains-append_right front (x ∷ back) y (contains_tail x back y (contains_filter (λ z. not (before z)) old y there (not_from_false (before y) later))) ];
+        | inl first ↦ Contains-append_left front (x ∷ back) y (contains_filter before old y there first)
+        | inr later ↦ Contains-append_right front (x ∷ back) y (contains_tail x back y (contains_filter (λ z. not (before z)) old y there (not_from_false (before y) later)))
+      ];
     }
 
 -- a filter sifts
@@ -103,7 +107,9 @@ pub record Finds {X : Type 0} (p : X → Bool) (xs : List X) (x : X) : Type 0 wh
 pub find_cases : {X : Type 0} (p : X → Bool) (xs : List X) → ((x : X) × Finds p xs x) ⊎ ((find p xs ≡ None) × All (λ x. p x ≡ false) xs)
 find_cases p [] = inr (refl, All-nil (λ x. p x ≡ false))
 find_cases p (y ∷ ys) = elim (cases_Bool (p y)) [
-      inl pass ↦ inl (y, record { is = rw pass refl; there = contains_head y ys; passes = pass })
-    | inr fail ↦ elim (find_cases p ys) [
-          inl some ↦ inl (some.0, record { is = rw fail some.1.is; there = contains_tail y ys some.0 some.1.there; passes = some.1.passes })
-        | inr none ↦ inr (rw fail none.0, All-cons (λ x. p x ≡ false) y ys fail none.1) ] ]
+  | inl pass ↦ inl (y, record { is = rw pass refl; there = contains_head y ys; passes = pass })
+  | inr fail ↦ elim (find_cases p ys) [
+    | inl some ↦ inl (some.0, record { is = rw fail some.1.is; there = contains_tail y ys some.0 some.1.there; passes = some.1.passes })
+    | inr none ↦ inr (rw fail none.0, All-cons (λ x. p x ≡ false) y ys fail none.1)
+  ]
+]

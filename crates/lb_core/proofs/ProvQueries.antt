@@ -73,8 +73,13 @@ module _ (ups : Upstreams) (q : Asked) (bytes : List ℕ) (view : QueryView) whe
       let done = sent (with_turn routed.pool ups) q bytes view routed asked server (Some id) in
       record {
         answered = subst (λ (o : Option (List ℕ × ℕ)). AnsweredFrom o read done.1) (sym miss) refl;
-        outstanding = record { sent = _; puts = puts_insert _ ups.outstanding _; place_is = refl; asked_is = refl;
-          free = none_pass (is_at (at_place server (lane_of q.kind) id)) ups.outstanding free.0 };
+        outstanding = record {
+          sent = _;
+          puts = puts_insert _ ups.outstanding _;
+          place_is = refl;
+          asked_is = refl;
+          free = none_pass (is_at (at_place server (lane_of q.kind) id)) ups.outstanding free.0;
+        };
         kept = refl;
       }
 
@@ -163,8 +168,8 @@ module _ (old : Plain) (now : ℕ) (origin : Origin) (kind : Kind) (word : ℕ) 
       let reached : Option (CacheId × Key) = option_and_then (asked_of_pool (upstreams_of plain) asked bytes view walked) (pool_by walked walked.rule) in
       let done : AsksOf (upstreams_of plain) plain.moment (OfQuery (Ok view)) reached ups answer = end_asks (upstreams_of plain) asked bytes view walked walked.rule answer ups decides in
       let asks_is : reached ≡ asks_at (routes_of plain) (Query now origin kind word bytes) (OfQuery (Ok view)) =
-          asked_alike plain kind bytes view walked (pool_by walked walked.rule)
-          ∙ sym (ap (λ (b : Bool). if b then None else asked_by (routes_of plain) kind bytes view walked) walks) in
+      asked_alike plain kind bytes view walked (pool_by walked walked.rule)
+      ∙ sym (ap (λ (b : Bool). if b then None else asked_by (routes_of plain) kind bytes view walked) walks) in
       subst (λ (p : Plain). TurnOf (Ok view) (p, answer)) (sym left) (record {
         answered = λ un. subst (λ (a : Option (CacheId × Key)). AnsweredFrom (looked old.kept plain.moment a) (OfQuery (Ok view)) answer) asks_is done.answered;
         outstanding = subst (λ (a : Option (CacheId × Key)). OutstandingAfter a answer old.outstanding ups.outstanding) asks_is done.outstanding;

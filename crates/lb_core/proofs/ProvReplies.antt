@@ -61,10 +61,11 @@ module _ (now : ℕ) (k : KeptReply) (old others : List KeptReply) (fails : Kept
       let puts : Puts k others (put_in_order k others) = puts_between (goes_before k) k others in
       record {
         each = All-weaker (λ o. (o ≡ k) ⊎ Contains others o) (λ o. (o ≡ k) ⊎ (Contains old o × (is_same o ≡ false))) (λ o from. elim from [
-              inl is ↦ inl is
-            | inr among ↦
-                let was = All-contains (λ (o : KeptReply). Contains old o × (fails o ≡ false)) others o sifts.each among in
-                inr (was.0, goes o was.0 was.1) ]) (put_in_order k others) puts.each;
+          | inl is ↦ inl is
+          | inr among ↦
+              let was = All-contains (λ (o : KeptReply). Contains old o × (fails o ≡ false)) others o sifts.each among in
+              inr (was.0, goes o was.0 was.1)
+        ]) (put_in_order k others) puts.each;
         here = puts.here;
         rest = λ o there other alive. puts.rest o (sifts.rest o there (stays o other alive));
       }
@@ -100,15 +101,15 @@ module _ (old : Plain) (now : ℕ) (server : ServerId) (lane : Lane) (bytes : Li
         let same : KeptReply → Bool = is_under ask.0 ask.1 in
         let dead : KeptReply → Bool = is_dead_in ask.0 m in
         let new_one : list_any same old.kept ≡ false → (o : KeptReply) → Contains old.kept o → same o ≡ false =
-            λ none o there. All-contains (λ (o : KeptReply). same o ≡ false) old.kept o (none_pass same old.kept none) there in
+        λ none o there. All-contains (λ (o : KeptReply). same o ≡ false) old.kept o (none_pass same old.kept none) there in
         let alive : (o : KeptReply) → lives m o.reply ≡ true → dead o ≡ false = λ o living. ap (λ (b : Bool). is_of ask.0 o && not b) living ∙ and_right (is_of ask.0 o) false refl in
         cond_both (list_any same old.kept) _ _ BothSo
-          (λ _. put_told lacking (filter (λ o. not (same o)) old.kept) (keeps_one m reply old.kept _ same (sifts_filter same old.kept) (λ o there other. other) (λ o other living. other)))
-          (λ none. cond_both (nat_lt (count_by (is_of ask.0) old.kept) most) _ _ BothSo
-            (λ _. put_told lacking old.kept (keeps_one m reply old.kept old.kept (λ o. false) (sifts_none (λ o. false) old.kept (λ o. refl)) (λ o there other. new_one none o there) (λ o other living. refl)))
-            (λ _. cond_both (list_any dead old.kept) _ _ BothSo
-              (λ _. put_told lacking (filter (λ o. not (dead o)) old.kept) (keeps_one m reply old.kept _ dead (sifts_filter dead old.kept) (λ o there other. new_one none o there) (λ o other living. alive o living)))
-              (λ _. refl)))
+        (λ _. put_told lacking (filter (λ o. not (same o)) old.kept) (keeps_one m reply old.kept _ same (sifts_filter same old.kept) (λ o there other. other) (λ o other living. other)))
+        (λ none. cond_both (nat_lt (count_by (is_of ask.0) old.kept) most) _ _ BothSo
+        (λ _. put_told lacking old.kept (keeps_one m reply old.kept old.kept (λ o. false) (sifts_none (λ o. false) old.kept (λ o. refl)) (λ o there other. new_one none o there) (λ o other living. refl)))
+        (λ _. cond_both (list_any dead old.kept) _ _ BothSo
+        (λ _. put_told lacking (filter (λ o. not (dead o)) old.kept) (keeps_one m reply old.kept _ dead (sifts_filter dead old.kept) (λ o there other. new_one none o there) (λ o other living. alive o living)))
+        (λ _. refl)))
 
     kept_for_told : (lacking : Bool) (ups : Upstreams) (cache : AttachedCache) → ups.kept ≡ old.kept → cache.id ≡ ask.0 → BothSo (kept_for lacking ups plain.moment bytes cache ask.1 life)
     kept_for_told lacking ups cache is id =
@@ -120,10 +121,11 @@ module _ (old : Plain) (now : ℕ) (server : ServerId) (lane : Lane) (bytes : Li
   -- a cache that was found has the number that was searched
   found_id : (id : CacheId) (caches : List AttachedCache) (cache : AttachedCache) → cache_with id caches ≡ Some cache → cache.id ≡ id
   found_id id caches cache is = elim (find_cases (has_id id) caches) [
-        inl some ↦
-          let same : some.0 ≡ cache = same_Some some.0 cache (sym some.1.is ∙ is) in
-          ap (λ (c : AttachedCache). c.id) (sym same) ∙ ap the_id (eqb-true some.0.id.0 id.0 some.1.passes)
-      | inr none ↦ absurd (none-some cache (sym none.0 ∙ is)) ]
+    | inl some ↦
+        let same : some.0 ≡ cache = same_Some some.0 cache (sym some.1.is ∙ is) in
+        ap (λ (c : AttachedCache). c.id) (sym same) ∙ ap the_id (eqb-true some.0.id.0 id.0 some.1.passes)
+    | inr none ↦ absurd (none-some cache (sym none.0 ∙ is))
+  ]
 
   keeps_at_told : (lacking : Bool) (ups : Upstreams) (ask : CacheId × Key) (cache : Option AttachedCache) (told : Kept) (list : List KeptReply) → ups.kept ≡ old.kept → cache_with ask.0 old.caches ≡ cache →
       AnswersOne old.outstanding place ask → KeepsAt lacking ups plain.moment bytes view ask.1 cache told list → ToldSo told list
@@ -156,12 +158,13 @@ module _ (old : Plain) (now : ℕ) (server : ServerId) (lane : Lane) (bytes : Li
 
   held_turn : (lacking : Bool) (answer : Answer) (new : Upstreams) → HeldAgainst lacking (upstreams_of plain) place plain.moment bytes view (entry_at old.outstanding place) answer new → TurnOf (new, answer)
   held_turn lacking answer new steps = elim (find_cases (is_at place) old.outstanding) [
-        inl some ↦
-          let w : Waiting = some.0 in
-          belongs_turn (belongs view w.entry.name w.entry.qtype w.entry.qclass) lacking w answer new some.1.there (same_places w.place place some.1.passes)
-            (subst (λ (o : Option Waiting). HeldAgainst lacking (upstreams_of plain) place plain.moment bytes view (option_map (λ w. w.entry) o) answer new) some.1.is steps)
-      | inr none ↦ subst TurnOf
-          (sym (subst (λ (o : Option Waiting). HeldAgainst lacking (upstreams_of plain) place plain.moment bytes view (option_map (λ w. w.entry) o) answer new) none.0 steps)) (ignored ignores.Unknown) ]
+    | inl some ↦
+        let w : Waiting = some.0 in
+        belongs_turn (belongs view w.entry.name w.entry.qtype w.entry.qclass) lacking w answer new some.1.there (same_places w.place place some.1.passes)
+        (subst (λ (o : Option Waiting). HeldAgainst lacking (upstreams_of plain) place plain.moment bytes view (option_map (λ w. w.entry) o) answer new) some.1.is steps)
+    | inr none ↦ subst TurnOf
+        (sym (subst (λ (o : Option Waiting). HeldAgainst lacking (upstreams_of plain) place plain.moment bytes view (option_map (λ w. w.entry) o) answer new) none.0 steps)) (ignored ignores.Unknown)
+  ]
 
 -- the step of a reply
 pub reply_turn : (old : Plain) (now : ℕ) (server : ServerId) (lane : Lane) (bytes : List ℕ) (reading : Result ReplyView ReplyFault) (lacking : Bool) (answer : Answer) (new : Upstreams) → ReadsReply bytes reading →
@@ -169,10 +172,10 @@ pub reply_turn : (old : Plain) (now : ℕ) (server : ServerId) (lane : Lane) (by
     Turns old (record { event = Reply now server lane bytes; reading = OfReply reading; answer = answer }) (with_upstreams new (at_plain now old))
 reply_turn old now server lane bytes (Err reply_faults.Short) lacking answer new reads leaves =
     subst (λ (done : Upstreams × Answer). Turns old (record { event = Reply now server lane bytes; reading = OfReply (Err reply_faults.Short); answer = done.1 }) (with_upstreams done.0 (at_plain now old))) (sym leaves)
-      (record { answered = λ un. refl; outstanding = All-contains_itself old.outstanding; kept = refl })
+    (record { answered = λ un. refl; outstanding = All-contains_itself old.outstanding; kept = refl })
 reply_turn old now server lane bytes (Err reply_faults.NotReply) lacking answer new reads leaves =
     subst (λ (done : Upstreams × Answer). Turns old (record { event = Reply now server lane bytes; reading = OfReply (Err reply_faults.NotReply); answer = done.1 }) (with_upstreams done.0 (at_plain now old))) (sym leaves)
-      (record { answered = λ un. refl; outstanding = All-contains_itself old.outstanding; kept = refl })
+    (record { answered = λ un. refl; outstanding = All-contains_itself old.outstanding; kept = refl })
 reply_turn old now server lane bytes (Ok view) lacking answer new reads steps =
     held_turn old now server lane bytes view lacking answer new
-      (subst (λ (id : ℕ). HeldAgainst lacking (upstreams_of (at_plain now old)) (at_place server lane id) (max old.moment now) bytes view (entry_at old.outstanding (at_place server lane id)) answer new) reads.id steps)
+    (subst (λ (id : ℕ). HeldAgainst lacking (upstreams_of (at_plain now old)) (at_place server lane id) (max old.moment now) bytes view (entry_at old.outstanding (at_place server lane id)) answer new) reads.id steps)

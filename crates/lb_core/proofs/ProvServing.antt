@@ -32,19 +32,21 @@ pub record FindsLiving (F : CacheId × Key → Option Stood) (now : ℕ) (ask : 
 
 found_living : (F : CacheId × Key → Option Stood) (m now : ℕ) (list : List KeptReply) (ask : CacheId × Key) (hit : List ℕ × ℕ) → Tells F m list → looked_in list ask.0 ask.1 now ≡ Some hit → FindsLiving F now ask hit
 found_living F m now list ask hit tells is = elim (find_cases (is_under ask.0 ask.1) list) [
-      inl some ↦
-        let k : KeptReply = some.0 in
-        let stands : Stands F k = All-contains (Stands F) list k tells.each some.1.there in
-        let given : hit_of now k.reply ≡ Some hit = sym (ap (option_and_then (λ (k : KeptReply). hit_of now k.reply)) some.1.is) ∙ is in
-        let living = cond_some (lives now k.reply) (k.reply.bytes, (now - k.reply.moment) / 1000) hit given in
-        let moment : k.reply.moment ≡ stands.stood.moment = ap (λ (z : KeptReply). z.reply.moment) stands.whole in
-        record {
-          stood = stands.stood; life = k.reply.life;
-          is = subst (λ (a : CacheId × Key). F a ≡ Some stands.stood) (same_asks (ask_for k) ask some.1.passes) stands.is;
-          lives_so = stands.lives_so;
-          alive = subst (λ (n : ℕ). now < n + 1000 * k.reply.life) moment (ltb-true now (k.reply.moment + 1000 * k.reply.life) living.0);
-        }
-    | inr none ↦ absurd (none-some hit (sym (ap (option_and_then (λ (k : KeptReply). hit_of now k.reply)) none.0) ∙ is)) ]
+  | inl some ↦
+      let k : KeptReply = some.0 in
+      let stands : Stands F k = All-contains (Stands F) list k tells.each some.1.there in
+      let given : hit_of now k.reply ≡ Some hit = sym (ap (option_and_then (λ (k : KeptReply). hit_of now k.reply)) some.1.is) ∙ is in
+      let living = cond_some (lives now k.reply) (k.reply.bytes, (now - k.reply.moment) / 1000) hit given in
+      let moment : k.reply.moment ≡ stands.stood.moment = ap (λ (z : KeptReply). z.reply.moment) stands.whole in
+      record {
+        stood = stands.stood;
+        life = k.reply.life;
+        is = subst (λ (a : CacheId × Key). F a ≡ Some stands.stood) (same_asks (ask_for k) ask some.1.passes) stands.is;
+        lives_so = stands.lives_so;
+        alive = subst (λ (n : ℕ). now < n + 1000 * k.reply.life) moment (ltb-true now (k.reply.moment + 1000 * k.reply.life) living.0);
+      }
+  | inr none ↦ absurd (none-some hit (sym (ap (option_and_then (λ (k : KeptReply). hit_of now k.reply)) none.0) ∙ is))
+]
 
 -- a reply that stands and lives is found
 living_found : OneSurvey → (F : CacheId × Key → Option Stood) (m now : ℕ) (list : List KeptReply) (ask : CacheId × Key) (stood : Stood) (life : ℕ) → m ≤ now → Tells F m list →
@@ -52,18 +54,19 @@ living_found : OneSurvey → (F : CacheId × Key → Option Stood) (m now : ℕ)
 living_found one F m now list ask stood life later tells is so alive =
     let there : Contains list (held ask stood life) = tells.whole ask stood life is so (omega (arith, later, alive)) in
     elim (find_cases (is_under ask.0 ask.1) list) [
-      inl some ↦
-        let k : KeptReply = some.0 in
-        let stands : Stands F k = All-contains (Stands F) list k tells.each some.1.there in
-        let asked : ask_for k ≡ ask = same_asks (ask_for k) ask some.1.passes in
-        let same : stands.stood ≡ stood = same_Some stands.stood stood (sym stands.is ∙ ap F asked ∙ is) in
-        let lifetime : k.reply.life ≡ life = one_life one stood.cache stood.event stood.reading k.reply.life life (subst (λ (s : Stood). LivesSo s k.reply.life) same stands.lives_so) so in
-        let whole : k ≡ held ask stood life =
-            stands.whole ∙ ap (λ (z : CacheId × Key). held z stands.stood k.reply.life) asked ∙ ap (λ (s : Stood). held ask s k.reply.life) same ∙ ap (held ask stood) lifetime in
-        ap (option_and_then (λ (k : KeptReply). hit_of now k.reply)) some.1.is
-        ∙ ap (λ (k : KeptReply). hit_of now k.reply) whole
-        ∙ cond-true (lives now (held ask stood life).reply) (Some (octets_of stood.event, (now - stood.moment) / 1000)) None (lt-ltb now (stood.moment + 1000 * life) alive)
-    | inr none ↦ absurd (both_ways (is_under ask.0 ask.1 (held ask stood life)) (All-contains (λ (k : KeptReply). is_under ask.0 ask.1 k ≡ false) list (held ask stood life) none.1 there) (ask_itself ask)) ]
+      | inl some ↦
+          let k : KeptReply = some.0 in
+          let stands : Stands F k = All-contains (Stands F) list k tells.each some.1.there in
+          let asked : ask_for k ≡ ask = same_asks (ask_for k) ask some.1.passes in
+          let same : stands.stood ≡ stood = same_Some stands.stood stood (sym stands.is ∙ ap F asked ∙ is) in
+          let lifetime : k.reply.life ≡ life = one_life one stood.cache stood.event stood.reading k.reply.life life (subst (λ (s : Stood). LivesSo s k.reply.life) same stands.lives_so) so in
+          let whole : k ≡ held ask stood life =
+          stands.whole ∙ ap (λ (z : CacheId × Key). held z stands.stood k.reply.life) asked ∙ ap (λ (s : Stood). held ask s k.reply.life) same ∙ ap (held ask stood) lifetime in
+          ap (option_and_then (λ (k : KeptReply). hit_of now k.reply)) some.1.is
+          ∙ ap (λ (k : KeptReply). hit_of now k.reply) whole
+          ∙ cond-true (lives now (held ask stood life).reply) (Some (octets_of stood.event, (now - stood.moment) / 1000)) None (lt-ltb now (stood.moment + 1000 * life) alive)
+      | inr none ↦ absurd (both_ways (is_under ask.0 ask.1 (held ask stood life)) (All-contains (λ (k : KeptReply). is_under ask.0 ask.1 k ≡ false) list (held ask stood life) none.1 there) (ask_itself ask))
+    ]
 
 -- where a reply serves, it stands
 stands : (opening : Routes) (before : List Told) (now : ℕ) (ask : CacheId × Key) (s : Serves opening before now ask) → standing opening before ask ≡ Some (stood_of (routes_in opening s.earlier) s.reply ask)
@@ -74,7 +77,12 @@ to_serves : (opening : Routes) (before : List Told) (now : ℕ) (ask : CacheId �
 to_serves opening before now ask hit f =
     let s = to_since opening before ask f.stood f.is in
     record {
-      since = s.since; reply = s.reply; earlier = s.earlier; parts = s.parts; kept = s.kept; untouched = s.untouched;
+      since = s.since;
+      reply = s.reply;
+      earlier = s.earlier;
+      parts = s.parts;
+      kept = s.kept;
+      untouched = s.untouched;
       life = f.life;
       lives = subst (λ (z : Stood). LivesSo z f.life) (sym s.is) f.lives_so;
       alive = subst (λ (z : Stood). now < z.moment + 1000 * f.life) (sym s.is) f.alive;
@@ -95,13 +103,13 @@ from_trace one opening before old new t known turns unmarked =
     let now : ℕ = max old.moment (moment_of t.event) in
     let r : Routes = routes_in opening before in
     let from : AnsweredFrom (looked old.kept now (asks r t)) t.reading t.answer =
-        subst (λ (r : Routes). AnsweredFrom (looked old.kept now (asks r t)) t.reading t.answer) known.routes (turns.answered unmarked) in
+    subst (λ (r : Routes). AnsweredFrom (looked old.kept now (asks r t)) t.reading t.answer) known.routes (turns.answered unmarked) in
     let traced : FromTrace opening before now t = record {
       hit = hit_from opening before old.moment now old.kept t known.kept (asks r t) (looked old.kept now (asks r t)) refl refl from;
       serves = λ ask is s.
-        let stood : Stood = stood_of (routes_in opening s.earlier) s.reply ask in
-        let gives : looked old.kept now (asks r t) ≡ Some (octets_of s.reply.event, seconds_since s) =
-            ap (looked old.kept now) is ∙ living_found one (standing opening before) old.moment now old.kept ask stood s.life (omega arith) known.kept (stands opening before now ask s) s.lives s.alive in
-        subst (λ (o : Option (List ℕ × ℕ)). AnsweredFrom o t.reading t.answer) gives from;
+          let stood : Stood = stood_of (routes_in opening s.earlier) s.reply ask in
+          let gives : looked old.kept now (asks r t) ≡ Some (octets_of s.reply.event, seconds_since s) =
+          ap (looked old.kept now) is ∙ living_found one (standing opening before) old.moment now old.kept ask stood s.life (omega arith) known.kept (stands opening before now ask s) s.lives s.alive in
+          subst (λ (o : Option (List ℕ × ℕ)). AnsweredFrom o t.reading t.answer) gives from;
     } in
     subst (λ (m : ℕ). FromTrace opening before (max m (moment_of t.event)) t) (ap (λ (r : Routes). r.moment) known.routes) traced

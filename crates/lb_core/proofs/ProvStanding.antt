@@ -60,12 +60,27 @@ standing opening (t ∷ before) ask =
 to_sent : (opening : Routes) (before : List Told) (place : Place) (ask : CacheId × Key) → asked_under opening before place ≡ Some ask → LastSent opening before place ask
 to_sent opening [] place ask is = absurd (none-some ask is)
 to_sent opening (t ∷ before) place ask is = elim (cases_Bool (is_sent place t.answer)) [
-      inl sent ↦ record { since = []; query = t; earlier = before; parts = refl; sent = sent; last = tt;
-        asked = sym (cond-true (is_sent place t.answer) (asks (routes_in opening before) t) (asked_under opening before place) sent) ∙ is }
-    | inr other ↦
-        let rest = to_sent opening before place ask (sym (cond-false (is_sent place t.answer) (asks (routes_in opening before) t) (asked_under opening before place) other) ∙ is) in
-        record { since = t ∷ rest.since; query = rest.query; earlier = rest.earlier; parts = ap (λ (ts : List Told). t ∷ ts) rest.parts; sent = rest.sent;
-          last = (other, rest.last); asked = rest.asked } ]
+  | inl sent ↦ record {
+    since = [];
+    query = t;
+    earlier = before;
+    parts = refl;
+    sent = sent;
+    last = tt;
+    asked = sym (cond-true (is_sent place t.answer) (asks (routes_in opening before) t) (asked_under opening before place) sent) ∙ is;
+  }
+  | inr other ↦
+      let rest = to_sent opening before place ask (sym (cond-false (is_sent place t.answer) (asks (routes_in opening before) t) (asked_under opening before place) other) ∙ is) in
+      record {
+        since = t ∷ rest.since;
+        query = rest.query;
+        earlier = rest.earlier;
+        parts = ap (λ (ts : List Told). t ∷ ts) rest.parts;
+        sent = rest.sent;
+        last = (other, rest.last);
+        asked = rest.asked;
+      }
+]
 
 sent_at : (opening : Routes) (since : List Told) (query : Told) (earlier : List Told) (place : Place) → is_sent place query.answer ≡ true → AllByRecursion (λ t. is_sent place t.answer ≡ false) since →
     asked_under opening (since ++ query ∷ earlier) place ≡ asks (routes_in opening earlier) query
@@ -107,25 +122,44 @@ to_since opening (t ∷ before) ask stood is =
     let ended : Bool = ends (routes_in opening before) t.event t.answer ask in
     let here : Stood = stood_of (routes_in opening before) t ask in
     elim (cases_Bool for) [
-      inl this ↦ record { since = []; reply = t; earlier = before; parts = refl; kept = to_kept opening before ask t.event t.answer (for_some ask (kept_by opening before t.event t.answer) this); untouched = tt;
-        is = same_Some here stood (sym (cond-true for (Some here) (cond ended None (standing opening before ask)) this) ∙ is) }
-    | inr other ↦
-        let next : cond ended None (standing opening before ask) ≡ Some stood = sym (cond-false for (Some here) (cond ended None (standing opening before ask)) other) ∙ is in
-        elim (cases_Bool ended) [
-          inl was_ended ↦ absurd (none-some stood (sym (cond-true ended None (standing opening before ask) was_ended) ∙ next))
-        | inr not_ended ↦
-            let rest = to_since opening before ask stood (sym (cond-false ended None (standing opening before ask) not_ended) ∙ next) in
-            let none : KeptFor opening before t ask → ⊥ = λ k. both_ways for other (ap (is_for ask) (from_kept opening before ask t.event t.answer k) ∙ ask_itself ask) in
-            record { since = t ∷ rest.since; reply = rest.reply; earlier = rest.earlier; parts = ap (λ (ts : List Told). t ∷ ts) rest.parts; kept = rest.kept;
-              untouched = (subst (λ (ts : List Told). KeptFor opening ts t ask → ⊥) rest.parts none,
-                subst (λ (ts : List Told). ends (routes_in opening ts) t.event t.answer ask ≡ false) rest.parts not_ended, rest.untouched); is = rest.is } ] ]
+      | inl this ↦ record {
+        since = [];
+        reply = t;
+        earlier = before;
+        parts = refl;
+        kept = to_kept opening before ask t.event t.answer (for_some ask (kept_by opening before t.event t.answer) this);
+        untouched = tt;
+        is = same_Some here stood (sym (cond-true for (Some here) (cond ended None (standing opening before ask)) this) ∙ is);
+      }
+      | inr other ↦
+          let next : cond ended None (standing opening before ask) ≡ Some stood = sym (cond-false for (Some here) (cond ended None (standing opening before ask)) other) ∙ is in
+          elim (cases_Bool ended) [
+            | inl was_ended ↦ absurd (none-some stood (sym (cond-true ended None (standing opening before ask) was_ended) ∙ next))
+            | inr not_ended ↦
+                let rest = to_since opening before ask stood (sym (cond-false ended None (standing opening before ask) not_ended) ∙ next) in
+                let none : KeptFor opening before t ask → ⊥ = λ k. both_ways for other (ap (is_for ask) (from_kept opening before ask t.event t.answer k) ∙ ask_itself ask) in
+                record {
+                  since = t ∷ rest.since;
+                  reply = rest.reply;
+                  earlier = rest.earlier;
+                  parts = ap (λ (ts : List Told). t ∷ ts) rest.parts;
+                  kept = rest.kept;
+                  untouched = (
+                    subst (λ (ts : List Told). KeptFor opening ts t ask → ⊥) rest.parts none,
+                    subst (λ (ts : List Told). ends (routes_in opening ts) t.event t.answer ask ≡ false) rest.parts not_ended,
+                    rest.untouched,
+                  );
+                  is = rest.is;
+                }
+          ]
+    ]
 
 -- where a reply was kept and nothing touched it since, it stands
 pub stands_at : (opening : Routes) (since : List Told) (reply : Told) (earlier : List Told) (ask : CacheId × Key) → KeptFor opening earlier reply ask → Untouched opening since (reply ∷ earlier) ask →
     standing opening (since ++ reply ∷ earlier) ask ≡ Some (stood_of (routes_in opening earlier) reply ask)
 stands_at opening [] reply earlier ask is untouched =
     cond-true (is_for ask (kept_by opening earlier reply.event reply.answer)) (Some (stood_of (routes_in opening earlier) reply ask)) (cond (ends (routes_in opening earlier) reply.event reply.answer ask) None (standing opening earlier ask))
-      (ap (is_for ask) (from_kept opening earlier ask reply.event reply.answer is) ∙ ask_itself ask)
+    (ap (is_for ask) (from_kept opening earlier ask reply.event reply.answer is) ∙ ask_itself ask)
 stands_at opening (t ∷ since) reply earlier ask is untouched =
     let before : List Told = since ++ reply ∷ earlier in
     let for : Bool = is_for ask (kept_by opening before t.event t.answer) in
