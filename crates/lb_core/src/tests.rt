@@ -5,8 +5,10 @@
 //!
 //! Rows are for refused allocations too: `rt try --test --fail-alloc N`. What met want of memory is told again and then gets
 //! the answer that it gets with ample memory, so that nothing was changed by it. Want of memory before the balancer is told
-//! ends a test with an error, and no assertion fails by it.
+//! ends a test with an error, and no assertion fails by it. A reply that was not kept for want of memory ends its row: the query
+//! is gone, and the next one is forwarded.
 
+mod caches;
 mod messages;
 mod passing;
 mod rules;
@@ -14,14 +16,15 @@ mod servers;
 mod told;
 mod wanted;
 
-use crate::{Answer, Balancer, EditFault, Event};
+use crate::{Answer, Balancer, EditFault, Event, IgnoreReason};
 use lb_chain::ChainFault;
 use lb_servers::ParkFault;
+use lb_wire::Kept;
 use messages::Message;
 use std::alloc::Global;
 use std::process::Abort;
 use std::test::Fail;
-use told::Told;
+use told::{PLAIN, Told};
 use wanted::{Wanted, is};
 
 /// A line of a row.
@@ -40,9 +43,19 @@ fn play_on<T: Abort + AllocGlobal>(
     row: &[Line],
 ) -> Result<(), Fail> {
     for (place, line) in row.iter().enumerate() {
-        play_line(rt, balancer, place, *line)?;
+        if play_line(rt, balancer, place, *line)? == Course::Left {
+            return Ok(());
+        }
     }
     Ok(())
+}
+
+/// Whether a row goes on as it is written. A reply that was not kept for want of memory is delivered all the same, but the
+/// cache's answers that are written behind it do not come.
+#[derive(Clone, Copy, PartialEq, Eq)]
+enum Course {
+    Kept,
+    Left,
 }
 
 /// Tells a balancer the line at this place, counted from 0, and compares the answer.
@@ -51,11 +64,25 @@ fn play_line<T: Abort + AllocGlobal>(
     balancer: &mut Balancer,
     place: usize,
     line: Line,
-) -> Result<(), Fail> {
+) -> Result<Course, Fail> {
     let (told, wanted) = line;
     let answer = tell(balancer, rt.alloc(), told)?;
     assert!(rt; wanted.is(&answer), "line {place}: {answer:?}");
-    Ok(())
+    if !matches!(answer, Answer::Deliver(_, _, Kept::NoMemory)) {
+        return Ok(Course::Kept);
+    }
+    // The query is gone, and the next one goes to a server.
+    let again = step(balancer, told.event(rt.alloc())?);
+    assert!(rt;
+        matches!(again, Answer::Ignored(IgnoreReason::Unknown)),
+        "line {place} again: {again:?}"
+    );
+    let next = tell(balancer, rt.alloc(), Told::Ask(PLAIN))?;
+    assert!(rt;
+        matches!(next, Answer::Forward(_, _, _, _)),
+        "after line {place}: {next:?}"
+    );
+    Ok(Course::Left)
 }
 
 /// The answer to what the balancer is told; where memory was wanting, told again.

@@ -1,7 +1,9 @@
 //! What the balancer is told in a line.
 
 use super::messages::Message;
+use super::wanted::UDP;
 use crate::{CheckSpec, Command, Event, StatedAction, StatedRule, Timeout};
+use lb_cache::{Covered, MaxEntries, MaxTtl, Shards};
 use lb_chain::Addrs;
 use lb_masks::{Group, Mask};
 use lb_name::Name;
@@ -53,10 +55,13 @@ pub(super) enum Told {
     /// The query `PLAIN` with other octets, or at another moment.
     AskOf(Message),
     AskAt(u64),
+    AskOfAt(u64, Message),
     /// The query `PLAIN` of another slot.
     AskBy(u64),
     /// A reply from the server with this number, at the moment 2000.
     Reply(u64, Lane, Message),
+    /// A reply from server 1 by its datagram lane, at a moment.
+    ReplyAt(u64, Message),
     Tick(u64),
     /// A probe of the server with this number was answered, or failed, at the moment 1000.
     Health(u64, bool),
@@ -75,6 +80,13 @@ pub(super) enum Told {
     ServerMode(&'static str, Mode),
     Pool(&'static str),
     PoolPolicy(&'static str, Policy),
+    /// A cache at the default pool, for so many replies, of so many shards; each lives for a day at most.
+    CacheAttach(u32, u32),
+    CacheDetach,
+    ExpungeName(&'static str, Option<RecordType>),
+    ExpungeSuffix(&'static str),
+    ExpungeAll,
+    Show,
     /// So many milliseconds.
     Timeout(u32),
 }
@@ -109,6 +121,7 @@ pub(super) enum Action {
     Spoof,
     Pool(&'static str),
     NoRecurse,
+    SkipCache,
 }
 
 impl Told {
@@ -117,8 +130,15 @@ impl Told {
             Told::Ask(query) => query.event(alloc),
             Told::AskOf(bytes) => Query { bytes, ..PLAIN }.event(alloc),
             Told::AskAt(now) => Query { now, ..PLAIN }.event(alloc),
+            Told::AskOfAt(now, bytes) => Query {
+                now,
+                bytes,
+                ..PLAIN
+            }
+            .event(alloc),
             Told::AskBy(slot) => Query { slot, ..PLAIN }.event(alloc),
-            Told::Reply(server, lane, message) => reply(alloc, server, lane, message),
+            Told::Reply(server, lane, message) => reply(alloc, 2000, server, lane, message),
+            Told::ReplyAt(now, message) => reply(alloc, now, 1, UDP, message),
             Told::Tick(now) => Ok(Event::Tick { now }),
             Told::Health(server, ok) => Ok(health(server, ok)),
             Told::Rule(selector, action) => rule(alloc, None, selector, action),
@@ -132,6 +152,15 @@ impl Told {
             Told::ServerMode(name, mode) => edit(Command::ServerMode(ident(name)?, mode)),
             Told::Pool(name) => edit(Command::PoolAdd(named(name)?)),
             Told::PoolPolicy(name, policy) => edit(Command::PoolPolicy(named(name)?, policy)),
+            Told::CacheAttach(max, shards) => cache_attach(max, shards),
+            Told::CacheDetach => edit(Command::CacheDetach(PoolName::Default)),
+            Told::ExpungeName(name, qtype) => expunge(Covered::Name(
+                Name::parse_text(name)?,
+                qtype,
+            )),
+            Told::ExpungeSuffix(name) => expunge(Covered::Suffix(Name::parse_text(name)?)),
+            Told::ExpungeAll => expunge(Covered::All),
+            Told::Show => edit(Command::Show),
             Told::Timeout(millis) => edit(Command::SetTimeout(timeout(millis)?)),
         }
     }
@@ -163,9 +192,15 @@ fn octets(alloc: Global, message: Message) -> Result<Octets, AllocError> {
     Ok(Octets::from_vec(Vec::from_slice(alloc, message.octets())?))
 }
 
-fn reply(alloc: Global, server: u64, lane: Lane, message: Message) -> Result<Event, Fail> {
+fn reply(
+    alloc: Global,
+    now: u64,
+    server: u64,
+    lane: Lane,
+    message: Message,
+) -> Result<Event, Fail> {
     Ok(Event::Reply {
-        now: 2000,
+        now,
         server: ServerId(server),
         lane,
         bytes: octets(alloc, message)?,
@@ -209,6 +244,17 @@ fn server_checked(alloc: Global, name: &str, fall: u8, rise: u8) -> Result<Event
         must_resolve: false,
     };
     edit(Command::ServerAdd(spec, check))
+}
+
+fn cache_attach(max: u32, shards: u32) -> Result<Event, Fail> {
+    let max = MaxEntries::new(max).ok_or("too many replies")?;
+    let shards = Shards::new(shards).ok_or("too many shards")?;
+    let day = MaxTtl::new(86_400).ok_or("too long")?;
+    edit(Command::CacheAttach(PoolName::Default, max, shards, day))
+}
+
+fn expunge(covered: Covered) -> Result<Event, Fail> {
+    edit(Command::Expunge(PoolName::Default, covered))
 }
 
 fn timeout(millis: u32) -> Result<Timeout, &'static str> {
@@ -287,6 +333,7 @@ impl Action {
             Action::Spoof => spoof(),
             Action::Pool(name) => Ok(StatedAction::Pool(named(name)?)),
             Action::NoRecurse => Ok(StatedAction::NoRecurse),
+            Action::SkipCache => Ok(StatedAction::SkipCache),
         }
     }
 }

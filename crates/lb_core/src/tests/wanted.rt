@@ -2,7 +2,7 @@
 
 use super::messages::Message;
 use super::told::{ONE, origin};
-use crate::{Answer, DropReason, EditFault, IgnoreReason, LocalReason, Note};
+use crate::{Answer, DropReason, EditFault, IgnoreReason, LocalReason, Note, Totals};
 use lb_chain::ChainFault;
 use lb_servers::{Mode, ParkFault, Policy, PoolName};
 use lb_wire::{Kept, Kind, Lane, Octets, Origin, RuleId};
@@ -25,10 +25,14 @@ pub(super) enum Wanted {
     /// The balancer answers with these octets, by this rule or for another reason.
     LocalBy(u64, Message),
     Local(LocalReason, Message),
+    /// A cache answers with these octets.
+    Hit(Message),
     /// The query goes to this server by this lane, under this ID, in these octets.
     Sent(u64, Lane, u16, Message),
-    /// The reply goes to the client that asked, in these octets.
+    /// The reply goes to the client that asked, in these octets; it is kept nowhere, or kept, or there was no room for it.
     Delivered(Message),
+    Kept(Message),
+    NoRoom(Message),
     /// The client in this slot gets these octets.
     Expired(u64, Message),
     Quiet,
@@ -42,6 +46,11 @@ pub(super) enum Wanted {
     PoolAdded(&'static str),
     /// The default pool has this policy.
     PolicySet(Policy),
+    CacheAttached(u64),
+    CacheDetached(u64),
+    Expunged(usize),
+    /// So many rules, servers, pools, caches, outstanding queries and kept replies.
+    Shown(Totals),
     /// In milliseconds.
     TimeoutSet(u32),
     ServerUp(u64),
@@ -50,6 +59,7 @@ pub(super) enum Wanted {
     RulesRefuse(ChainFault),
     /// The table of servers and pools refuses it.
     ServersRefuse(ParkFault),
+    NoCache,
 }
 
 /// The query `PLAIN` was to go to a server, and none was there.
@@ -82,6 +92,7 @@ impl Wanted {
                 why == LocalReason::Rule(RuleId(rule)) && is(bytes, message)
             }
             Wanted::Local(reason, message) => why == reason && is(bytes, message),
+            Wanted::Hit(message) => why == LocalReason::Hit && is(bytes, message),
             _ => false,
         }
     }
@@ -96,12 +107,14 @@ impl Wanted {
     }
 
     fn is_delivered(self, to: Origin, bytes: &Octets, kept: Kept) -> bool {
-        match self {
-            Wanted::Delivered(message) => {
-                to == origin(7, ONE) && kept == Kept::No && is(bytes, message)
-            }
-            _ => false,
-        }
+        let (wanted, message) = match self {
+            Wanted::Delivered(message) => (Kept::No, message),
+            Wanted::Kept(message) => (Kept::Yes, message),
+            Wanted::NoRoom(message) => (Kept::NoRoom, message),
+            _ => return false,
+        };
+        // Where memory was wanting, it is delivered all the same.
+        to == origin(7, ONE) && (kept == wanted || kept == Kept::NoMemory) && is(bytes, message)
     }
 
     fn is_expired(self, to: Origin, bytes: &Octets) -> bool {
@@ -127,6 +140,10 @@ impl Wanted {
             (Wanted::PolicySet(policy), Note::PoolPolicy(PoolName::Default, told)) => {
                 *told == policy
             }
+            (Wanted::CacheAttached(id), Note::CacheAttached(told)) => told.0 == id,
+            (Wanted::CacheDetached(id), Note::CacheDetached(told)) => told.0 == id,
+            (Wanted::Expunged(count), Note::Expunged(told)) => *told == count,
+            (Wanted::Shown(totals), Note::Shown(told)) => *told == totals,
             (Wanted::TimeoutSet(millis), Note::TimeoutSet(told)) => told.as_millis() == millis,
             (Wanted::ServerUp(id), Note::ServerUp(told)) => told.0 == id,
             (Wanted::ServerDown(id), Note::ServerDown(told)) => told.0 == id,
@@ -138,6 +155,7 @@ impl Wanted {
         match (self, fault) {
             (Wanted::RulesRefuse(why), EditFault::Rules(told)) => told == why,
             (Wanted::ServersRefuse(why), EditFault::Servers(told)) => told == why,
+            (Wanted::NoCache, EditFault::NoCache) => true,
             _ => false,
         }
     }
