@@ -1,7 +1,7 @@
 -- What a query asks of a cache, and where it waits: two of which the tests say that they are the same are equal.
-use Rattle.std.proofs.Common.{◌≡◌, ℕ, ◌≤◌, ◌+◌, ◌*◌, Bool, true, false, ◌==◌, ◌&&◌, List, bytes_eq, refl, ◌∙◌, ap, arith}
+use Rattle.std.proofs.Common.{inl, inr, ◌≡◌, ℕ, ◌≤◌, ◌+◌, ◌*◌, Bool, true, false, ◌==◌, ◌&&◌, List, bytes_eq, refl, ◌∙◌, ap, arith}
 use Rattle.std.specs.Cmp.Lexicographic.{bytes_decides}
-use Rattle.std.proofs.lemmas.Bool.{and_parts, and_from, eqb-true, eq-eqb, ltb-true, lt-ltb}
+use Rattle.std.proofs.lemmas.Bool.{both_ways, cases_Bool, and_parts, and_from, eqb-true, eq-eqb, ltb-true, lt-ltb}
 use Rattle.lb_wire.specs.declared.ids.CacheId.{CacheId}
 use Rattle.lb_wire.specs.declared.key.Key.{Key}
 use Rattle.lb_wire.specs.declared.transport.Kind.{Kind}
@@ -80,3 +80,10 @@ same_places a b is =
     ∙ ap (λ (k : Kind). place_from b.server.0 k a.lane.number a.id) (same_kinds a.lane.kind b.lane.kind lane.0)
     ∙ ap (λ (n : ℕ). place_from b.server.0 b.lane.kind n a.id) (eqb-true a.lane.number b.lane.number lane.1)
     ∙ ap (place_from b.server.0 b.lane.kind b.lane.number) (eqb-true a.id b.id id.1)
+
+-- where one is not the other, the other is not the one
+pub apart : (a b : Place) → same_place b a ≡ false → same_place a b ≡ false
+apart a b none = elim (cases_Bool (same_place a b)) [
+  | inl same ↦ absurd (both_ways (same_place b a) none (ap (λ (z : Place). same_place b z) (same_places a b same) ∙ place_itself b))
+  | inr other ↦ other
+]

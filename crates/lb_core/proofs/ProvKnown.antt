@@ -1,7 +1,7 @@
 -- What a history tells of the plain state, that it tells so after each step, and what the answers follow from it.
 use Rattle.std.proofs.Common.{◌≡◌, ℕ, ◌≤◌, ◌<◌, ◌+◌, ◌*◌, Bool, false, List, [], ◌∷◌, max, cond, Option, None, Some, Ok, Err, ◌⊎◌, inl, inr, refl, sym, ◌∙◌, ap, subst, arith}
 use Rattle.std.specs.List.{All, Contains}
-use Rattle.std.proofs.lemmas.Bool.{cases_Bool, both_ways, cond-true, cond-false, lt-ltb}
+use Rattle.std.proofs.lemmas.Bool.{cases_Bool, cond-true, cond-false, lt-ltb}
 use Rattle.std.proofs.lemmas.Option.{same_Some, none-some}
 use Rattle.std.proofs.lemmas.List.Elements.{All-nil, All-weaker, All-contains}
 use Rattle.lb_wire.specs.BigEndian.{number_at}
@@ -25,7 +25,7 @@ use Rattle.lb_core.specs.Plain.{Plain}
 use Rattle.lb_core.specs.Provenance.{Told, LivesIn, asks, ended_by, routes_in}
 use Rattle.lb_core.specs.Reading.{Reading, OfQuery, OfReply, OfNone, moment_of}
 use Rattle.lb_core.specs.Routes.{Routes, routes_after, routes_of}
-use Rattle.lb_core.proofs.ProvAsks.{ask_for, ask_itself, place_itself, same_ask, same_asks, same_places}
+use Rattle.lb_core.proofs.ProvAsks.{apart, ask_for, ask_itself, place_itself, same_ask, same_asks}
 use Rattle.lb_core.proofs.ProvLists.{Sifts}
 use Rattle.lb_core.proofs.ProvStanding.{Stood, asked_under, is_for, standing, stood_of}
 use Rattle.lb_core.proofs.ProvTurns.{KeepsOne, KeptAfter, LivesSo, OutstandingAfter, Turns, held}
@@ -138,12 +138,6 @@ outstanding_told opening before event reading (Forward server lane id bytes) ask
           let other : same_place place w.place ≡ false = apart place w.place (All-contains (λ (w : Waiting). is_at place w ≡ false) old w after.free was) in
           cond-false (same_place place w.place) (asks (routes_in opening before) t) (asked_under opening before w.place) other ∙ All-contains (ToldAsked opening before) old w told was
     ]) new after.puts.each
-  where
-    apart : (a b : Place) → same_place b a ≡ false → same_place a b ≡ false
-    apart a b none = elim (cases_Bool (same_place a b)) [
-      | inl same ↦ absurd (both_ways (same_place b a) none (ap (λ (z : Place). same_place b z) (same_places a b same) ∙ place_itself b))
-      | inr other ↦ other
-    ]
 outstanding_told opening before event reading _ asked old new is after told =
     All-weaker (Contains old) (λ (w : Waiting). asked_under opening before w.place ≡ w.entry.cache) (λ w there. All-contains (ToldAsked opening before) old w told there) new after
 

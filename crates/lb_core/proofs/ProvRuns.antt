@@ -29,7 +29,7 @@ use Rattle.lb_core.proofs.ProvServing.{from_trace}
 use Rattle.lb_core.proofs.ProvTurns.{Turns}
 
 -- each step does to the outstanding queries and the kept replies what its event with its answer tells
-step_turn : (old new : Plain) (event : Event) (reading : Reading) (answer : Answer) → ReadsEvent event reading → Steps old event reading answer new →
+pub step_turn : (old new : Plain) (event : Event) (reading : Reading) (answer : Answer) → ReadsEvent event reading → Steps old event reading answer new →
     Turns old (record { event = event; reading = reading; answer = answer }) new
 step_turn old new (Query now origin kind word bytes) (OfQuery reading) answer reads steps = query_turn old now origin kind word bytes reading new answer steps
 step_turn old new (Reply now server lane bytes) (OfReply reading) answer reads (ups, steps, left) =
@@ -63,7 +63,7 @@ passed_moment : (b : Bool) (routes : Routes) (asked : Asked) (view : QueryView) 
 passed_moment true routes asked view = refl
 passed_moment false routes asked view = refl
 
-left_moment : (routes : Routes) (event : Event) (reading : Reading) (answer : Answer) → (left_by routes event reading answer).moment ≡ routes.moment
+pub left_moment : (routes : Routes) (event : Event) (reading : Reading) (answer : Answer) → (left_by routes event reading answer).moment ≡ routes.moment
 left_moment routes (Query now origin kind word bytes) (OfQuery (Ok view)) answer =
     passed_moment (is_transfer view.qtype.0 || marked answer) routes (record { moment = routes.moment; origin = origin; kind = kind; word = word }) view
 left_moment routes (Edit now command) reading (Edited note) = carried_moment routes command

@@ -1,7 +1,7 @@
 -- Where answers from a cache come from: a relation on events with their answers. No server, no outstanding query and no kept
 -- reply enters. A history has its latest event first.
-use Rattle.std.specs.Prelude.{if◌then◌else◌, ◌≡◌, ℕ, ◌+◌, ◌-◌, ◌*◌, ◌/◌, ◌<◌, max, Bool, true, false, ◌==◌, ◌&&◌, ◌||◌, List, [], ◌∷◌, ◌++◌, Option, None, Some, option_and_then, Ok}
-use Rattle.std.specs.List.{AllByRecursion}
+use Rattle.std.specs.Prelude.{if◌then◌else◌, ◌≡◌, ℕ, ◌+◌, ◌-◌, ◌*◌, ◌/◌, ◌<◌, max, Bool, true, false, ◌==◌, ◌&&◌, ◌||◌, List, [], ◌∷◌, ◌++◌, ◌⊎◌, Option, None, Some, option_and_then, Ok}
+use Rattle.std.specs.List.{AllByRecursion, Contains}
 use Rattle.lb_wire.specs.BigEndian.{number_at}
 use Rattle.lb_wire.specs.declared.ids.CacheId.{CacheId}
 use Rattle.lb_wire.specs.declared.ids.PoolId.{PoolId}
@@ -15,9 +15,12 @@ use Rattle.lb_chain.specs.declared.walked.Verdict.TheVariants as verdicts
 use Rattle.lb_chain.specs.declared.walked.Walked.{Walked}
 use Rattle.lb_chain.specs.Walk.{walk_of}
 use Rattle.lb_servers.specs.declared.pool.PoolName.{PoolName}
+use Rattle.lb_table.specs.declared.entry.Waiting.{Waiting}
 use Rattle.lb_table.specs.declared.place.Place.{Place}
 use Rattle.lb_table.specs.Place.{at_place, same_place}
+use Rattle.lb_table.specs.Table.{is_at}
 use Rattle.lb_cache.specs.declared.cached.AttachedCache.{AttachedCache}
+use Rattle.lb_cache.specs.declared.cached.KeptReply.{KeptReply}
 use Rattle.lb_core.specs.declared.command.Command.{Command}
 use Rattle.lb_core.specs.declared.command.Command.TheVariants.{CacheAttach, CacheDetach, Expunge}
 use Rattle.lb_core.specs.declared.event.Event.{Event}
@@ -30,9 +33,10 @@ use Rattle.lb_core.specs.Answer.{marked}
 use Rattle.lb_cache.specs.Caches.{cache_with, covers_key}
 use Rattle.lb_core.specs.Lifetime.{LivesFor}
 use Rattle.lb_core.specs.Look.{Hits, ask_of}
+use Rattle.lb_core.specs.Plain.{Plain}
 use Rattle.lb_core.specs.Query.{default_pool, is_transfer, to_pool}
 use Rattle.lb_core.specs.Reading.{Reading, OfQuery, OfReply, ReadsEvent, moment_of}
-use Rattle.lb_core.specs.Routes.{Routes, at_routes, cache_routed, route_named, routes_after}
+use Rattle.lb_core.specs.Routes.{Routes, at_routes, cache_routed, route_named, routes_after, routes_of}
 
 -- an event, what its octets read as, and its answer
 pub record Told : Type 0 where
@@ -190,3 +194,52 @@ Provenance opening before (t ∷ rest) =
 -- reply's, and where one serves it is given
 abbrev pub MeetsProvenance : Routes → List Event → List Answer → Type 0
 MeetsProvenance opening events answers = (told : List Told) × AreTold events answers told × Provenance opening [] told
+
+-- a query that waited at a place when a run began asked this of a cache
+pub record WaitedAt (waiting : List Waiting) (place : Place) (ask : CacheId × Key) : Type 0 where
+  pub query : Waiting
+  pub there : Contains waiting query
+  pub at : is_at place query ≡ true
+  pub asked : query.entry.cache ≡ Some ask
+
+-- the query that a reply from a place answers asked this of a cache: the last one that the run sent there, or, where it sent
+-- none there, one that waited there when the run began
+abbrev pub AskedAt : Plain → List Told → Place → CacheId × Key → Type 0
+AskedAt old before place ask = LastSent (routes_of old) before place ask ⊎ (AllByRecursion (λ t. is_sent place t.answer ≡ false) before × WaitedAt old.outstanding place ask)
+
+-- a reply of a run is kept for a cache and key: it was delivered and kept, and the query that it answers asked this
+abbrev pub IsKeptInRun : Plain → List Told → CacheId × Key → Event → Answer → Type 0
+IsKeptInRun old before ask (Reply now server lane bytes) (Deliver origin sent kept.Yes) = AskedAt old before (at_place server lane (number_at bytes 0)) ask
+IsKeptInRun old before ask _ _ = ⊥
+
+-- a kept reply came in a run: it is a reply that was kept for its cache and key, with its octets, the moment at which it came,
+-- and its life
+pub record CameIn (old : Plain) (before : List Told) (k : KeptReply) : Type 0 where
+  pub since : List Told
+  pub reply : Told
+  pub earlier : List Told
+  pub parts : before ≡ since ++ reply ∷ earlier
+  pub kept : IsKeptInRun old earlier (k.cache, k.reply.key) reply.event reply.answer
+  pub octets : k.reply.bytes ≡ octets_of reply.event
+  pub moment : k.reply.moment ≡ max (routes_in (routes_of old) earlier).moment (moment_of reply.event)
+  pub lives : LivesIn (cache_with k.cache (routes_in (routes_of old) earlier).caches) reply.event reply.reading k.reply.life
+
+-- a hit comes from a reply that still lives, kept under what the query asks: one that was kept when the run began, or one that
+-- came in the run; it has its octets, so many seconds later
+pub record HitFrom (old : Plain) (before : List Told) (now : ℕ) (t : Told) : Type 0 where
+  pub reply : KeptReply
+  pub from : Contains old.kept reply ⊎ CameIn old before reply
+  pub asked : asks (routes_in (routes_of old) before) t ≡ Some (reply.cache, reply.reply.key)
+  pub alive : now < reply.reply.moment + 1000 * reply.reply.life
+  pub octets : List ℕ
+  pub answer : t.answer ≡ Local octets locals.Hit
+  pub hits : HitsFor t.reading reply.reply.bytes ((now - reply.reply.moment) / 1000) octets
+
+-- each hit that follows a history does
+abbrev pub HitsFrom : Plain → List Told → List Told → Type 0
+HitsFrom old before [] = Unit {0}
+HitsFrom old before (t ∷ rest) = (is_hit t.answer ≡ true → HitFrom old before (max (routes_in (routes_of old) before).moment (moment_of t.event)) t) × HitsFrom old (t ∷ before) rest
+
+-- events with their answers, from any state
+abbrev pub MeetsHits : Plain → List Event → List Answer → Type 0
+MeetsHits old events answers = (told : List Told) × AreTold events answers told × HitsFrom old [] told

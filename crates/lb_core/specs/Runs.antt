@@ -12,7 +12,7 @@ use Rattle.lb_core.specs.declared.answer.Answer.TheVariants.{Expired, Quiet}
 use Rattle.lb_core.specs.Plain.{Plain, at_plain}
 use Rattle.lb_core.specs.Answer.{marked}
 use Rattle.lb_core.specs.Forward.{failure_of}
-use Rattle.lb_core.specs.Provenance.{MeetsProvenance}
+use Rattle.lb_core.specs.Provenance.{MeetsHits, MeetsProvenance}
 use Rattle.lb_core.specs.Routes.{routes_of}
 use Rattle.lb_core.specs.Step.{Answers}
 
@@ -52,3 +52,7 @@ TicksEndTheDue = (old new : Plain) (now : ℕ) (answers : List Answer) →
 abbrev pub CachedAnswersAreKeptReplies : Type 0
 CachedAnswersAreKeptReplies = (old new : Plain) (events : List Event) (answers : List Answer) →
     old.outstanding ≡ [] → old.kept ≡ [] → IsRun old events answers new → MeetsProvenance (routes_of old) events answers
+
+-- in every run, from any state, each hit comes from a reply that was kept when the run began, or that came in it
+abbrev pub HitsComeFromReplies : Type 0
+HitsComeFromReplies = (old new : Plain) (events : List Event) (answers : List Answer) → IsRun old events answers new → MeetsHits old events answers

@@ -1,7 +1,7 @@
 //! What holds of every step and of every run. Each function is a law: its contract is the statement, and a call does
 //! nothing but bring it to the caller's proof.
 
-ghost use Rattle.lb_core.specs.Runs.{CachedAnswersAreKeptReplies, OneRunPerMarks, TicksEndTheDue};
+ghost use Rattle.lb_core.specs.Runs.{CachedAnswersAreKeptReplies, HitsComeFromReplies, OneRunPerMarks, TicksEndTheDue};
 ghost use Rattle.lb_core.specs.Step.{RefusalsChangeNothing, RoutesFollow};
 
 use lb_chain::seen_twice;
@@ -46,5 +46,13 @@ pub fn cached_answers_are_kept_replies()
     ensures { CachedAnswersAreKeptReplies }
 {
     one_survey();
+    routes_follow();
+}
+
+/// In every run, from any state, each hit comes from a reply that still lives: one that was kept when the run began, or one
+/// that came in it.
+pub fn hits_come_from_replies()
+    ensures { HitsComeFromReplies }
+{
     routes_follow();
 }

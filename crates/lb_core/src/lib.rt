@@ -29,8 +29,8 @@ pub use check::{Check, CheckSpec};
 pub use command::{Command, StatedAction, StatedRule};
 pub use event::Event;
 pub use laws::{
-    cached_answers_are_kept_replies, one_run_per_marks, refusals_change_nothing, routes_follow,
-    ticks_end_the_due,
+    cached_answers_are_kept_replies, hits_come_from_replies, one_run_per_marks,
+    refusals_change_nothing, routes_follow, ticks_end_the_due,
 };
 pub use runs::run;
 pub use timeout::Timeout;

@@ -99,10 +99,19 @@ fn step(balancer: &mut Balancer, event: Event) -> Answer {
     balancer.step(event)
 }
 
+/// ServFail to the queries of the rows.
+const SERV_FAILS: &[Message] = &[
+    Message::ServFail,
+    Message::Ipv6ServFail,
+    Message::CookieServFail,
+    Message::MixedServFail,
+    Message::MxServFail,
+];
+
 /// Whether memory was wanting. A query is then answered ServFail.
 fn is_wanting(answer: &Answer) -> bool {
     match answer {
-        Answer::NoMemory(bytes) => is(bytes, Message::ServFail) || is(bytes, Message::Ipv6ServFail),
+        Answer::NoMemory(bytes) => SERV_FAILS.iter().any(|wanted| is(bytes, *wanted)),
         Answer::Refused(EditFault::Rules(fault)) => *fault == ChainFault::NoMemory,
         Answer::Refused(EditFault::Servers(fault)) => *fault == ParkFault::NoMemory,
         _ => false,

@@ -84,6 +84,10 @@ pub(super) enum Message {
     HitNegative82801,
     HitNegative82800,
     HitNegative1,
+    /// ServFail to the queries with a cookie, in another spelling, and for MX.
+    CookieServFail,
+    MixedServFail,
+    MxServFail,
     /// `REPLY` and `DELIVERED`, cut to so many octets.
     ReplyCut(usize),
     DeliveredCut(usize),
@@ -212,6 +216,12 @@ impl Message {
                 b"\x12\x34\x81\x83\x00\x01\x00\x00\x00\x01\x00\x00\x07example\x03com\x00\x00\x01\x00\x01\xc0\x0c\x00\x06\x00\x01\x00\x01\x43\x70\x00\x00",
             Message::HitNegative1 =>
                 b"\x12\x34\x81\x83\x00\x01\x00\x00\x00\x01\x00\x00\x07example\x03com\x00\x00\x01\x00\x01\xc0\x0c\x00\x06\x00\x01\x00\x00\x00\x01\x00\x00",
+            Message::CookieServFail =>
+                b"\x12\x34\x81\x82\x00\x01\x00\x00\x00\x00\x00\x01\x07example\x03com\x00\x00\x01\x00\x01\x00\x00\x29\x04\xd0\x00\x00\x00\x00\x00\x00",
+            Message::MixedServFail =>
+                b"\xab\xcd\x81\x82\x00\x01\x00\x00\x00\x00\x00\x00\x07eXaMpLe\x03CoM\x00\x00\x01\x00\x01",
+            Message::MxServFail =>
+                b"\x12\x34\x81\x82\x00\x01\x00\x00\x00\x00\x00\x00\x07example\x03com\x00\x00\x0f\x00\x01",
             Message::ReplyCut(len) => cut(Message::Reply.octets(), len),
             Message::DeliveredCut(len) => cut(Message::Delivered.octets(), len),
         }
