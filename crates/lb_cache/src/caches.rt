@@ -1,13 +1,13 @@
 //! The attached caches of all pools.
 
-ghost use Rattle.std.specs.Prelude.{◌≡◌, ◌<◌, [], IfOk, IfSome, OnErr, OnOk, Some, length, option_map};
+ghost use Rattle.std.specs.Prelude.{◌≡◌, ◌<◌, ◌++◌, [], IfOk, IfSome, OnErr, OnOk, Some, length, map, option_map};
 ghost use Rattle.std.specs.List.{flat_map, position};
 ghost use Rattle.lb_cache.specs.Cache.{expunged, lacks};
-ghost use Rattle.lb_cache.specs.Caches.{cache_with, covers, expunged_in, has_number, is_old, kept_in, kept_of, looked_in, no_caches, with_cache, without_cache, without_old, IsKeepable};
+ghost use Rattle.lb_cache.specs.Caches.{attached_of, cache_with, covers, expunged_in, has_number, held_by, is_old, kept_in, kept_of, looked_in, no_caches, with_cache, without_cache, without_old, IsKeepable};
 
 use crate::cache::Cache;
-use crate::cached::{AttachedCache, Covered};
-use crate::reply::Hit;
+use crate::cached::{AttachedCache, Covered, KeptReply};
+use crate::reply::{CachedReply, Hit};
 use lb_wire::{CacheId, Kept, Key};
 use std::alloc::{AllocError, Global};
 use std::marker::Model;
@@ -59,16 +59,26 @@ impl Caches {
         count_kept(self.shelves.as_slice())
     }
 
+    /// The attached caches by number. The one error is want of memory.
+    pub fn list(&self, alloc: Global) -> Result<Vec<AttachedCache>, AllocError>
+        ensures { IfOk result (λ list. list.items ≡ self.now.caches) }
+    {
+        list_attached(alloc, self.shelves.as_slice())
+    }
+
+    /// The replies that they keep by cache, then key, dead ones that are still held too. The one error is want of memory.
+    pub fn kept_list(&self, alloc: Global) -> Result<Vec<KeptReply>, AllocError>
+        ensures { IfOk result (λ list. list.items ≡ self.now.kept) }
+    {
+        list_kept(alloc, self.shelves.as_slice())
+    }
+
     /// The attached cache with a number.
     pub fn with_id(&self, id: CacheId) -> Option<AttachedCache>
         ensures { result ≡ cache_with id self.now.caches }
     {
         let shelf = &self.shelves[place_of(self.shelves.as_slice(), id)?];
-        Some(AttachedCache {
-            id: shelf.id,
-            max: shelf.cache.max(),
-            max_ttl: shelf.cache.max_ttl(),
-        })
+        Some(attached(shelf))
     }
 
     /// The reply that a cache keeps under a key, where it lives at a moment, in milliseconds: a message with the key's question
@@ -174,6 +184,58 @@ fn count_kept(shelves: &[Shelf]) -> u128
         kept += shelf.cache.len() as u128;
     }
     kept
+}
+
+/// A cache without what it keeps.
+fn attached(shelf: &Shelf) -> AttachedCache
+    ensures { result ≡ attached_of shelf.now }
+{
+    AttachedCache {
+        id: shelf.id,
+        max: shelf.cache.max(),
+        max_ttl: shelf.cache.max_ttl(),
+    }
+}
+
+/// The caches without what they keep, in order.
+fn list_attached(alloc: Global, shelves: &[Shelf]) -> Result<Vec<AttachedCache>, AllocError>
+    ensures { IfOk result (λ list. list.items ≡ map attached_of shelves.now) }
+{
+    let mut list = Vec::with_capacity(alloc, shelves.len())?;
+    for shelf in shelves {
+        list.push(attached(shelf))?;
+    }
+    Ok(list)
+}
+
+/// Puts copies of the replies of the cache with a number behind the others.
+fn list_replies(
+    alloc: Global,
+    all: &mut Vec<KeptReply>,
+    cache: CacheId,
+    replies: &[CachedReply],
+) -> Result<(), AllocError>
+    ensures { OnOk result (all.new.items ≡ all.old.items ++ map (held_by cache) replies.now) }
+{
+    for reply in replies {
+        all.push(KeptReply {
+            cache,
+            reply: reply.copy(alloc)?,
+        })?;
+    }
+    Ok(())
+}
+
+/// Copies of the replies that the caches keep, in order.
+fn list_kept(alloc: Global, shelves: &[Shelf]) -> Result<Vec<KeptReply>, AllocError>
+    ensures { IfOk result (λ list. list.items ≡ flat_map kept_of shelves.now) }
+{
+    let mut all = Vec::new(alloc);
+    for shelf in shelves {
+        let replies = shelf.cache.list(alloc)?;
+        list_replies(alloc, &mut all, shelf.id, replies.as_slice())?;
+    }
+    Ok(all)
 }
 
 /// Expunges a cache.

@@ -4,9 +4,13 @@ ghost use Rattle.std.specs.Prelude.{◌≡◌, [], ◌∷◌, IfOk};
 ghost use Rattle.lb_cache.specs.Caches.{name_of_key};
 
 use crate::{Cache, CachedReply, Caches, Covered, MaxEntries, MaxTtl, Shards};
+use Kind::{Datagram, Stream};
+use Seen::{Done, Found, Gone, Nothing};
+use Told::{Attach, Detach, ExpungeAll, ExpungeName, ExpungeSuffix, Keep, Look};
 use lb_name::Name;
 use lb_wire::{CacheId, Kept, Key, Kind, Octets, RecordType};
 use std::alloc::{AllocError, Global};
+use std::process::Abort;
 use std::test::Fail;
 
 /// The header of a query without its ID: RD, and one question.
@@ -30,7 +34,9 @@ fn key(alloc: Global, kind: Kind, name: &[u8], rtype: u8) -> Result<Key, AllocEr
 }
 
 /// A cache of so many replies at most.
-fn cache(alloc: Global, max: u32) -> Result<Cache, Fail> {
+fn cache(alloc: Global, max: u32) -> Result<Cache, Fail>
+    ensures { IfOk result (λ cache. cache.replies ≡ []) }
+{
     let max = MaxEntries::new(max).ok_or("no such size")?;
     let shards = Shards::new(4).ok_or("no such number of shards")?;
     let ttl = MaxTtl::new(86_400).ok_or("no such life")?;
@@ -188,67 +194,167 @@ fn keep(caches: &mut Caches, id: u64, key: Key, now: u64) -> Option<Kept>
     Some(caches.keep(&cache, key, REPLY.as_slice(), 1, now))
 }
 
-/// How many octets are found in a cache under a key, and how many seconds ago they came.
-fn found_in(caches: &Caches, id: u64, key: &Key, now: u64) -> Option<(usize, u32)> {
-    let hit = caches.look(CacheId(id), key, now)?;
-    Some((hit.bytes.len(), hit.secs))
+/// What the caches are told: first which one, by number.
+#[derive(Clone, Copy)]
+enum Told {
+    /// Attach one for so many replies, in the place of another one.
+    Attach(u64, u32, Option<u64>),
+    Detach(u64),
+    /// Keep that reply for that query by a transport, for a second from a moment on.
+    Keep(u64, Kind, u64),
+    /// Look for a reply to that query by a transport, at a moment.
+    Look(u64, Kind, u64),
+    ExpungeName(u64, &'static str),
+    ExpungeSuffix(u64, &'static str),
+    ExpungeAll(u64),
 }
+
+/// What they answer.
+#[derive(Clone, Copy, Debug, PartialEq, Eq)]
+enum Seen {
+    Done,
+    Kept(Kept),
+    /// So many octets, which came so many seconds ago.
+    Found(usize, u32),
+    Nothing,
+    /// So many replies are gone.
+    Gone(usize),
+}
+
+/// A line of a row: what is told and what is answered, then the numbers of the attached caches and those of the caches that
+/// keep a reply, with 0 behind the last.
+type Line = (Told, Seen, [u64; 2], [u64; 3]);
+
+/// Attaches a new cache.
+fn attach(
+    alloc: Global,
+    caches: &mut Caches,
+    id: u64,
+    max: u32,
+    old: Option<u64>,
+) -> Result<(), Fail> {
+    let cache = cache(alloc, max)?;
+    Ok(caches.attach(old.map(|old| CacheId(old)), CacheId(id), cache)?)
+}
+
+/// What is found.
+fn look(alloc: Global, caches: &Caches, id: u64, kind: Kind, now: u64) -> Result<Seen, AllocError> {
+    let key = asked(alloc, kind)?;
+    Ok(match caches.look(CacheId(id), &key, now) {
+        Some(hit) => Seen::Found(hit.bytes.len(), hit.secs),
+        None => Seen::Nothing,
+    })
+}
+
+/// Tells the caches.
+fn tell(alloc: Global, caches: &mut Caches, told: Told) -> Result<Seen, Fail> {
+    Ok(match told {
+        Told::Attach(id, max, old) => {
+            attach(alloc, caches, id, max, old)?;
+            Seen::Done
+        }
+        Told::Detach(id) => {
+            caches.detach(CacheId(id));
+            Seen::Done
+        }
+        Told::Keep(id, kind, now) => match keep(caches, id, asked(alloc, kind)?, now) {
+            Some(kept) => Seen::Kept(kept),
+            None => Seen::Nothing,
+        },
+        Told::Look(id, kind, now) => look(alloc, caches, id, kind, now)?,
+        Told::ExpungeName(id, name) => {
+            let covered = Covered::Name(Name::parse_text(name)?, None);
+            Seen::Gone(caches.expunge(CacheId(id), &covered))
+        }
+        Told::ExpungeSuffix(id, name) => {
+            let covered = Covered::Suffix(Name::parse_text(name)?);
+            Seen::Gone(caches.expunge(CacheId(id), &covered))
+        }
+        Told::ExpungeAll(id) => Seen::Gone(caches.expunge(CacheId(id), &Covered::All)),
+    })
+}
+
+/// The numbers of the attached caches.
+fn numbers(alloc: Global, caches: &Caches) -> Result<[u64; 2], AllocError> {
+    let list = caches.list(alloc)?;
+    let mut numbers = [0; 2];
+    for (number, cache) in numbers.iter_mut().zip(list.as_slice()) {
+        *number = cache.id.0;
+    }
+    Ok(numbers)
+}
+
+/// The numbers of the caches that keep a reply.
+fn keepers(alloc: Global, caches: &Caches) -> Result<[u64; 3], AllocError> {
+    let list = caches.kept_list(alloc)?;
+    let mut keepers = [0; 3];
+    for (keeper, kept) in keepers.iter_mut().zip(list.as_slice()) {
+        *keeper = kept.cache.0;
+    }
+    Ok(keepers)
+}
+
+/// Tells new caches the lines of a row, and compares the answers and the lists.
+fn play<T: Abort + AllocGlobal>(rt: &T, row: &[Line]) -> Result<(), Fail> {
+    let alloc = rt.alloc();
+    let mut caches = Caches::new(alloc);
+    for (place, line) in row.iter().enumerate() {
+        let seen = tell(alloc, &mut caches, line.0)?;
+        let lists = (numbers(alloc, &caches)?, keepers(alloc, &caches)?);
+        assert!(rt;
+            (seen, lists) == (line.1, (line.2, line.3)),
+            "line {place}: {seen:?} {lists:?}"
+        );
+    }
+    Ok(())
+}
+
+const YES: Seen = Seen::Kept(Kept::Yes);
+
+const TWO_CACHES: &[Line] = &[
+    (Attach(2, 1, None), Done, [2, 0], [0, 0, 0]),
+    (Attach(1, 10, None), Done, [1, 2], [0, 0, 0]),
+    (Keep(2, Datagram, 0), YES, [1, 2], [2, 0, 0]),
+    (Keep(1, Datagram, 0), YES, [1, 2], [1, 2, 0]),
+    (Keep(1, Stream, 0), YES, [1, 2], [1, 1, 2]),
+    (
+        Keep(2, Stream, 999),
+        Seen::Kept(Kept::NoRoom),
+        [1, 2],
+        [1, 1, 2],
+    ),
+    (Look(1, Datagram, 999), Found(29, 0), [1, 2], [1, 1, 2]),
+    (Look(1, Datagram, 1000), Nothing, [1, 2], [1, 1, 2]),
+    (Look(2, Stream, 0), Nothing, [1, 2], [1, 1, 2]),
+    (Keep(2, Datagram, 500), YES, [1, 2], [1, 1, 2]),
+    (Look(2, Datagram, 1499), Found(29, 0), [1, 2], [1, 1, 2]),
+    (ExpungeAll(3), Gone(0), [1, 2], [1, 1, 2]),
+    (ExpungeSuffix(1, "net"), Gone(0), [1, 2], [1, 1, 2]),
+    (ExpungeName(1, "example.com"), Gone(2), [1, 2], [2, 0, 0]),
+    (Attach(3, 5, Some(2)), Done, [1, 3], [0, 0, 0]),
+    (Keep(3, Stream, 0), YES, [1, 3], [3, 0, 0]),
+    (Detach(1), Done, [3, 0], [3, 0, 0]),
+    (ExpungeSuffix(3, "COM"), Gone(1), [3, 0], [0, 0, 0]),
+];
 
 #[test]
 fn two_caches(rt: HostRuntime) -> Result<(), Fail> {
+    play(&rt, TWO_CACHES)
+}
+
+#[test]
+fn numbers_of_a_cache(rt: HostRuntime) -> Result<(), Fail> {
     let alloc = rt.alloc();
     let mut caches = Caches::new(alloc);
-    caches.attach(None, CacheId(2), cache(alloc, 1)?)?;
-    caches.attach(None, CacheId(1), cache(alloc, 10)?)?;
-    let (one, two) = (asked(alloc, Kind::Datagram)?, asked(alloc, Kind::Stream)?);
-    let again = asked(alloc, Kind::Datagram)?;
-    assert_eq!(rt; (caches.len(), caches.kept_len()), (2, 0));
+    attach(alloc, &mut caches, 3, 5, None)?;
+    let kept = keep(&mut caches, 3, asked(alloc, Datagram)?, 0);
+    assert_eq!(rt; kept, Some(Kept::Yes));
     assert_eq!(rt;
-        keep(&mut caches, 1, asked(alloc, Kind::Datagram)?, 0),
-        Some(Kept::Yes)
+        caches
+            .with_id(CacheId(3))
+            .map(|c| (c.max.get(), c.max_ttl.get())),
+        Some((5, 86_400))
     );
-    assert_eq!(rt; keep(&mut caches, 2, again, 0), Some(Kept::Yes));
-    assert_eq!(rt;
-        keep(&mut caches, 2, asked(alloc, Kind::Stream)?, 999),
-        Some(Kept::NoRoom)
-    );
-    assert_eq!(rt; found_in(&caches, 1, &one, 999), Some((29, 0)));
-    assert_eq!(rt;
-        (
-            found_in(&caches, 1, &two, 0),
-            found_in(&caches, 1, &one, 1000)
-        ),
-        (None, None)
-    );
-    assert_eq!(rt;
-        keep(&mut caches, 2, asked(alloc, Kind::Datagram)?, 500),
-        Some(Kept::Yes)
-    );
-    assert_eq!(rt;
-        (found_in(&caches, 2, &one, 1499), caches.kept_len()),
-        (Some((29, 0)), 2)
-    );
-    let name = Name::parse_text("example.com")?;
-    assert_eq!(rt; caches.expunge(CacheId(3), &Covered::All), 0);
-    assert_eq!(rt;
-        caches.expunge(CacheId(1), &Covered::Suffix(Name::parse_text("net")?)),
-        0
-    );
-    assert_eq!(rt; caches.expunge(CacheId(1), &Covered::Name(name, None)), 1);
-    assert_eq!(rt;
-        (caches.kept_len(), found_in(&caches, 1, &one, 500)),
-        (1, None)
-    );
-    assert_eq!(rt; caches.expunge(CacheId(2), &Covered::All), 1);
-    caches.attach(Some(CacheId(2)), CacheId(3), cache(alloc, 5)?)?;
-    assert_eq!(rt;
-        (
-            caches.with_id(CacheId(3)).map(|c| c.max.get()),
-            caches.with_id(CacheId(2)).is_none()
-        ),
-        (Some(5), true)
-    );
-    caches.detach(CacheId(1));
-    assert_eq!(rt; caches.len(), 1);
+    assert_eq!(rt; (caches.len(), caches.kept_len()), (1, 1));
     Ok(())
 }
