@@ -12,6 +12,7 @@ pub use Rattle.lb_wire.specs.Answer as MadeAnswer
 pub use Rattle.lb_wire.specs.Reply as WireReply
 pub use Rattle.lb_wire.specs.Belongs
 pub use Rattle.lb_chain.specs.Walk
+pub use Rattle.lb_chain.specs.Listed
 pub use Rattle.lb_chain.specs.Edits
 pub use Rattle.lb_chain.specs.Counting
 pub use Rattle.lb_chain.specs.Seen
@@ -45,3 +46,4 @@ pub mod Routes
 pub mod Step
 pub mod Provenance
 pub mod Runs
+pub mod Snapshot

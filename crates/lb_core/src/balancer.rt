@@ -2,6 +2,7 @@
 
 ghost use Rattle.std.specs.Prelude.{◌≡◌, IfOk};
 ghost use Rattle.lb_core.specs.Plain.{empty};
+ghost use Rattle.lb_core.specs.Snapshot.{snapshot_of, IsShown};
 ghost use Rattle.lb_core.specs.Step.{Answers};
 ghost use Rattle.lb_core.specs.Upstream.{ByNumber, IsChecked};
 
@@ -11,10 +12,11 @@ use crate::edit::edit;
 use crate::event::Event;
 use crate::expiry::answer_tick;
 use crate::health::answer_result;
+use crate::plain::Plain;
 use crate::query::answer_query;
 use crate::reply::answer_reply;
 use crate::upstream::Upstream;
-use lb_chain::{Chain, seen_twice};
+use lb_chain::{Chain, seen_have_own_limiters, seen_twice};
 use std::alloc::{AllocError, Global};
 use std::marker::Model;
 
@@ -65,6 +67,19 @@ impl Balancer {
         ensures checks { IsChecked self.now.servers self.now.checks }
     {
         self.upstream.law_of_health();
+    }
+
+    /// A snapshot: all that the answers from now on depend on. Two balancers with equal snapshots answer alike ever after, by the
+    /// law `equal_snapshots_have_equal_runs`. The one error is want of memory.
+    pub fn snapshot(&self, alloc: Global) -> Result<Plain, AllocError>
+        ensures value { IfOk result (λ plain. plain ≡ snapshot_of self.now) }
+        ensures shown { IsShown self.now }
+    {
+        // Laws, which do nothing.
+        self.chain.law_of_rules();
+        seen_have_own_limiters();
+        seen_twice();
+        self.upstream.snapshot(alloc, &self.chain, self.moment)
     }
 
     /// Answers one event. It can lack memory at a query with passes, a spoofed answer or a pool to be answered by, at a rule that

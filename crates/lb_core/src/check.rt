@@ -55,6 +55,17 @@ impl Check {
         }
     }
 
+    /// An equal value.
+    pub fn copy(&self) -> Check
+        ensures { result ≡ self.now }
+    {
+        Check {
+            server: self.server,
+            health: self.health.copy(),
+            must_resolve: self.must_resolve,
+        }
+    }
+
     /// Whether it is that of a server.
     pub(crate) fn is(&self, server: ServerId) -> bool
         ensures { result ≡ is_check server self.now }

@@ -2,9 +2,10 @@
 //! nothing but bring it to the caller's proof.
 
 ghost use Rattle.lb_core.specs.Runs.{CachedAnswersAreKeptReplies, HitsComeFromReplies, OneRunPerMarks, TicksEndTheDue};
+ghost use Rattle.lb_core.specs.Snapshot.{EqualSnapshotsEqualRuns, EqualSnapshotsEqualStates};
 ghost use Rattle.lb_core.specs.Step.{RefusalsChangeNothing, RoutesFollow};
 
-use lb_chain::seen_twice;
+use lb_chain::{listed_alike_seen_alike, seen_twice};
 use lb_wire::{one_message, one_reading, one_reply_reading, one_survey};
 
 /// Where memory was wanting at the same events, a run has one list of answers and one end.
@@ -55,4 +56,18 @@ pub fn hits_come_from_replies()
     ensures { HitsComeFromReplies }
 {
     routes_follow();
+}
+
+/// Equal snapshots are of equal states.
+pub fn equal_snapshots_are_of_equal_states()
+    ensures { EqualSnapshotsEqualStates }
+{
+    listed_alike_seen_alike();
+}
+
+/// Two balancers with equal snapshots have the same runs ever after.
+pub fn equal_snapshots_have_equal_runs()
+    ensures { EqualSnapshotsEqualRuns }
+{
+    equal_snapshots_are_of_equal_states();
 }

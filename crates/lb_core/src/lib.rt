@@ -15,6 +15,7 @@ mod health;
 mod laws;
 mod lifetime;
 mod look;
+mod plain;
 mod query;
 mod reply;
 mod runs;
@@ -29,8 +30,10 @@ pub use check::{Check, CheckSpec};
 pub use command::{Command, StatedAction, StatedRule};
 pub use event::Event;
 pub use laws::{
-    cached_answers_are_kept_replies, hits_come_from_replies, one_run_per_marks,
+    cached_answers_are_kept_replies, equal_snapshots_are_of_equal_states,
+    equal_snapshots_have_equal_runs, hits_come_from_replies, one_run_per_marks,
     refusals_change_nothing, routes_follow, ticks_end_the_due,
 };
+pub use plain::Plain;
 pub use runs::run;
 pub use timeout::Timeout;

@@ -1,7 +1,7 @@
 //! Servers with their health, pools with their caches, and outstanding queries, kept together: each server's count is the
 //! number of its outstanding queries, and its mark is what its health says.
 
-ghost use Rattle.std.specs.Prelude.{◌≡◌, ◌<◌, ℕ, IfOk, IfSome, Some, length, not, option_map};
+ghost use Rattle.std.specs.Prelude.{◌≡◌, ◌<◌, ℕ, IfOk, IfSome, Some, length, map, not, option_map};
 ghost use Rattle.std.specs.List.{filter, position};
 ghost use Rattle.lb_servers.specs.Park.{added_pool, changed_pool, changed_server, lacks};
 ghost use Rattle.lb_cache.specs.Cache.{lacks as lacks_kept};
@@ -10,18 +10,22 @@ ghost use Rattle.lb_servers.specs.Server.{marked};
 ghost use Rattle.lb_table.specs.Place.{at_place};
 ghost use Rattle.lb_table.specs.Table.{due, entry_at};
 ghost use Rattle.lb_cache.specs.Caches.{cache_with, kept_in, looked_in, IsKeepable};
-ghost use Rattle.lb_core.specs.Upstream.{added_checked, attached_cache, detached_cache, expunged_cache, totals_of, backends_of, no_upstreams, on_backends, picked_of, put_into, removed_checked, ByNumber, IsAsked, IsChecked, SendsBy, takes_turns as takes_turns_of, turned_if, is_check};
+ghost use Rattle.lb_core.specs.Upstream.{added_checked, attached_cache, detached_cache, expunged_cache, totals_of, backends_of, no_upstreams, on_backends, picked_of, put_into, removed_checked, server_of, ByNumber, IsAsked, IsChecked, SendsBy, takes_turns as takes_turns_of, turned_if, is_check};
 ghost use Rattle.lb_core.specs.Edit.{server_by};
 ghost use Rattle.lb_core.specs.Expiry.{without_expired};
 ghost use Rattle.lb_core.specs.Health.{result_taken};
+ghost use Rattle.lb_core.specs.Plain.{plain_of};
 ghost use Rattle.lb_core.specs.Reply.{without};
+ghost use Rattle.lb_core.specs.Snapshot.{snapshot_of};
 
 use crate::answer::Totals;
 use crate::check::{Check, CheckSpec};
+use crate::plain::Plain;
 use crate::timeout::Timeout;
 use lb_cache::{AttachedCache, Cache, Caches, Covered, Hit, MaxEntries, MaxTtl, Shards};
+use lb_chain::Chain;
 use lb_health::Changed;
-use lb_servers::{Ident, Mode, Park, ParkFault, Policy, PoolName, ServerSpec};
+use lb_servers::{Ident, Loaded, Mode, Park, ParkFault, Policy, PoolName, Server, ServerSpec};
 use lb_table::{EnterFault, Entry, Table, Waiting};
 use lb_wire::{CacheId, Kept, Key, Lane, PoolId, ServerId};
 use std::alloc::{AllocError, Global};
@@ -327,6 +331,31 @@ impl Upstream {
         }
     }
 
+    /// A snapshot of a chain and of what stands upstream, at a moment. The one error is want of memory.
+    pub(crate) fn snapshot(
+        &self,
+        alloc: Global,
+        chain: &Chain,
+        moment: u64,
+    ) -> Result<Plain, AllocError>
+        ensures { IfOk result (λ plain. plain ≡ snapshot_of (plain_of moment chain.now self.now)) }
+    {
+        Ok(Plain {
+            moment,
+            timeout: self.timeout,
+            next_rule: chain.next_rule(),
+            next_server: self.park.next_server(),
+            next_cache: self.park.next_cache(),
+            rules: chain.list_at(alloc, moment)?,
+            servers: list_servers(alloc, self.park.list(alloc)?.as_slice())?,
+            checks: list_checks(alloc, self.checks.as_slice())?,
+            pools: self.park.pool_list(alloc)?,
+            caches: self.caches.list(alloc)?,
+            outstanding: self.table.list(alloc)?,
+            kept: self.caches.kept_list(alloc)?,
+        })
+    }
+
     /// Gives a pool a policy.
     pub(crate) fn set_policy(&mut self, pool: PoolId, policy: Policy) -> Result<(), ParkFault>
         ensures { (self.new, result) ≡ on_backends self.old (changed_pool (with_policy policy) (backends_of self.old) pool) }
@@ -376,4 +405,26 @@ fn takes_turns(policy: Option<Policy>) -> bool
         Some(Policy::RoundRobin) => true,
         Some(Policy::FirstAvailable | Policy::LeastOutstanding) | None => false,
     }
+}
+
+/// Copies of the servers, in order, without their loads.
+fn list_servers(alloc: Global, loaded: &[Loaded]) -> Result<Vec<Server>, AllocError>
+    ensures { IfOk result (λ list. list.items ≡ map server_of loaded.now) }
+{
+    let mut list = Vec::with_capacity(alloc, loaded.len())?;
+    for one in loaded {
+        list.push(one.server.copy())?;
+    }
+    Ok(list)
+}
+
+/// Copies of the health checks, in order.
+fn list_checks(alloc: Global, checks: &[Check]) -> Result<Vec<Check>, AllocError>
+    ensures { IfOk result (λ list. list.items ≡ checks.now) }
+{
+    let mut list = Vec::with_capacity(alloc, checks.len())?;
+    for check in checks {
+        list.push(check.copy())?;
+    }
+    Ok(list)
 }
