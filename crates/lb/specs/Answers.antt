@@ -29,8 +29,9 @@ use Rattle.lb_core.specs.declared.answer.LocalReason.TheVariants as locals
 use Rattle.lb_core.specs.declared.answer.IgnoreReason.{IgnoreReason}
 use Rattle.lb_core.specs.declared.answer.IgnoreReason.TheVariants as ignores
 use Rattle.lb_core.specs.declared.answer.Note.{Note}
-use Rattle.lb_core.specs.declared.answer.Note.TheVariants.{RuleAdded, RuleRemoved, RuleMoved, ServerAdded, ServerRemoved, ServerMode, PoolAdded, PoolPolicy, TimeoutSet, ServerUp, ServerDown}
-use Rattle.lb_core.specs.declared.answer.EditFault.TheVariants.{Rules, Servers}
+use Rattle.lb_core.specs.declared.answer.Note.TheVariants.{RuleAdded, RuleRemoved, RuleMoved, ServerAdded, ServerRemoved, ServerMode, PoolAdded, PoolPolicy, CacheAttached, CacheDetached, Expunged, TimeoutSet, Shown, ServerUp, ServerDown}
+use Rattle.lb_core.specs.declared.answer.Totals.{Totals}
+use Rattle.lb_core.specs.declared.answer.EditFault.TheVariants.{Rules, Servers, NoCache}
 
 -- octets as digits in lower case, and none as a dash
 abbrev pub hex_text : List ℕ → List ℕ
@@ -48,6 +49,7 @@ abbrev pub local_text : LocalReason → List ℕ
 local_text locals.Malformed = codes "malformed"
 local_text locals.Transfer = codes "transfer"
 local_text (locals.Rule id) = codes "rule"
+local_text locals.Hit = codes "hit"
 local_text locals.NoServer = codes "noserver"
 local_text locals.LaneFull = codes "lanefull"
 
@@ -100,9 +102,13 @@ deliver_text origin bytes kept = codes "deliver " ++ decimal origin.slot ++ code
 abbrev pub expired_text : Origin → List ℕ → List ℕ
 expired_text origin bytes = codes "expired " ++ decimal origin.slot ++ codes " " ++ hex_text bytes
 
--- what was done with the rule, or became of the server, of a number
+-- what was done with the rule or the cache, or became of the server, of a number
 abbrev pub numbered_text : List ℕ → ℕ → List ℕ → List ℕ
 numbered_text what id done = codes "edited " ++ what ++ codes " " ++ decimal id ++ codes " " ++ done
+
+-- how much there is of each part: the rules, the servers, the pools, the caches, the outstanding queries and the kept replies
+abbrev pub totals_text : Totals → List ℕ
+totals_text totals = codes "edited rules " ++ decimal totals.rules ++ codes " servers " ++ decimal totals.servers ++ codes " pools " ++ decimal totals.pools ++ codes " caches " ++ decimal totals.caches ++ codes " outstanding " ++ decimal totals.outstanding ++ codes " kept " ++ decimal totals.kept
 
 -- a command that was carried out, or a server that changed
 abbrev pub edited_text : Note → List ℕ
@@ -114,7 +120,11 @@ edited_text (ServerRemoved id) = numbered_text (codes "server") id.0 (codes "rem
 edited_text (ServerMode id mode) = codes "edited server " ++ decimal id.0 ++ codes " mode " ++ mode_text mode
 edited_text (PoolAdded name) = codes "edited pool " ++ pool_text name ++ codes " added"
 edited_text (PoolPolicy name policy) = codes "edited pool " ++ pool_text name ++ codes " policy " ++ policy_text policy
+edited_text (CacheAttached id) = numbered_text (codes "cache") id.0 (codes "attached")
+edited_text (CacheDetached id) = numbered_text (codes "cache") id.0 (codes "detached")
+edited_text (Expunged n) = codes "edited expunged " ++ decimal n
 edited_text (TimeoutSet timeout) = codes "edited timeout " ++ decimal timeout
+edited_text (Shown totals) = totals_text totals
 edited_text (ServerUp id) = numbered_text (codes "server") id.0 (codes "up")
 edited_text (ServerDown id) = numbered_text (codes "server") id.0 (codes "down")
 
@@ -148,6 +158,7 @@ line_of (Ignored reason) = codes "ignored " ++ ignored_text reason
 line_of (Edited note) = edited_text note
 line_of (Refused (Rules fault)) = rules_text fault
 line_of (Refused (Servers fault)) = servers_text fault
+line_of (Refused NoCache) = codes "refused cache 1 NoCache"
 line_of (NoMemory bytes) = codes "nomemory " ++ hex_text bytes
 
 -- each answer's line and a line feed, in order

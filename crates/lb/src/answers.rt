@@ -1,10 +1,10 @@
 //! Writing answers as lines.
 
 ghost use Rattle.std.specs.Prelude.{◌≡◌, IfOk, string_bytes};
-ghost use Rattle.lb.specs.Answers.{deliver_text, drop_text, edited_text, expired_text, forward_text, hex_text, ignored_text, kept_text, kind_text, line_of, local_text, mode_text, numbered_text, policy_text, pool_text, rules_text, servers_text};
+ghost use Rattle.lb.specs.Answers.{deliver_text, drop_text, edited_text, expired_text, forward_text, hex_text, ignored_text, kept_text, kind_text, line_of, local_text, mode_text, numbered_text, policy_text, pool_text, rules_text, servers_text, totals_text};
 
 use lb_chain::ChainFault;
-use lb_core::{Answer, DropReason, EditFault, IgnoreReason, LocalReason, Note};
+use lb_core::{Answer, DropReason, EditFault, IgnoreReason, LocalReason, Note, Totals};
 use lb_servers::{Mode, ParkFault, Policy, PoolName};
 use lb_wire::{Kept, Kind, Lane, Octets, Origin, ServerId};
 use std::alloc::{AllocError, Global};
@@ -34,6 +34,7 @@ pub fn answer_line(alloc: Global, answer: &Answer) -> Result<String, AllocError>
         Answer::Edited(note) => edited_line(alloc, note),
         Answer::Refused(EditFault::Rules(fault)) => String::from_str(alloc, rules_line(*fault)),
         Answer::Refused(EditFault::Servers(fault)) => String::from_str(alloc, servers_line(*fault)),
+        Answer::Refused(EditFault::NoCache) => String::from_str(alloc, "refused cache 1 NoCache"),
         Answer::NoMemory(bytes) => {
             let bytes = hex_of(alloc, bytes)?;
             format!(in alloc; "nomemory {bytes}")
@@ -105,20 +106,41 @@ fn edited_line(alloc: Global, note: &Note) -> Result<String, AllocError>
             let policy = policy_word(*policy);
             format!(in alloc; "edited pool {name} policy {policy}")
         }
+        Note::CacheAttached(id) => numbered_line(alloc, "cache", id.0, "attached"),
+        Note::CacheDetached(id) => numbered_line(alloc, "cache", id.0, "detached"),
+        Note::Expunged(number) => format!(in alloc; "edited expunged {number}"),
         Note::TimeoutSet(timeout) => {
             let millis = timeout.as_millis();
             format!(in alloc; "edited timeout {millis}")
         }
+        Note::Shown(totals) => totals_line(alloc, totals),
         Note::ServerUp(id) => numbered_line(alloc, "server", id.0, "up"),
         Note::ServerDown(id) => numbered_line(alloc, "server", id.0, "down"),
     }
 }
 
-/// The line that tells what was done with the rule, or became of the server, of a number.
+/// The line that tells what was done with the rule or the cache, or became of the server, of a number.
 fn numbered_line(alloc: Global, what: &str, id: u64, done: &str) -> Result<String, AllocError>
     ensures { IfOk result (λ text. string_bytes text ≡ numbered_text what.now id done.now) }
 {
     format!(in alloc; "edited {what} {id} {done}")
+}
+
+/// The line that tells how much there is of each part.
+fn totals_line(alloc: Global, totals: &Totals) -> Result<String, AllocError>
+    ensures { IfOk result (λ text. string_bytes text ≡ totals_text totals.now) }
+{
+    let Totals {
+        rules,
+        servers,
+        pools,
+        caches,
+        outstanding,
+        kept,
+    } = *totals;
+    format!(in alloc;
+        "edited rules {rules} servers {servers} pools {pools} caches {caches} outstanding {outstanding} kept {kept}"
+    )
 }
 
 /// The line of a refusal by the list of rules: its number and its name.
@@ -168,6 +190,7 @@ fn local_word(reason: LocalReason) -> &'static str
         LocalReason::Malformed => "malformed",
         LocalReason::Transfer => "transfer",
         LocalReason::Rule(_) => "rule",
+        LocalReason::Hit => "hit",
         LocalReason::NoServer => "noserver",
         LocalReason::LaneFull => "lanefull",
     }

@@ -4,11 +4,13 @@ use crate::rows::{REFUSED_BY_TYPE, ROWS};
 use crate::{answer_line, replay};
 use lb_core::{
     Answer, Balancer, Command, DropReason, EditFault, Event, IgnoreReason, LocalReason, Note,
-    StatedAction, StatedRule, Timeout, run,
+    StatedAction, StatedRule, Timeout, Totals, run,
 };
 use lb_servers::{Ident, Mode, ParkFault, Policy, PoolName};
 use lb_terms::{Term, TermFault};
-use lb_wire::{Addr, Kept, Kind, Lane, Octets, Origin, Rcode, RecordType, RuleId, ServerId};
+use lb_wire::{
+    Addr, CacheId, Kept, Kind, Lane, Octets, Origin, Rcode, RecordType, RuleId, ServerId,
+};
 use std::alloc::{AllocError, Global};
 use std::io;
 use std::io::{Cursor, ErrorKind, Read, Write};
@@ -190,6 +192,8 @@ fn answers_to_messages_have_their_lines(rt: HostRuntime) -> Result<(), Fail> {
     )?;
     let full = Answer::Local(octets(&rt)?, LocalReason::LaneFull);
     expect_line(&rt, &full, "local lanefull 0fa0")?;
+    let hit = Answer::Local(octets(&rt)?, LocalReason::Hit);
+    expect_line(&rt, &hit, "local hit 0fa0")?;
     for (server, kind, id, line) in [
         (1, Kind::Datagram, 0, "forward 1 udp 0 0fa0"),
         (
@@ -226,6 +230,20 @@ fn answers_to_messages_have_their_lines(rt: HostRuntime) -> Result<(), Fail> {
     Ok(())
 }
 
+/// How much there is of each part: six different numbers, the last beyond 64 bits.
+const TOTALS: Totals = Totals {
+    rules: 4096,
+    servers: 256,
+    pools: 64,
+    caches: 5,
+    outstanding: 0,
+    kept: 18_446_744_073_709_551_616,
+};
+
+/// The line of `TOTALS`.
+const SHOWN: &str =
+    "edited rules 4096 servers 256 pools 64 caches 5 outstanding 0 kept 18446744073709551616";
+
 #[test]
 fn answers_to_edits_have_their_lines(rt: HostRuntime) -> Result<(), Fail> {
     let named = Ident::parse("cache-1").map_or(PoolName::Default, PoolName::Named);
@@ -248,6 +266,10 @@ fn answers_to_edits_have_their_lines(rt: HostRuntime) -> Result<(), Fail> {
         (Note::ServerUp(ServerId(2)), "edited server 2 up"),
         (Note::ServerDown(ServerId(2)), "edited server 2 down"),
         (Note::TimeoutSet(timeout), "edited timeout 500"),
+        (Note::CacheAttached(CacheId(3)), "edited cache 3 attached"),
+        (Note::CacheDetached(CacheId(3)), "edited cache 3 detached"),
+        (Note::Expunged(1200), "edited expunged 1200"),
+        (Note::Shown(TOTALS), SHOWN),
         (Note::PoolAdded(named), "edited pool cache-1 added"),
         (
             Note::PoolPolicy(PoolName::Default, Policy::FirstAvailable),
@@ -274,6 +296,8 @@ fn answers_to_edits_have_their_lines(rt: HostRuntime) -> Result<(), Fail> {
     ] {
         expect_line(&rt, &Answer::Refused(EditFault::Servers(fault)), line)?;
     }
+    let no_cache = Answer::Refused(EditFault::NoCache);
+    expect_line(&rt, &no_cache, "refused cache 1 NoCache")?;
     Ok(())
 }
 
