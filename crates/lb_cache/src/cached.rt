@@ -1,5 +1,7 @@
 //! What contracts see of caches: those that are attached, and what they keep.
 
+ghost use Rattle.std.specs.Prelude.{◌≡◌};
+
 use crate::limits::{MaxEntries, MaxTtl};
 use crate::reply::CachedReply;
 use lb_name::Name;
@@ -31,4 +33,17 @@ pub enum Covered {
     Suffix(Name),
     /// Every reply.
     All,
+}
+
+impl Covered {
+    /// An equal value. It takes no memory.
+    pub fn copy(&self) -> Covered
+        ensures { result ≡ self.now }
+    {
+        match self {
+            Covered::Name(name, qtype) => Covered::Name(name.copy(), *qtype),
+            Covered::Suffix(name) => Covered::Suffix(name.copy()),
+            Covered::All => Covered::All,
+        }
+    }
 }

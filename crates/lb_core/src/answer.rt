@@ -1,9 +1,12 @@
 //! What the balancer answers.
 
+ghost use Rattle.std.specs.Prelude.{◌≡◌, IfOk};
+
 use crate::timeout::Timeout;
 use lb_chain::ChainFault;
 use lb_servers::{Mode, ParkFault, Policy, PoolName};
 use lb_wire::{CacheId, Kept, Lane, Octets, Origin, RuleId, ServerId};
+use std::alloc::{AllocError, Global};
 use thiserror::Error;
 
 /// The answer to one event.
@@ -29,6 +32,30 @@ pub enum Answer {
     Refused(EditFault),
     /// Memory was wanting for a query: its answer is ServFail, in these octets, and nothing but the moment changed.
     NoMemory(Octets),
+}
+
+impl Answer {
+    /// An equal answer. The one error is want of memory.
+    pub fn copy(&self, alloc: Global) -> Result<Answer, AllocError>
+        ensures { IfOk result (λ copy. copy ≡ self.now) }
+    {
+        Ok(match self {
+            Answer::Dropped(why) => Answer::Dropped(*why),
+            Answer::Local(bytes, why) => Answer::Local(bytes.copy(alloc)?, *why),
+            Answer::Forward(server, lane, id, bytes) => {
+                Answer::Forward(*server, *lane, *id, bytes.copy(alloc)?)
+            }
+            Answer::Deliver(origin, bytes, kept) => {
+                Answer::Deliver(*origin, bytes.copy(alloc)?, *kept)
+            }
+            Answer::Expired(origin, bytes) => Answer::Expired(*origin, bytes.copy(alloc)?),
+            Answer::Quiet => Answer::Quiet,
+            Answer::Ignored(why) => Answer::Ignored(*why),
+            Answer::Edited(note) => Answer::Edited(note.copy()),
+            Answer::Refused(fault) => Answer::Refused(*fault),
+            Answer::NoMemory(bytes) => Answer::NoMemory(bytes.copy(alloc)?),
+        })
+    }
 }
 
 /// Why a query is dropped.
@@ -107,6 +134,31 @@ pub enum Note {
     ServerUp(ServerId),
     /// The health of the server with this number took it down.
     ServerDown(ServerId),
+}
+
+impl Note {
+    /// An equal note. It takes no memory.
+    pub fn copy(&self) -> Note
+        ensures { result ≡ self.now }
+    {
+        match self {
+            Note::RuleAdded(id) => Note::RuleAdded(*id),
+            Note::RuleRemoved(id) => Note::RuleRemoved(*id),
+            Note::RuleMoved(id) => Note::RuleMoved(*id),
+            Note::ServerAdded(id) => Note::ServerAdded(*id),
+            Note::ServerRemoved(id) => Note::ServerRemoved(*id),
+            Note::ServerMode(id, mode) => Note::ServerMode(*id, *mode),
+            Note::PoolAdded(name) => Note::PoolAdded(name.copy()),
+            Note::PoolPolicy(name, policy) => Note::PoolPolicy(name.copy(), *policy),
+            Note::CacheAttached(id) => Note::CacheAttached(*id),
+            Note::CacheDetached(id) => Note::CacheDetached(*id),
+            Note::Expunged(count) => Note::Expunged(*count),
+            Note::TimeoutSet(timeout) => Note::TimeoutSet(*timeout),
+            Note::Shown(totals) => Note::Shown(*totals),
+            Note::ServerUp(id) => Note::ServerUp(*id),
+            Note::ServerDown(id) => Note::ServerDown(*id),
+        }
+    }
 }
 
 /// How much there is of each part.

@@ -1,5 +1,7 @@
 //! What an operator tells the balancer to do.
 
+ghost use Rattle.std.specs.Prelude.{◌≡◌, IfOk};
+
 use crate::check::CheckSpec;
 use crate::timeout::Timeout;
 use lb_cache::{Covered, MaxEntries, MaxTtl, Shards};
@@ -7,6 +9,7 @@ use lb_chain::Addrs;
 use lb_servers::{Ident, Mode, Policy, PoolName, ServerSpec};
 use lb_terms::CheckedTerm;
 use lb_wire::{Rcode, RuleId};
+use std::alloc::{AllocError, Global};
 
 /// An operator's command. Servers and pools are named by name; a name that is not there is refused before all else.
 #[derive(Debug, Drop)]
@@ -59,4 +62,60 @@ pub enum StatedAction {
     None,
     NoRecurse,
     SkipCache,
+}
+
+impl Command {
+    /// An equal command. The one error is want of memory.
+    pub fn copy(&self, alloc: Global) -> Result<Command, AllocError>
+        ensures { IfOk result (λ copy. copy ≡ self.now) }
+    {
+        Ok(match self {
+            Command::RuleAdd(place, rule) => Command::RuleAdd(*place, rule.copy(alloc)?),
+            Command::RuleRemove(id) => Command::RuleRemove(*id),
+            Command::RuleMove(id, place) => Command::RuleMove(*id, *place),
+            Command::ServerAdd(spec, check) => Command::ServerAdd(spec.copy(alloc)?, *check),
+            Command::ServerRemove(name) => Command::ServerRemove(name.copy()),
+            Command::ServerMode(name, mode) => Command::ServerMode(name.copy(), *mode),
+            Command::PoolAdd(name) => Command::PoolAdd(name.copy()),
+            Command::PoolPolicy(name, policy) => Command::PoolPolicy(name.copy(), *policy),
+            Command::CacheAttach(name, max, shards, max_ttl) => {
+                Command::CacheAttach(name.copy(), *max, *shards, *max_ttl)
+            }
+            Command::CacheDetach(name) => Command::CacheDetach(name.copy()),
+            Command::Expunge(name, covered) => Command::Expunge(name.copy(), covered.copy()),
+            Command::SetTimeout(timeout) => Command::SetTimeout(*timeout),
+            Command::Show => Command::Show,
+        })
+    }
+}
+
+impl StatedRule {
+    /// An equal rule. The one error is want of memory.
+    pub fn copy(&self, alloc: Global) -> Result<StatedRule, AllocError>
+        ensures { IfOk result (λ copy. copy ≡ self.now) }
+    {
+        Ok(StatedRule {
+            term: self.term.copy(alloc)?,
+            action: self.action.copy(),
+        })
+    }
+}
+
+impl StatedAction {
+    /// An equal action. It takes no memory.
+    pub fn copy(&self) -> StatedAction
+        ensures { result ≡ self.now }
+    {
+        match self {
+            StatedAction::Allow => StatedAction::Allow,
+            StatedAction::Drop => StatedAction::Drop,
+            StatedAction::Rcode(rcode) => StatedAction::Rcode(*rcode),
+            StatedAction::Pool(name) => StatedAction::Pool(name.copy()),
+            StatedAction::Tc => StatedAction::Tc,
+            StatedAction::Spoof(addrs) => StatedAction::Spoof(*addrs),
+            StatedAction::None => StatedAction::None,
+            StatedAction::NoRecurse => StatedAction::NoRecurse,
+            StatedAction::SkipCache => StatedAction::SkipCache,
+        }
+    }
 }

@@ -1,7 +1,10 @@
 //! What the balancer is told.
 
+ghost use Rattle.std.specs.Prelude.{◌≡◌, IfOk};
+
 use crate::command::Command;
 use lb_wire::{Kind, Lane, Octets, Origin, ServerId};
+use std::alloc::{AllocError, Global};
 
 /// One event. Moments are in milliseconds, from any start; the balancer's moment is the latest that it was told.
 #[derive(Debug, Drop)]
@@ -40,4 +43,48 @@ pub enum Event {
         now: u64,
         command: Command,
     },
+}
+
+impl Event {
+    /// An equal event. The one error is want of memory.
+    pub fn copy(&self, alloc: Global) -> Result<Event, AllocError>
+        ensures { IfOk result (λ copy. copy ≡ self.now) }
+    {
+        Ok(match self {
+            Event::Query {
+                now,
+                origin,
+                kind,
+                word,
+                bytes,
+            } => Event::Query {
+                now: *now,
+                origin: *origin,
+                kind: *kind,
+                word: *word,
+                bytes: bytes.copy(alloc)?,
+            },
+            Event::Reply {
+                now,
+                server,
+                lane,
+                bytes,
+            } => Event::Reply {
+                now: *now,
+                server: *server,
+                lane: *lane,
+                bytes: bytes.copy(alloc)?,
+            },
+            Event::Tick { now } => Event::Tick { now: *now },
+            Event::HealthResult { now, server, ok } => Event::HealthResult {
+                now: *now,
+                server: *server,
+                ok: *ok,
+            },
+            Event::Edit { now, command } => Event::Edit {
+                now: *now,
+                command: command.copy(alloc)?,
+            },
+        })
+    }
 }

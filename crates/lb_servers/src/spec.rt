@@ -1,13 +1,13 @@
 //! What an operator states of a new server.
 
-ghost use Rattle.std.specs.Prelude.{◌≡◌, ◌≤◌, [], nat_le, length, Some, None, if◌then◌else◌};
+ghost use Rattle.std.specs.Prelude.{◌≡◌, ◌≤◌, [], nat_le, length, IfOk, Some, None, if◌then◌else◌};
 ghost use Rattle.lb_servers.specs.Spec.{lacks_pool as lacks, new_server as server_of, pools_named as numbers_named, stated_pools as stated};
 
 use crate::ident::Ident;
 use crate::pool::{Pool, PoolName, has_pool, pool_named};
 use crate::server::{Loaded, MAX_POOLS_OF_SERVER, Mode, PoolIds, Server};
 use lb_wire::{Addr, ServerId};
-use std::alloc::Global;
+use std::alloc::{AllocError, Global};
 use std::marker::Model;
 
 /// The names of at most 8 pools, a repeated one counted. A contract sees them as the list.
@@ -53,6 +53,26 @@ impl PoolNames {
     {
         self.items.as_slice()
     }
+
+    /// Equal names. The one error is want of memory.
+    pub fn copy(&self, alloc: Global) -> Result<PoolNames, AllocError>
+        ensures { IfOk result (λ copy. copy ≡ self.now) }
+    {
+        Ok(PoolNames {
+            items: copied(alloc, self.items.as_slice())?,
+        })
+    }
+}
+
+/// Copies of the names, in order.
+fn copied(alloc: Global, names: &[PoolName]) -> Result<Vec<PoolName>, AllocError>
+    ensures { IfOk result (λ copies. copies.items ≡ names.now) }
+{
+    let mut copies = Vec::with_capacity(alloc, names.len())?;
+    for name in names {
+        copies.push(name.copy())?;
+    }
+    Ok(copies)
 }
 
 /// What an operator states of a new server.
@@ -80,6 +100,19 @@ impl ServerSpec {
             order: 1,
             pools: PoolNames::none(alloc),
         }
+    }
+
+    /// An equal value. The one error is want of memory.
+    pub fn copy(&self, alloc: Global) -> Result<ServerSpec, AllocError>
+        ensures { IfOk result (λ copy. copy ≡ self.now) }
+    {
+        Ok(ServerSpec {
+            name: self.name.copy(),
+            addr: self.addr,
+            port: self.port,
+            order: self.order,
+            pools: self.pools.copy(alloc)?,
+        })
     }
 }
 
