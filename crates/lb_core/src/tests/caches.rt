@@ -1,10 +1,10 @@
 //! Queries that caches answer, and replies that they keep.
 
 use super::messages::Message;
-use super::told::{Action, Query, STREAM, Selector, Told};
-use super::wanted::{TCP, UDP, Wanted};
-use super::{Line, play};
-use crate::{IgnoreReason, Totals};
+use super::told::{Action, PLAIN, Query, STREAM, Selector, Told};
+use super::wanted::{NO_SERVER, TCP, UDP, Wanted};
+use super::{Line, play, play_on, step};
+use crate::{Balancer, IgnoreReason, Totals};
 use Selector::All;
 use Told::{
     Ask, AskAt, AskOfAt, CacheAttach, CacheDetach, ExpungeAll, ExpungeName, ExpungeSuffix, ReplyAt,
@@ -295,4 +295,40 @@ const MISMATCH: Wanted = Ignored(IgnoreReason::Mismatch);
 #[test]
 fn cut(rt: HostRuntime) -> Result<(), Fail> {
     play(&rt, CUT)
+}
+
+const ONE_REPLY: &[Line] = &[
+    (Server("s1", 1), ServerAdded(1)),
+    (CacheAttach(100, 4), CacheAttached(1)),
+    (AskAt(1000), SENT),
+    (ReplyAt(2000, Message::Reply), Kept(Message::Delivered)),
+];
+
+/// What a snapshot tells after a reply was kept.
+#[test]
+fn snapshot(rt: HostRuntime) -> Result<(), Fail> {
+    let mut balancer = Balancer::new(rt.alloc())?;
+    play_on(&rt, &mut balancer, ONE_REPLY)?;
+    let plain = balancer.snapshot(rt.alloc())?;
+    assert!(rt; plain.moment() == 2000 && plain.timeout() == 2000);
+    assert!(rt; plain.next_rule() == 1 && plain.next_server() == 2 && plain.next_cache() == 2);
+    assert!(rt;
+        plain.rules().is_empty() && plain.servers().len() == 1 && plain.checks().len() == 1
+    );
+    assert!(rt; plain.pools().len() == 1 && plain.caches().len() == 1);
+    assert!(rt; plain.outstanding().is_empty());
+    assert!(rt; matches!(plain.kept(), [kept] if kept.reply.life == 300));
+    Ok(())
+}
+
+/// An event and an answer are copied.
+#[test]
+fn copies(rt: HostRuntime) -> Result<(), Fail> {
+    let mut balancer = Balancer::new(rt.alloc())?;
+    let event = Ask(PLAIN).event(rt.alloc())?;
+    let answer = step(&mut balancer, event.copy(rt.alloc())?);
+    let again = step(&mut balancer, event);
+    let copy = answer.copy(rt.alloc())?;
+    assert!(rt; NO_SERVER.is(&copy) && NO_SERVER.is(&again));
+    Ok(())
 }
