@@ -1,4 +1,4 @@
--- shared by several files: Plain, Provenance, Reading, Routes, Step
+-- shared by several files: Plain, Provenance, Reading, Routes, Snapshot, Step
 pub use Rattle.lb_name.specs.Name
 pub use Rattle.lb_wire.specs.BigEndian
 pub use Rattle.lb_wire.specs.Numbers
