@@ -192,8 +192,6 @@ fn answers_to_messages_have_their_lines(rt: HostRuntime) -> Result<(), Fail> {
     )?;
     let full = Answer::Local(octets(&rt)?, LocalReason::LaneFull);
     expect_line(&rt, &full, "local lanefull 0fa0")?;
-    let hit = Answer::Local(octets(&rt)?, LocalReason::Hit);
-    expect_line(&rt, &hit, "local hit 0fa0")?;
     for (server, kind, id, line) in [
         (1, Kind::Datagram, 0, "forward 1 udp 0 0fa0"),
         (
@@ -228,6 +226,12 @@ fn answers_to_messages_have_their_lines(rt: HostRuntime) -> Result<(), Fail> {
     let expired = Answer::Expired(ORIGIN, octets(&rt)?);
     expect_line(&rt, &expired, "expired 7 0fa0")?;
     Ok(())
+}
+
+#[test]
+fn a_hit_has_its_line(rt: HostRuntime) -> Result<(), Fail> {
+    let hit = Answer::Local(octets(&rt)?, LocalReason::Hit);
+    expect_line(&rt, &hit, "local hit 0fa0")
 }
 
 /// How much there is of each part: six different numbers, the last beyond 64 bits.
