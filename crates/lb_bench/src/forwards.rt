@@ -49,24 +49,27 @@ pub(crate) fn time_forwards(rt: &HostRuntime) -> io::Result<()> {
 
 /// A balancer with one server, to which so many queries but one were sent.
 fn waiting(alloc: Global, outstanding: u16) -> Result<Balancer, AllocError> {
-    let mut balancer = Balancer::new(alloc)?;
-    let Some(name) = Ident::parse("s1") else {
-        return Err(AllocError);
-    };
-    let spec = ServerSpec::new(alloc, name, Addr::V4([127, 0, 0, 1]), 5301);
-    let command = Command::ServerAdd(spec, CheckSpec::default());
-    if !matches!(
-        balancer.step(Event::Edit { now: 0, command }),
-        Answer::Edited(_)
-    ) {
-        return Err(AllocError);
-    }
+    let mut balancer = with_server(alloc)?;
     for word in 1..outstanding {
         if !matches!(balancer.step(query(alloc, word)?), Answer::Forward(..)) {
             return Err(AllocError);
         }
     }
     Ok(balancer)
+}
+
+/// A balancer with one server.
+pub(crate) fn with_server(alloc: Global) -> Result<Balancer, AllocError> {
+    let mut balancer = Balancer::new(alloc)?;
+    let Some(name) = Ident::parse("s1") else {
+        return Err(AllocError);
+    };
+    let spec = ServerSpec::new(alloc, name, Addr::V4([127, 0, 0, 1]), 5301);
+    let command = Command::ServerAdd(spec, CheckSpec::default());
+    match balancer.step(Event::Edit { now: 0, command }) {
+        Answer::Edited(_) => Ok(balancer),
+        _ => Err(AllocError),
+    }
 }
 
 /// The query, with the word that it comes with.
