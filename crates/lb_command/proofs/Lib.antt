@@ -1,0 +1,4 @@
+pub mod Texts
+pub mod Lexing
+pub mod Lists
+pub mod Lookups

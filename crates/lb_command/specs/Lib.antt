@@ -1,0 +1,10 @@
+-- shared by several files: Line, Reading
+pub mod Fault
+pub mod Line
+pub mod Reading
+pub mod Values
+pub mod Terms
+pub mod Actions
+pub mod Commands
+pub mod Events
+pub mod Setup

@@ -1,0 +1,159 @@
+//! Reading the options of a new server.
+
+ghost use Rattle.std.specs.Prelude.{◌≡◌, ◌≤◌, ◌<◌, [], length};
+ghost use Rattle.std.specs.Int.NonZero.{non_zero_u8_get};
+ghost use Rattle.lb_command.specs.declared.fault.FaultKind.TheVariants.{BadNumber};
+ghost use Rattle.lb_command.specs.Commands.{behind_option, fall_at, non_zero, nothing_stated, option_words, options_at, order_at, pool_option_at, rise_at};
+ghost use Rattle.lb_command.specs.Reading.{Reads, due};
+ghost use Rattle.lb_command.specs.Values.{in_range, looked_up};
+
+use crate::fault::{FaultKind, Unread};
+use crate::parts::{number_in, pool};
+use crate::values::look_up;
+use crate::words::Words;
+use lb_servers::PoolName;
+use std::alloc::Global;
+use std::marker::Model;
+
+/// The most pools of a server, a repeated one counted.
+const MAX_POOLS: usize = 8;
+
+/// The most words of a line.
+const MAX_WORDS: usize = 300_000;
+
+/// The word that begins an option of a new server.
+#[derive(Clone, Copy, Debug, PartialEq, Eq)]
+pub(crate) enum ServerOption {
+    Order,
+    Pool,
+    Fall,
+    Rise,
+    Resolve,
+}
+
+/// The words that begin options.
+const OPTIONS: [(ServerOption, &str); 5] = [
+    (ServerOption::Order, "order"),
+    (ServerOption::Pool, "pool"),
+    (ServerOption::Fall, "fall"),
+    (ServerOption::Rise, "rise"),
+    (ServerOption::Resolve, "resolve"),
+];
+
+/// What a word begins.
+fn option_of(text: &[u8]) -> Option<ServerOption>
+    ensures { result ≡ looked_up option_words text.now }
+{
+    look_up(OPTIONS.as_slice(), text)
+}
+
+/// What the options of a new server say.
+#[derive(Debug, Drop)]
+pub(crate) struct Options {
+    pub(crate) order: u16,
+    pub(crate) pools: Vec<PoolName>,
+    /// 1 to 255.
+    pub(crate) fall: u8,
+    /// 1 to 255.
+    pub(crate) rise: u8,
+    pub(crate) resolve: bool,
+}
+
+impl Model for Options {
+    ghost use Rattle.std.specs.Prelude.{◌≤◌, length};
+    ghost use Rattle.lb_command.specs.Commands.{Stated};
+
+    ghost Value = { Stated };
+
+    ghost view = { λ o. record { order = o.order; pools = o.pools.items; fall = o.fall; rise = o.rise; resolve = o.resolve } };
+
+    ghost invariant = { λ o. (1 ≤ o.fall) × (1 ≤ o.rise) × (length o.pools.items ≤ 8) };
+}
+
+impl Options {
+    /// Those of a server where none is given. It takes no memory.
+    fn new(alloc: Global) -> Options
+        ensures { result ≡ nothing_stated }
+    {
+        Options {
+            order: 1,
+            pools: Vec::new(alloc),
+            fall: 1,
+            rise: 1,
+            resolve: false,
+        }
+    }
+
+    /// Takes the number behind `order`.
+    #[tactic(auto, unfolding(crate::specs::Commands::order_at))]
+    fn read_order(self, words: &mut Words<'_>) -> Result<Options, Unread>
+        ensures { Reads (λ o. o) result words.new (order_at self words.old) }
+    {
+        let order = words.number(65_535)? as u16;
+        Ok(Options { order, ..self })
+    }
+
+    /// Takes the name behind `pool`.
+    #[tactic(auto, unfolding(crate::specs::Commands::pool_option_at))]
+    fn read_pool(self, words: &mut Words<'_>) -> Result<Options, Unread>
+        ensures { Reads (λ o. o) result words.new (pool_option_at self words.old) }
+    {
+        let token = words.peek();
+        let pool = pool(words)?;
+        let mut pools = self.pools;
+        if pools.len() >= MAX_POOLS {
+            return Err(token.is_too_many());
+        }
+        pools.push(pool)?;
+        Ok(Options { pools, ..self })
+    }
+
+    /// Takes the number behind `fall`.
+    #[tactic(auto, unfolding(crate::specs::Commands::fall_at))]
+    fn read_fall(self, words: &mut Words<'_>) -> Result<Options, Unread>
+        ensures { Reads (λ o. o) result words.new (fall_at self words.old) }
+    {
+        let fall = number_in(words, 1, 255)? as u8;
+        Ok(Options { fall, ..self })
+    }
+
+    /// Takes the number behind `rise`.
+    #[tactic(auto, unfolding(crate::specs::Commands::rise_at))]
+    fn read_rise(self, words: &mut Words<'_>) -> Result<Options, Unread>
+        ensures { Reads (λ o. o) result words.new (rise_at self words.old) }
+    {
+        let rise = number_in(words, 1, 255)? as u8;
+        Ok(Options { rise, ..self })
+    }
+
+    /// Takes what stands behind the word that begins an option.
+    fn read_option(self, option: ServerOption, words: &mut Words<'_>) -> Result<Options, Unread>
+        ensures { Reads (λ o. o) result words.new (behind_option option self words.old) }
+    {
+        match option {
+            ServerOption::Order => self.read_order(words),
+            ServerOption::Pool => self.read_pool(words),
+            ServerOption::Fall => self.read_fall(words),
+            ServerOption::Rise => self.read_rise(words),
+            ServerOption::Resolve => Ok(Options {
+                resolve: true,
+                ..self
+            }),
+        }
+    }
+}
+
+/// Takes the options of a new server, as many as there are. Of one that is repeated the last counts, but for `pool`.
+pub(crate) fn server_options(alloc: Global, words: &mut Words<'_>) -> Result<Options, Unread>
+    ensures { Reads (λ o. o) result words.new (options_at 300000 nothing_stated words.old) }
+{
+    let mut options = Options::new(alloc);
+    'options: for _ in 0..MAX_WORDS {
+        let Some(option) = option_of(words.peek().text) else {
+            return Ok(options);
+        };
+        let _ = words.next();
+        options = options.read_option(option, words)?;
+    }
+    Ok(options)
+}

@@ -1,0 +1,229 @@
+//! Parts of a line that are one word.
+
+ghost use Rattle.std.specs.Prelude.{◌≡◌, ◌≤◌, IfOk, Some, None};
+ghost use Rattle.lb_command.specs.declared.fault.FaultKind.TheVariants.{BadAddress, BadHex, BadName, BadNumber, UnknownWord};
+ghost use Rattle.lb_command.specs.Reading.{Reads, due, optional};
+ghost use Rattle.lb_command.specs.Terms.{type_at};
+ghost use Rattle.lb_command.specs.Values.{addr_of, hex_of, ident_of, in_range, kind_of, mask_of, mode_of, name_of, number_of, outcome_of, policy_of, pool_of, protocol_of, rcode_of, word_number};
+
+use crate::fault::{FaultKind, Unread};
+use crate::setup::Protocol;
+use crate::values::{addr_of, entries_of, hex_of, ident_of, in_range, kind_of, mask_of, max_ttl_of, mode_of, name_of, outcome_of, policy_of, pool_of, protocol_of, shards_of, timeout_of, type_kind, type_of};
+use crate::words::Words;
+use lb_cache::{MaxEntries, MaxTtl, Shards};
+use lb_core::Timeout;
+use lb_masks::Mask;
+use lb_name::Name;
+use lb_servers::{Ident, Mode, Policy, PoolName};
+use lb_wire::{Addr, Kind, Octets, Rcode, RecordType};
+use std::alloc::Global;
+
+/// Takes the name of a server.
+pub(crate) fn ident(words: &mut Words<'_>) -> Result<Ident, Unread>
+    ensures { Reads (λ name. name) result words.new (due BadName ident_of words.old) }
+{
+    let token = words.next();
+    match ident_of(token.text) {
+        Some(name) => Ok(name),
+        None => Err(token.fault(FaultKind::BadName)),
+    }
+}
+
+/// Takes the name of a pool.
+pub(crate) fn pool(words: &mut Words<'_>) -> Result<PoolName, Unread>
+    ensures { Reads (λ name. name) result words.new (due BadName pool_of words.old) }
+{
+    let token = words.next();
+    match pool_of(token.text) {
+        Some(name) => Ok(name),
+        None => Err(token.fault(FaultKind::BadName)),
+    }
+}
+
+/// Takes a domain name.
+pub(crate) fn name(words: &mut Words<'_>) -> Result<Name, Unread>
+    ensures { Reads (λ name. name) result words.new (due BadName name_of words.old) }
+{
+    let token = words.next();
+    match name_of(token.text) {
+        Some(name) => Ok(name),
+        None => Err(token.fault(FaultKind::BadName)),
+    }
+}
+
+/// Takes an address.
+pub(crate) fn addr(words: &mut Words<'_>) -> Result<Addr, Unread>
+    ensures { Reads (λ addr. addr) result words.new (due BadAddress addr_of words.old) }
+{
+    let token = words.next();
+    match addr_of(token.text) {
+        Some(addr) => Ok(addr),
+        None => Err(token.fault(FaultKind::BadAddress)),
+    }
+}
+
+/// Takes a mask.
+pub(crate) fn mask(words: &mut Words<'_>) -> Result<Mask, Unread>
+    ensures { Reads (λ mask. mask) result words.new (due BadAddress mask_of words.old) }
+{
+    let token = words.next();
+    match mask_of(token.text) {
+        Some(mask) => Ok(mask),
+        None => Err(token.fault(FaultKind::BadAddress)),
+    }
+}
+
+/// Takes a number that is within these bounds.
+pub(crate) fn number_in(words: &mut Words<'_>, low: u32, high: u32) -> Result<u32, Unread>
+    ensures read { Reads (λ n. n) result words.new (due BadNumber (in_range low high) words.old) }
+    ensures fits { IfOk result (λ n. n ≤ high) }
+{
+    let token = words.next();
+    match in_range(token.text, low, high) {
+        Some(number) => Ok(number),
+        None => Err(token.fault(FaultKind::BadNumber)),
+    }
+}
+
+/// Takes how many replies a cache keeps at most.
+pub(crate) fn max_entries(words: &mut Words<'_>) -> Result<MaxEntries, Unread>
+    ensures { Reads (λ max. max) result words.new (due BadNumber (in_range 1 1000000) words.old) }
+{
+    let token = words.next();
+    match entries_of(token.text) {
+        Some(max) => Ok(max),
+        None => Err(token.fault(FaultKind::BadNumber)),
+    }
+}
+
+/// Takes over how many shards a cache spreads its replies.
+pub(crate) fn shards(words: &mut Words<'_>) -> Result<Shards, Unread>
+    ensures { Reads (λ shards. shards) result words.new (due BadNumber (in_range 1 64) words.old) }
+{
+    let token = words.next();
+    match shards_of(token.text) {
+        Some(shards) => Ok(shards),
+        None => Err(token.fault(FaultKind::BadNumber)),
+    }
+}
+
+/// Takes the longest life of a reply in a cache.
+pub(crate) fn max_ttl(words: &mut Words<'_>) -> Result<MaxTtl, Unread>
+    ensures { Reads (λ max_ttl. max_ttl) result words.new (due BadNumber (in_range 1 604800) words.old) }
+{
+    let token = words.next();
+    match max_ttl_of(token.text) {
+        Some(max_ttl) => Ok(max_ttl),
+        None => Err(token.fault(FaultKind::BadNumber)),
+    }
+}
+
+/// Takes how long a query waits for its reply.
+pub(crate) fn timeout(words: &mut Words<'_>) -> Result<Timeout, Unread>
+    ensures { Reads (λ timeout. timeout) result words.new (due BadNumber (in_range 1 60000) words.old) }
+{
+    let token = words.next();
+    match timeout_of(token.text) {
+        Some(timeout) => Ok(timeout),
+        None => Err(token.fault(FaultKind::BadNumber)),
+    }
+}
+
+/// Takes a type.
+pub(crate) fn record_type(words: &mut Words<'_>) -> Result<RecordType, Unread>
+    ensures { Reads (λ qtype. qtype) result words.new (type_at words.old) }
+{
+    let token = words.next();
+    match type_of(token.text) {
+        Some(qtype) => Ok(qtype),
+        None => Err(token.fault(type_kind(token.text))),
+    }
+}
+
+/// Takes a type, where a word comes.
+pub(crate) fn optional_type(words: &mut Words<'_>) -> Result<Option<RecordType>, Unread>
+    ensures { Reads (λ qtype. qtype) result words.new (optional type_at words.old) }
+{
+    if words.peek().is_word() {
+        Ok(Some(record_type(words)?))
+    } else {
+        Ok(None)
+    }
+}
+
+/// Takes a response code.
+pub(crate) fn rcode(words: &mut Words<'_>) -> Result<Rcode, Unread>
+    ensures { Reads (λ rcode. rcode) result words.new (due UnknownWord rcode_of words.old) }
+{
+    let token = words.next();
+    match Rcode::from_name(token.text) {
+        Some(rcode) => Ok(rcode),
+        None => Err(token.fault(FaultKind::UnknownWord)),
+    }
+}
+
+/// Takes the mode of a server.
+pub(crate) fn mode(words: &mut Words<'_>) -> Result<Mode, Unread>
+    ensures { Reads (λ mode. mode) result words.new (due UnknownWord mode_of words.old) }
+{
+    let token = words.next();
+    match mode_of(token.text) {
+        Some(mode) => Ok(mode),
+        None => Err(token.fault(FaultKind::UnknownWord)),
+    }
+}
+
+/// Takes the policy of a pool.
+pub(crate) fn policy(words: &mut Words<'_>) -> Result<Policy, Unread>
+    ensures { Reads (λ policy. policy) result words.new (due UnknownWord policy_of words.old) }
+{
+    let token = words.next();
+    match policy_of(token.text) {
+        Some(policy) => Ok(policy),
+        None => Err(token.fault(FaultKind::UnknownWord)),
+    }
+}
+
+/// Takes a transport.
+pub(crate) fn kind(words: &mut Words<'_>) -> Result<Kind, Unread>
+    ensures { Reads (λ kind. kind) result words.new (due UnknownWord kind_of words.old) }
+{
+    let token = words.next();
+    match kind_of(token.text) {
+        Some(kind) => Ok(kind),
+        None => Err(token.fault(FaultKind::UnknownWord)),
+    }
+}
+
+/// Takes whether a probe was answered as it should be.
+pub(crate) fn outcome(words: &mut Words<'_>) -> Result<bool, Unread>
+    ensures { Reads (λ ok. ok) result words.new (due UnknownWord outcome_of words.old) }
+{
+    let token = words.next();
+    match outcome_of(token.text) {
+        Some(ok) => Ok(ok),
+        None => Err(token.fault(FaultKind::UnknownWord)),
+    }
+}
+
+/// Takes what clients are listened to by.
+pub(crate) fn protocol(words: &mut Words<'_>) -> Result<Protocol, Unread>
+    ensures { Reads (λ protocol. protocol) result words.new (due UnknownWord protocol_of words.old) }
+{
+    let token = words.next();
+    match protocol_of(token.text) {
+        Some(protocol) => Ok(protocol),
+        None => Err(token.fault(FaultKind::UnknownWord)),
+    }
+}
+
+/// Takes octets.
+pub(crate) fn octets(alloc: Global, words: &mut Words<'_>) -> Result<Octets, Unread>
+    ensures { Reads (λ octets. octets) result words.new (due BadHex hex_of words.old) }
+{
+    let token = words.next();
+    match hex_of(alloc, token.text)? {
+        Some(octets) => Ok(octets),
+        None => Err(token.fault(FaultKind::BadHex)),
+    }
+}

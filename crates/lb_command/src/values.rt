@@ -1,0 +1,238 @@
+//! What a word says: names, addresses, masks, numbers, octets, and the words of tables.
+
+ghost use Rattle.std.specs.Prelude.{◌≡◌, ◌≤◌, IfOk, IfSome, None, Some, bytes_eq, if◌then◌else◌, option_map};
+ghost use Rattle.std.specs.List.{find, list_all};
+ghost use Rattle.std.specs.Borrow.{Bor};
+ghost use Rattle.lb_command.specs.Line.{is_word_byte};
+ghost use Rattle.lb_command.specs.Values.{addr_of, begins_digit, hex_of, ident_of, in_range, kind_of, mask_of, mode_of, name_of, outcome_of, policy_of, pool_of, protocol_of, type_kind, type_of};
+
+use crate::fault::FaultKind;
+use crate::setup::Protocol;
+use crate::words::{is_word_byte, number_up_to};
+use hex::FromHexError;
+use lb_cache::{MaxEntries, MaxTtl, Shards};
+use lb_core::Timeout;
+use lb_masks::{Mask, parse_addr};
+use lb_name::Name;
+use lb_servers::{Ident, Mode, Policy, PoolName};
+use lb_wire::{Addr, Kind, Octets, RecordType};
+use std::alloc::{AllocError, Global};
+use std::str::from_utf8;
+
+/// The most octets of a message.
+const MAX_MESSAGE: usize = 65_535;
+
+/// The greatest number that is looked at where a lesser one is due.
+const MAX_NUMBER: u64 = 4_294_967_295;
+
+/// The modes of a server.
+const MODES: [(Mode, &str); 3] = [
+    (Mode::Up, "up"),
+    (Mode::Down, "down"),
+    (Mode::Auto, "auto"),
+];
+
+/// The policies of a pool.
+const POLICIES: [(Policy, &str); 3] = [
+    (Policy::FirstAvailable, "firstAvailable"),
+    (Policy::LeastOutstanding, "leastOutstanding"),
+    (Policy::RoundRobin, "roundrobin"),
+];
+
+/// The transports.
+const KINDS: [(Kind, &str); 2] = [(Kind::Datagram, "udp"), (Kind::Stream, "tcp")];
+
+/// Whether a probe was answered as it should be.
+const OUTCOMES: [(bool, &str); 2] = [(true, "ok"), (false, "fail")];
+
+/// What clients are listened to by.
+const PROTOCOLS: [(Protocol, &str); 4] = [
+    (Protocol::Udp, "udp"),
+    (Protocol::Tcp, "tcp"),
+    (Protocol::Doh, "doh"),
+    (Protocol::Console, "console"),
+];
+
+/// What a word says by a table.
+pub(crate) fn look_up<T: Copy>(table: &[(T, &str)], text: &[u8]) -> Option<T>
+    ensures { result ≡ option_map (λ e. e.0) (find (λ e. bytes_eq e.1.now text.now) table.now) }
+{
+    for (value, word) in table {
+        if word.as_bytes() == text {
+            return Some(*value);
+        }
+    }
+    None
+}
+
+/// The mode that a word names.
+pub(crate) fn mode_of(text: &[u8]) -> Option<Mode>
+    ensures { result ≡ mode_of text.now }
+{
+    look_up(MODES.as_slice(), text)
+}
+
+/// The policy that a word names.
+pub(crate) fn policy_of(text: &[u8]) -> Option<Policy>
+    ensures { result ≡ policy_of text.now }
+{
+    look_up(POLICIES.as_slice(), text)
+}
+
+/// The transport that a word names.
+pub(crate) fn kind_of(text: &[u8]) -> Option<Kind>
+    ensures { result ≡ kind_of text.now }
+{
+    look_up(KINDS.as_slice(), text)
+}
+
+/// Whether a word says that a probe was answered as it should be.
+pub(crate) fn outcome_of(text: &[u8]) -> Option<bool>
+    ensures { result ≡ outcome_of text.now }
+{
+    look_up(OUTCOMES.as_slice(), text)
+}
+
+/// The protocol that a word names.
+pub(crate) fn protocol_of(text: &[u8]) -> Option<Protocol>
+    ensures { result ≡ protocol_of text.now }
+{
+    look_up(PROTOCOLS.as_slice(), text)
+}
+
+/// Whether all bytes are those of a word.
+fn is_word(text: &[u8]) -> bool
+    ensures { result ≡ list_all is_word_byte text.now }
+{
+    text.iter().all(|byte| is_word_byte(*byte))
+}
+
+/// The word as a text; none where a byte is none of a word.
+fn word_text(text: &[u8]) -> Option<&str>
+    ensures { option_map (λ s. s.now) result ≡ (if list_all is_word_byte text.now then Some text.now else None) }
+{
+    if !is_word(text) {
+        return None;
+    }
+    match from_utf8(text) {
+        Ok(text) => Some(text),
+        Err(_) => unreachable!(),
+    }
+}
+
+/// The name of a server or a pool that a word is.
+pub(crate) fn ident_of(text: &[u8]) -> Option<Ident>
+    ensures { result ≡ ident_of text.now }
+{
+    Ident::parse(word_text(text)?)
+}
+
+/// The name of a pool: `-` is the default pool.
+pub(crate) fn pool_of(text: &[u8]) -> Option<PoolName>
+    ensures { result ≡ pool_of text.now }
+{
+    if text == b"-".as_slice() {
+        return Some(PoolName::Default);
+    }
+    Some(PoolName::Named(ident_of(text)?))
+}
+
+/// The domain name that a word spells.
+pub(crate) fn name_of(text: &[u8]) -> Option<Name>
+    ensures { result ≡ name_of text.now }
+{
+    Name::parse_text(word_text(text)?).ok()
+}
+
+/// The address that a word spells.
+pub(crate) fn addr_of(text: &[u8]) -> Option<Addr>
+    ensures { result ≡ addr_of text.now }
+{
+    parse_addr(word_text(text)?)
+}
+
+/// The mask that a word spells.
+pub(crate) fn mask_of(text: &[u8]) -> Option<Mask>
+    ensures { result ≡ mask_of text.now }
+{
+    Mask::parse(word_text(text)?).ok()
+}
+
+/// The type that a word names, or whose number it is.
+pub(crate) fn type_of(text: &[u8]) -> Option<RecordType>
+    ensures { result ≡ type_of text.now }
+{
+    if let Some(rtype) = RecordType::from_name(text) {
+        return Some(rtype);
+    }
+    let number = number_up_to(text, 65_535)?;
+    Some(RecordType(number as u16))
+}
+
+/// What is wrong with a word that is no type.
+pub(crate) fn type_kind(text: &[u8]) -> FaultKind
+    ensures { result ≡ type_kind text.now }
+{
+    match text {
+        [byte, ..] if byte.is_ascii_digit() => FaultKind::BadNumber,
+        _ => FaultKind::UnknownWord,
+    }
+}
+
+/// The number that a word spells, where it is within these bounds.
+pub(crate) fn in_range(text: &[u8], low: u32, high: u32) -> Option<u32>
+    ensures value { result ≡ in_range low high text.now }
+    ensures within { IfSome result (λ number. number ≤ high) }
+{
+    let number = number_up_to(text, MAX_NUMBER)? as u32;
+    if low <= number && number <= high {
+        Some(number)
+    } else {
+        None
+    }
+}
+
+/// How many replies a cache keeps at most, as a word says it.
+pub(crate) fn entries_of(text: &[u8]) -> Option<MaxEntries>
+    ensures { result ≡ in_range 1 1000000 text.now }
+{
+    MaxEntries::new(number_up_to(text, MAX_NUMBER)? as u32)
+}
+
+/// Over how many shards a cache spreads its replies, as a word says it.
+pub(crate) fn shards_of(text: &[u8]) -> Option<Shards>
+    ensures { result ≡ in_range 1 64 text.now }
+{
+    Shards::new(number_up_to(text, MAX_NUMBER)? as u32)
+}
+
+/// The longest life of a reply in a cache, as a word says it, in seconds.
+pub(crate) fn max_ttl_of(text: &[u8]) -> Option<MaxTtl>
+    ensures { result ≡ in_range 1 604800 text.now }
+{
+    MaxTtl::new(number_up_to(text, MAX_NUMBER)? as u32)
+}
+
+/// How long a query waits for its reply, as a word says it, in milliseconds.
+pub(crate) fn timeout_of(text: &[u8]) -> Option<Timeout>
+    ensures { result ≡ in_range 1 60000 text.now }
+{
+    Timeout::from_millis(number_up_to(text, MAX_NUMBER)? as u32)
+}
+
+/// The octets that hexadecimal digits of either case spell, or `-` for none. The one error is want of memory.
+pub(crate) fn hex_of(alloc: Global, text: &[u8]) -> Result<Option<Octets>, AllocError>
+    ensures { IfOk result (λ octets. octets ≡ hex_of text.now) }
+{
+    if text == b"-".as_slice() {
+        return Ok(Some(Octets::from_vec(Vec::new(alloc))));
+    }
+    if text.is_empty() || text.len() > 2 * MAX_MESSAGE {
+        return Ok(None);
+    }
+    match hex::decode(alloc, text) {
+        Ok(bytes) => Ok(Some(Octets::from_vec(bytes))),
+        Err(FromHexError::OutOfMemory) => Err(AllocError),
+        Err(_) => Ok(None),
+    }
+}
