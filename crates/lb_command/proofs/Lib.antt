@@ -2,3 +2,4 @@ pub mod Texts
 pub mod Lexing
 pub mod Lists
 pub mod Lookups
+pub mod TermSteps

@@ -1,6 +1,7 @@
 -- What a word says.
 use Rattle.std.specs.Prelude.{if◌then◌else◌, ℕ, ◌==◌, ◌*◌, nat_le, nat_lt, Bool, true, false, ◌&&◌, ◌||◌, Option, Some, None, option_map, option_and_then, List, [], ◌∷◌, length, bytes_eq, codes}
 use Rattle.std.specs.Result.{result_ok}
+use Rattle.std.specs.Borrow.{Bor}
 use Rattle.std.specs.List.{find, list_all}
 use Rattle.std.specs.Char.{is_ascii_digit}
 use Rattle.hex.specs.Hex.{decode_of}
@@ -35,6 +36,10 @@ word_of text = if list_all is_word_byte text then Some text else None
 -- what the first entry with this word says
 abbrev pub looked_up : {A : Type 0} → List (A × List ℕ) → List ℕ → Option A
 looked_up table text = option_map (λ e. e.0) (find (λ e. bytes_eq e.1 text) table)
+
+-- an entry of a table of the program
+abbrev pub worded : {A : Type 0} → A × Bor (List ℕ) → A × List ℕ
+worded e = (e.0, e.1.now)
 
 -- a value, and where there is none another one
 abbrev pub or_else : {A : Type 0} → Option A → Option A → Option A

@@ -49,7 +49,7 @@ const VERDICTS: [(Verdict, &str); 9] = [
 fn verdict_of(text: &[u8]) -> Option<Verdict>
     ensures { result ≡ verdict_of text.now }
 {
-    look_up(VERDICTS.as_slice(), text)
+    look_up(&VERDICTS, text)
 }
 
 /// Takes addresses with commas between them.

@@ -108,6 +108,48 @@ const EXTENTS: [(Extent, &str); 3] = [
     (Extent::All, "all"),
 ];
 
+/// What a word begins.
+fn verb_of(text: &[u8]) -> Option<Verb>
+    ensures { result ≡ looked_up verb_words text.now }
+{
+    look_up(&VERBS, text)
+}
+
+/// What a word behind `rule` says.
+fn rule_verb_of(text: &[u8]) -> Option<RuleVerb>
+    ensures { result ≡ looked_up rule_verb_words text.now }
+{
+    look_up(&RULE_VERBS, text)
+}
+
+/// What a word behind `server` says.
+fn server_verb_of(text: &[u8]) -> Option<ServerVerb>
+    ensures { result ≡ looked_up server_verb_words text.now }
+{
+    look_up(&SERVER_VERBS, text)
+}
+
+/// What a word behind `pool` says.
+fn pool_verb_of(text: &[u8]) -> Option<PoolVerb>
+    ensures { result ≡ looked_up pool_verb_words text.now }
+{
+    look_up(&POOL_VERBS, text)
+}
+
+/// What a word behind `cache` says.
+fn cache_verb_of(text: &[u8]) -> Option<CacheVerb>
+    ensures { result ≡ looked_up cache_verb_words text.now }
+{
+    look_up(&CACHE_VERBS, text)
+}
+
+/// How much a word behind the pool of `expunge` says.
+fn extent_of(text: &[u8]) -> Option<Extent>
+    ensures { result ≡ looked_up extent_words text.now }
+{
+    look_up(&EXTENTS, text)
+}
+
 /// `[at PLACE]`
 #[tactic(auto, unfolding(crate::specs::Commands::place_at))]
 fn read_place(words: &mut Words<'_>) -> Result<Option<usize>, Unread>
@@ -155,7 +197,7 @@ fn read_rule(alloc: Global, words: &mut Words<'_>) -> Result<Command, Unread>
     ensures { Reads (λ command. command) result words.new (rule_at words.old) }
 {
     let token = words.next();
-    let Some(verb) = look_up(RULE_VERBS.as_slice(), token.text) else {
+    let Some(verb) = rule_verb_of(token.text) else {
         return Err(token.fault(FaultKind::UnknownWord));
     };
     match verb {
@@ -221,7 +263,7 @@ fn read_server(alloc: Global, words: &mut Words<'_>) -> Result<Command, Unread>
     ensures { Reads (λ command. command) result words.new (server_at words.old) }
 {
     let token = words.next();
-    let Some(verb) = look_up(SERVER_VERBS.as_slice(), token.text) else {
+    let Some(verb) = server_verb_of(token.text) else {
         return Err(token.fault(FaultKind::UnknownWord));
     };
     match verb {
@@ -256,7 +298,7 @@ fn read_pool(words: &mut Words<'_>) -> Result<Command, Unread>
     ensures { Reads (λ command. command) result words.new (pool_at words.old) }
 {
     let token = words.next();
-    let Some(verb) = look_up(POOL_VERBS.as_slice(), token.text) else {
+    let Some(verb) = pool_verb_of(token.text) else {
         return Err(token.fault(FaultKind::UnknownWord));
     };
     match verb {
@@ -292,7 +334,7 @@ fn read_cache(words: &mut Words<'_>) -> Result<Command, Unread>
     ensures { Reads (λ command. command) result words.new (cache_at words.old) }
 {
     let token = words.next();
-    let Some(verb) = look_up(CACHE_VERBS.as_slice(), token.text) else {
+    let Some(verb) = cache_verb_of(token.text) else {
         return Err(token.fault(FaultKind::UnknownWord));
     };
     match verb {
@@ -338,7 +380,7 @@ fn read_expunge(words: &mut Words<'_>) -> Result<Command, Unread>
 {
     let pool = pool(words)?;
     let token = words.next();
-    let Some(extent) = look_up(EXTENTS.as_slice(), token.text) else {
+    let Some(extent) = extent_of(token.text) else {
         return Err(token.fault(FaultKind::UnknownWord));
     };
     let covered = read_covered(extent, words)?;
@@ -360,7 +402,7 @@ pub(crate) fn command(alloc: Global, words: &mut Words<'_>) -> Result<Command, U
     ensures { Reads (λ command. command) result words.new (command_at words.old) }
 {
     let token = words.next();
-    let Some(verb) = look_up(VERBS.as_slice(), token.text) else {
+    let Some(verb) = verb_of(token.text) else {
         return Err(token.fault(FaultKind::UnknownWord));
     };
     match verb {

@@ -3,6 +3,7 @@
 ghost use Rattle.std.specs.Prelude.{◌≡◌, ◌≤◌, IfOk};
 ghost use Rattle.lb_command.specs.Events.{behind_event_word, edit_at, event_at, event_of, event_table, event_whole, health_at, query_at, reply_at, tick_at};
 ghost use Rattle.lb_command.specs.Reading.{Answers, Gives, Reads};
+ghost use Rattle.lb_command.specs.Values.{looked_up};
 
 use crate::commands::command;
 use crate::fault::{CommandFault, FaultKind, MAX_LINE, Unread};
@@ -31,6 +32,13 @@ const EVENTS: [(EventWord, &str); 5] = [
     (EventWord::Health, "health"),
     (EventWord::Edit, "edit"),
 ];
+
+/// What a word begins.
+fn event_word_of(text: &[u8]) -> Option<EventWord>
+    ensures { result ≡ looked_up event_table text.now }
+{
+    look_up(&EVENTS, text)
+}
 
 /// `NOW SLOT udp|tcp ADDR WORD HEX`. The origin has front 0 and port 0.
 #[tactic(auto, unfolding(crate::specs::Events::query_at))]
@@ -115,7 +123,7 @@ fn event(alloc: Global, words: &mut Words<'_>) -> Result<Event, Unread>
     ensures { Reads (λ event. event) result words.new (event_at words.old) }
 {
     let token = words.next();
-    let Some(word) = look_up(EVENTS.as_slice(), token.text) else {
+    let Some(word) = event_word_of(token.text) else {
         return Err(token.fault(FaultKind::UnknownWord));
     };
     match word {

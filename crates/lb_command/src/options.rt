@@ -44,7 +44,7 @@ const OPTIONS: [(ServerOption, &str); 5] = [
 fn option_of(text: &[u8]) -> Option<ServerOption>
     ensures { result ≡ looked_up option_words text.now }
 {
-    look_up(OPTIONS.as_slice(), text)
+    look_up(&OPTIONS, text)
 }
 
 /// What the options of a new server say.

@@ -66,7 +66,7 @@ const FORMS: [(Form, &str); 8] = [
 fn form_of(text: &[u8]) -> Option<Form>
     ensures { result ≡ form_of text.now }
 {
-    look_up(FORMS.as_slice(), text)
+    look_up(&FORMS, text)
 }
 
 /// Takes names with commas between them.

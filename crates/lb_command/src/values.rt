@@ -1,10 +1,9 @@
 //! What a word says: names, addresses, masks, numbers, octets, and the words of tables.
 
-ghost use Rattle.std.specs.Prelude.{◌≡◌, ◌≤◌, IfOk, IfSome, None, Some, bytes_eq, if◌then◌else◌, option_map};
-ghost use Rattle.std.specs.List.{find, list_all};
-ghost use Rattle.std.specs.Borrow.{Bor};
+ghost use Rattle.std.specs.Prelude.{◌≡◌, ◌≤◌, IfOk, IfSome, None, Some, if◌then◌else◌, map, option_map};
+ghost use Rattle.std.specs.List.{list_all};
 ghost use Rattle.lb_command.specs.Line.{is_word_byte};
-ghost use Rattle.lb_command.specs.Values.{addr_of, begins_digit, hex_of, ident_of, in_range, kind_of, mask_of, mode_of, name_of, outcome_of, policy_of, pool_of, protocol_of, type_kind, type_of};
+ghost use Rattle.lb_command.specs.Values.{addr_of, begins_digit, hex_of, ident_of, in_range, kind_of, looked_up, mask_of, mode_of, name_of, outcome_of, policy_of, pool_of, protocol_of, type_kind, type_of, worded};
 
 use crate::fault::FaultKind;
 use crate::setup::Protocol;
@@ -55,7 +54,7 @@ const PROTOCOLS: [(Protocol, &str); 4] = [
 
 /// What a word says by a table.
 pub(crate) fn look_up<T: Copy>(table: &[(T, &str)], text: &[u8]) -> Option<T>
-    ensures { result ≡ option_map (λ e. e.0) (find (λ e. bytes_eq e.1.now text.now) table.now) }
+    ensures { result ≡ looked_up (map worded table.now) text.now }
 {
     for (value, word) in table {
         if word.as_bytes() == text {
@@ -69,35 +68,35 @@ pub(crate) fn look_up<T: Copy>(table: &[(T, &str)], text: &[u8]) -> Option<T>
 pub(crate) fn mode_of(text: &[u8]) -> Option<Mode>
     ensures { result ≡ mode_of text.now }
 {
-    look_up(MODES.as_slice(), text)
+    look_up(&MODES, text)
 }
 
 /// The policy that a word names.
 pub(crate) fn policy_of(text: &[u8]) -> Option<Policy>
     ensures { result ≡ policy_of text.now }
 {
-    look_up(POLICIES.as_slice(), text)
+    look_up(&POLICIES, text)
 }
 
 /// The transport that a word names.
 pub(crate) fn kind_of(text: &[u8]) -> Option<Kind>
     ensures { result ≡ kind_of text.now }
 {
-    look_up(KINDS.as_slice(), text)
+    look_up(&KINDS, text)
 }
 
 /// Whether a word says that a probe was answered as it should be.
 pub(crate) fn outcome_of(text: &[u8]) -> Option<bool>
     ensures { result ≡ outcome_of text.now }
 {
-    look_up(OUTCOMES.as_slice(), text)
+    look_up(&OUTCOMES, text)
 }
 
 /// The protocol that a word names.
 pub(crate) fn protocol_of(text: &[u8]) -> Option<Protocol>
     ensures { result ≡ protocol_of text.now }
 {
-    look_up(PROTOCOLS.as_slice(), text)
+    look_up(&PROTOCOLS, text)
 }
 
 /// Whether all bytes are those of a word.
