@@ -3,3 +3,5 @@ pub mod Lexing
 pub mod Lists
 pub mod Lookups
 pub mod TermSteps
+pub mod NonZeros
+pub mod OptionSteps

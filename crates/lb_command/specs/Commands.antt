@@ -1,6 +1,6 @@
 -- Reading commands. A part's name tells what stands there, behind the words that begin it.
 use Rattle.std.specs.Prelude.{if◌then◌else◌, ℕ, zero, suc, Bool, true, false, nat_lt, Option, Some, None, Result, Ok, Err, List, [], ◌∷◌, ◌++◌, length, codes}
-use Rattle.core.specs.declared.num.nonzero.of_u8.NonZeroU8.{NonZeroU8}
+use Rattle.std.specs.declared.num.NonZeroU8.{NonZeroU8}
 use Rattle.lb_wire.specs.declared.addr.Addr.{Addr}
 use Rattle.lb_wire.specs.declared.ids.RuleId.{RuleId}
 use Rattle.lb_wire.specs.declared.record_type.RecordType.{RecordType}
@@ -13,7 +13,7 @@ use Rattle.lb_core.specs.declared.command.Command.{Command}
 use Rattle.lb_core.specs.declared.command.Command.TheVariants.{RuleAdd, RuleRemove, RuleMove, ServerAdd, ServerRemove, ServerMode, PoolAdd, PoolPolicy, CacheAttach, CacheDetach, Expunge, SetTimeout, Show}
 use Rattle.lb_command.specs.Line.{Left, first_of, behind_first, whole}
 use Rattle.lb_command.specs.Reading.{◌>>=◌, due, ended, named, optional, taken, too_many, within}
-use Rattle.lb_command.specs.Values.{addr_of, ident_of, in_range, looked_up, mode_of, name_of, number_of, policy_of, pool_of, word_number}
+use Rattle.lb_command.specs.Values.{addr_of, count_of, ident_of, in_range, looked_up, mode_of, name_of, number_of, one, policy_of, pool_of, word_number}
 use Rattle.lb_command.specs.Terms.{checked_at, type_at}
 use Rattle.lb_command.specs.Actions.{action_at}
 use Rattle.lb_command.specs.declared.fault.CommandFault.{CommandFault}
@@ -84,13 +84,13 @@ rule_at left = do
 pub record Stated : Type 0 where
   pub order : ℕ
   pub pools : List PoolName
-  pub fall : ℕ
-  pub rise : ℕ
+  pub fall : NonZeroU8
+  pub rise : NonZeroU8
   pub resolve : Bool
 
 -- none is given
 abbrev pub nothing_stated : Stated
-nothing_stated = record { order = 1; pools = []; fall = 1; rise = 1; resolve = false }
+nothing_stated = record { order = 1; pools = []; fall = one; rise = one; resolve = false }
 
 abbrev pub option_words : List (ServerOption × List ℕ)
 option_words = (options.Order, codes "order") ∷ (options.Pool, codes "pool") ∷ (options.Fall, codes "fall") ∷ (options.Rise, codes "rise") ∷ (options.Resolve, codes "resolve") ∷ []
@@ -109,12 +109,12 @@ pool_option_at stated left = do
 
 unfoldable pub fall_at : Stated → Left → Result (Stated × Left) CommandFault
 fall_at stated left = do
-  fall ← due kinds.BadNumber (in_range 1 255) left
+  fall ← due kinds.BadNumber count_of left
   Ok (record stated { fall = fall.0 }, fall.1)
 
 unfoldable pub rise_at : Stated → Left → Result (Stated × Left) CommandFault
 rise_at stated left = do
-  rise ← due kinds.BadNumber (in_range 1 255) left
+  rise ← due kinds.BadNumber count_of left
   Ok (record stated { rise = rise.0 }, rise.1)
 
 abbrev pub behind_option : ServerOption → Stated → Left → Result (Stated × Left) CommandFault
@@ -124,24 +124,22 @@ behind_option options.Fall stated left = fall_at stated left
 behind_option options.Rise stated left = rise_at stated left
 behind_option options.Resolve stated left = Ok (record stated { resolve = true }, left)
 
+-- where an option comes, it is taken, and the others read on
+abbrev pub with_option : Option ServerOption → (Stated → Left → Result (Stated × Left) CommandFault) → Stated → Left → Result (Stated × Left) CommandFault
+with_option None others stated left = Ok (stated, left)
+with_option (Some option) others stated left = behind_option option stated (behind_first left) >>= λ x. others x.0 x.1
+
 -- {order N | pool PNAME | fall N | rise N | resolve}: at most so many, which a line within its length never has
 unfoldable pub options_at : ℕ → Stated → Left → Result (Stated × Left) CommandFault
 options_at zero stated left = Ok (stated, left)
-options_at (suc fuel) stated left = one_by_one (looked_up option_words (first_of left).text)
-  where
-    one_by_one : Option ServerOption → Result (Stated × Left) CommandFault
-    one_by_one None = Ok (stated, left)
-    one_by_one (Some option) = behind_option option stated (behind_first left) >>= λ x. options_at fuel x.0 x.1
-
-abbrev pub non_zero : ℕ → NonZeroU8
-non_zero number = record { value = number }
+options_at (suc fuel) stated left = with_option (looked_up option_words (first_of left).text) (options_at fuel) stated left
 
 -- a server as it is stated
 abbrev pub spec_of : List ℕ → Addr → ℕ → Stated → ServerSpec
 spec_of name addr port stated = record { name = name; addr = addr; port = port; order = stated.order; pools = stated.pools }
 
 abbrev pub check_of : Stated → CheckSpec
-check_of stated = record { fall = non_zero stated.fall; rise = non_zero stated.rise; must_resolve = stated.resolve }
+check_of stated = record { fall = stated.fall; rise = stated.rise; must_resolve = stated.resolve }
 
 -- SNAME ADDR PORT and its options
 unfoldable pub server_add_at : Left → Result (Command × Left) CommandFault

@@ -1,5 +1,5 @@
 -- Reading lines of a setup file.
-use Rattle.std.specs.Prelude.{ℕ, Option, Some, None, Result, Ok, Err, List, [], ◌∷◌, codes}
+use Rattle.std.specs.Prelude.{if◌then◌else◌, ℕ, Option, Some, None, Result, Ok, Err, List, [], ◌∷◌, codes}
 use Rattle.lb_masks.specs.Number.{number_up_to}
 use Rattle.lb_command.specs.Line.{Left, whole}
 use Rattle.lb_command.specs.Reading.{◌>>=◌, due, ended, taken, within}

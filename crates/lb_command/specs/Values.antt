@@ -1,9 +1,11 @@
 -- What a word says.
-use Rattle.std.specs.Prelude.{if◌then◌else◌, ℕ, ◌==◌, ◌*◌, nat_le, nat_lt, Bool, true, false, ◌&&◌, ◌||◌, Option, Some, None, option_map, option_and_then, List, [], ◌∷◌, length, bytes_eq, codes}
+use Rattle.std.specs.Prelude.{if◌then◌else◌, ℕ, zero, suc, ◌==◌, ◌*◌, nat_le, nat_lt, Bool, true, false, ◌&&◌, ◌||◌, Option, Some, None, option_map, option_and_then, List, [], ◌∷◌, length, bytes_eq, codes}
+use Rattle.std.proofs.Common.{arith}
 use Rattle.std.specs.Result.{result_ok}
 use Rattle.std.specs.Borrow.{Bor}
 use Rattle.std.specs.List.{find, list_all}
 use Rattle.std.specs.Char.{is_ascii_digit}
+use Rattle.std.specs.declared.num.NonZeroU8.{NonZeroU8}
 use Rattle.hex.specs.Hex.{decode_of}
 use Rattle.lb_name.specs.Text.{name_of_text}
 use Rattle.lb_wire.specs.RecordType.{type_of_name}
@@ -59,6 +61,17 @@ word_number text = number_up_to 10 65535 text
 
 abbrev pub in_range : ℕ → ℕ → List ℕ → Option ℕ
 in_range low high text = option_and_then (λ n. if nat_le low n && nat_le n high then Some n else None) (number_up_to 10 4294967295 text)
+
+-- a number from 1 to 255
+abbrev pub non_zero : ℕ → Option NonZeroU8
+non_zero zero = None
+non_zero (suc n) = Some (record { value = suc n; ok = omega arith })
+
+abbrev pub one : NonZeroU8
+one = record { value = 1; ok = omega arith }
+
+abbrev pub count_of : List ℕ → Option NonZeroU8
+count_of text = option_and_then non_zero (number_up_to 10 255 text)
 
 -- SNAME
 abbrev pub ident_of : List ℕ → Option (List ℕ)

@@ -8,7 +8,10 @@ ghost use Rattle.lb_command.specs.Values.{looked_up};
 use crate::actions::action;
 use crate::fault::{CommandFault, FaultKind, MAX_LINE, Unread};
 use crate::options::server_options;
-use crate::parts::{addr, ident, max_entries, max_ttl, mode, name, number_in, optional_type, policy, pool, shards, timeout};
+use crate::parts::{
+    addr, ident, max_entries, max_ttl, mode, name, number_in, optional_type, policy, pool, shards,
+    timeout,
+};
 use crate::terms::checked_term;
 use crate::values::look_up;
 use crate::words::Words;
@@ -17,7 +20,6 @@ use lb_core::{CheckSpec, Command, StatedRule};
 use lb_servers::{PoolNames, ServerSpec};
 use lb_wire::RuleId;
 use std::alloc::Global;
-use std::num::NonZeroU8;
 
 /// The word that begins a command.
 #[derive(Clone, Copy, Debug, PartialEq, Eq)]
@@ -90,8 +92,10 @@ enum CacheVerb {
 }
 
 /// The words behind `cache`.
-const CACHE_VERBS: [(CacheVerb, &str); 2] =
-    [(CacheVerb::Attach, "attach"), (CacheVerb::Detach, "detach")];
+const CACHE_VERBS: [(CacheVerb, &str); 2] = [
+    (CacheVerb::Attach, "attach"),
+    (CacheVerb::Detach, "detach"),
+];
 
 /// How much of a cache is expunged.
 #[derive(Clone, Copy, Debug, PartialEq, Eq)]
@@ -216,11 +220,7 @@ fn read_server_add(alloc: Global, words: &mut Words<'_>) -> Result<Command, Unre
     let addr = addr(words)?;
     let port = number_in(words, 1, 65_535)? as u16;
     let options = server_options(alloc, words)?;
-    let (Some(fall), Some(rise), Some(pools)) = (
-        NonZeroU8::new(options.fall),
-        NonZeroU8::new(options.rise),
-        PoolNames::from_vec(options.pools),
-    ) else {
+    let Some(pools) = PoolNames::from_vec(options.pools) else {
         unreachable!()
     };
     let spec = ServerSpec {
@@ -231,8 +231,8 @@ fn read_server_add(alloc: Global, words: &mut Words<'_>) -> Result<Command, Unre
         pools,
     };
     let check = CheckSpec {
-        fall,
-        rise,
+        fall: options.fall,
+        rise: options.rise,
         must_resolve: options.resolve,
     };
     Ok(Command::ServerAdd(spec, check))

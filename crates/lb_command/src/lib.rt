@@ -9,11 +9,10 @@ mod options;
 mod parts;
 mod setup;
 mod terms;
-mod values;
-mod words;
-
 #[cfg(test)]
 mod tests;
+mod values;
+mod words;
 
 pub use commands::read_command;
 pub use events::read_event_line;

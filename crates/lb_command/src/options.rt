@@ -1,19 +1,19 @@
 //! Reading the options of a new server.
 
 ghost use Rattle.std.specs.Prelude.{◌≡◌, ◌≤◌, ◌<◌, [], length};
-ghost use Rattle.std.specs.Int.NonZero.{non_zero_u8_get};
 ghost use Rattle.lb_command.specs.declared.fault.FaultKind.TheVariants.{BadNumber};
-ghost use Rattle.lb_command.specs.Commands.{behind_option, fall_at, non_zero, nothing_stated, option_words, options_at, order_at, pool_option_at, rise_at};
+ghost use Rattle.lb_command.specs.Commands.{behind_option, fall_at, nothing_stated, option_words, options_at, order_at, pool_option_at, rise_at};
 ghost use Rattle.lb_command.specs.Reading.{Reads, due};
 ghost use Rattle.lb_command.specs.Values.{in_range, looked_up};
 
 use crate::fault::{FaultKind, Unread};
-use crate::parts::{number_in, pool};
+use crate::parts::{count, pool};
 use crate::values::look_up;
 use crate::words::Words;
 use lb_servers::PoolName;
 use std::alloc::Global;
 use std::marker::Model;
+use std::num::NonZeroU8;
 
 /// The most pools of a server, a repeated one counted.
 const MAX_POOLS: usize = 8;
@@ -52,10 +52,8 @@ fn option_of(text: &[u8]) -> Option<ServerOption>
 pub(crate) struct Options {
     pub(crate) order: u16,
     pub(crate) pools: Vec<PoolName>,
-    /// 1 to 255.
-    pub(crate) fall: u8,
-    /// 1 to 255.
-    pub(crate) rise: u8,
+    pub(crate) fall: NonZeroU8,
+    pub(crate) rise: NonZeroU8,
     pub(crate) resolve: bool,
 }
 
@@ -67,7 +65,7 @@ impl Model for Options {
 
     ghost view = { λ o. record { order = o.order; pools = o.pools.items; fall = o.fall; rise = o.rise; resolve = o.resolve } };
 
-    ghost invariant = { λ o. (1 ≤ o.fall) × (1 ≤ o.rise) × (length o.pools.items ≤ 8) };
+    ghost invariant = { λ o. length o.pools.items ≤ 8 };
 }
 
 impl Options {
@@ -78,8 +76,8 @@ impl Options {
         Options {
             order: 1,
             pools: Vec::new(alloc),
-            fall: 1,
-            rise: 1,
+            fall: NonZeroU8::MIN,
+            rise: NonZeroU8::MIN,
             resolve: false,
         }
     }
@@ -113,7 +111,7 @@ impl Options {
     fn read_fall(self, words: &mut Words<'_>) -> Result<Options, Unread>
         ensures { Reads (λ o. o) result words.new (fall_at self words.old) }
     {
-        let fall = number_in(words, 1, 255)? as u8;
+        let fall = count(words)?;
         Ok(Options { fall, ..self })
     }
 
@@ -122,7 +120,7 @@ impl Options {
     fn read_rise(self, words: &mut Words<'_>) -> Result<Options, Unread>
         ensures { Reads (λ o. o) result words.new (rise_at self words.old) }
     {
-        let rise = number_in(words, 1, 255)? as u8;
+        let rise = count(words)?;
         Ok(Options { rise, ..self })
     }
 

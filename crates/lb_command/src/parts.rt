@@ -4,11 +4,15 @@ ghost use Rattle.std.specs.Prelude.{◌≡◌, ◌≤◌, IfOk, Some, None};
 ghost use Rattle.lb_command.specs.declared.fault.FaultKind.TheVariants.{BadAddress, BadHex, BadName, BadNumber, UnknownWord};
 ghost use Rattle.lb_command.specs.Reading.{Reads, due, optional};
 ghost use Rattle.lb_command.specs.Terms.{type_at};
-ghost use Rattle.lb_command.specs.Values.{addr_of, hex_of, ident_of, in_range, kind_of, mask_of, mode_of, name_of, number_of, outcome_of, policy_of, pool_of, protocol_of, rcode_of, word_number};
+ghost use Rattle.lb_command.specs.Values.{addr_of, count_of, hex_of, ident_of, in_range, kind_of, mask_of, mode_of, name_of, number_of, outcome_of, policy_of, pool_of, protocol_of, rcode_of, word_number};
 
 use crate::fault::{FaultKind, Unread};
 use crate::setup::Protocol;
-use crate::values::{addr_of, entries_of, hex_of, ident_of, in_range, kind_of, mask_of, max_ttl_of, mode_of, name_of, outcome_of, policy_of, pool_of, protocol_of, shards_of, timeout_of, type_kind, type_of};
+use crate::values::{
+    addr_of, count_of, entries_of, hex_of, ident_of, in_range, kind_of, mask_of, max_ttl_of,
+    mode_of, name_of, outcome_of, policy_of, pool_of, protocol_of, shards_of, timeout_of,
+    type_kind, type_of,
+};
 use crate::words::Words;
 use lb_cache::{MaxEntries, MaxTtl, Shards};
 use lb_core::Timeout;
@@ -17,6 +21,7 @@ use lb_name::Name;
 use lb_servers::{Ident, Mode, Policy, PoolName};
 use lb_wire::{Addr, Kind, Octets, Rcode, RecordType};
 use std::alloc::Global;
+use std::num::NonZeroU8;
 
 /// Takes the name of a server.
 pub(crate) fn ident(words: &mut Words<'_>) -> Result<Ident, Unread>
@@ -81,6 +86,17 @@ pub(crate) fn number_in(words: &mut Words<'_>, low: u32, high: u32) -> Result<u3
     let token = words.next();
     match in_range(token.text, low, high) {
         Some(number) => Ok(number),
+        None => Err(token.fault(FaultKind::BadNumber)),
+    }
+}
+
+/// Takes a number from 1 to 255.
+pub(crate) fn count(words: &mut Words<'_>) -> Result<NonZeroU8, Unread>
+    ensures { Reads (λ n. n) result words.new (due BadNumber count_of words.old) }
+{
+    let token = words.next();
+    match count_of(token.text) {
+        Some(count) => Ok(count),
         None => Err(token.fault(FaultKind::BadNumber)),
     }
 }

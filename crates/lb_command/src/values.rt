@@ -3,7 +3,7 @@
 ghost use Rattle.std.specs.Prelude.{◌≡◌, ◌≤◌, IfOk, IfSome, None, Some, if◌then◌else◌, map, option_map};
 ghost use Rattle.std.specs.List.{list_all};
 ghost use Rattle.lb_command.specs.Line.{is_word_byte};
-ghost use Rattle.lb_command.specs.Values.{addr_of, begins_digit, hex_of, ident_of, in_range, kind_of, looked_up, mask_of, mode_of, name_of, outcome_of, policy_of, pool_of, protocol_of, type_kind, type_of, worded};
+ghost use Rattle.lb_command.specs.Values.{addr_of, begins_digit, count_of, hex_of, ident_of, in_range, kind_of, looked_up, mask_of, mode_of, name_of, outcome_of, policy_of, pool_of, protocol_of, type_kind, type_of, worded};
 
 use crate::fault::FaultKind;
 use crate::setup::Protocol;
@@ -16,6 +16,7 @@ use lb_name::Name;
 use lb_servers::{Ident, Mode, Policy, PoolName};
 use lb_wire::{Addr, Kind, Octets, RecordType};
 use std::alloc::{AllocError, Global};
+use std::num::NonZeroU8;
 use std::str::from_utf8;
 
 /// The most octets of a message.
@@ -25,11 +26,7 @@ const MAX_MESSAGE: usize = 65_535;
 const MAX_NUMBER: u64 = 4_294_967_295;
 
 /// The modes of a server.
-const MODES: [(Mode, &str); 3] = [
-    (Mode::Up, "up"),
-    (Mode::Down, "down"),
-    (Mode::Auto, "auto"),
-];
+const MODES: [(Mode, &str); 3] = [(Mode::Up, "up"), (Mode::Down, "down"), (Mode::Auto, "auto")];
 
 /// The policies of a pool.
 const POLICIES: [(Policy, &str); 3] = [
@@ -189,6 +186,13 @@ pub(crate) fn in_range(text: &[u8], low: u32, high: u32) -> Option<u32>
     } else {
         None
     }
+}
+
+/// A number from 1 to 255, as a word says it.
+pub(crate) fn count_of(text: &[u8]) -> Option<NonZeroU8>
+    ensures { result ≡ count_of text.now }
+{
+    NonZeroU8::new(number_up_to(text, 255)? as u8)
 }
 
 /// How many replies a cache keeps at most, as a word says it.
