@@ -8,7 +8,7 @@ use Rattle.lb_core.specs.declared.answer.Answer.{Answer}
 use Rattle.lb_core.specs.Plain.{Plain, empty}
 use Rattle.lb_core.specs.Runs.{IsRun}
 use Rattle.lb_core.specs.Step.{Answers}
-use Rattle.lb.specs.Answers.{line_of, lines_of}
+use Rattle.lb_command.specs.Answers.{line_of, lines_of}
 use Rattle.lb.specs.Input.{told_lines}
 use Rattle.lb.specs.Replaying.{Replayed, Replays, Answered}
 

@@ -1,27 +1,28 @@
--- What is left of an input: piece by piece, line by line.
-use Rattle.std.proofs.Common.{◌≡◌, ℕ, ◌+◌, ◌<◌, ◌-◌, Bool, true, false, if◌then◌else◌, List, [], ◌∷◌, ◌++◌, length, take, get_or, refl, sym, ◌∙◌, ap, ◌==◌, arith}
-use Rattle.std.proofs.lemmas.List.{append-nil, append_assoc, length-append, get_or-append-add}
+-- What is left to read of an input: piece by piece, line by line.
+use Rattle.std.proofs.Common.{◌≡◌, ℕ, ◌+◌, ◌<◌, ◌≤◌, ◌-◌, Bool, true, false, nat_lt, if◌then◌else◌, List, [], ◌∷◌, ◌++◌, length, take, get_or, refl, sym, ◌∙◌, ap, ◌==◌, arith}
+use Rattle.std.proofs.lemmas.List.{append-nil, append_assoc, length-append, length-take-le, get_or-append-add}
 use Rattle.std.proofs.lemmas.List.Elements.{All-head, All-tail}
 use Rattle.std.proofs.lemmas.List.Splits.{slice_split_at, slice_split_none, slice_split-cons_no, length-slice_split}
 use Rattle.std.proofs.lemmas.Bool.{ne_eqb}
+use Rattle.std.proofs.lemmas.Grind.{common_steps}
 use Rattle.std.proofs.Math.Seq.{take-append-add}
-use Rattle.std.specs.List.{All, filter, slice_split, onto_first}
+use Rattle.std.specs.List.{All, slice_split, onto_first}
 use Rattle.std.specs.Str.Lines.{lines_of_parts, strip_carriage_return}
+use Rattle.lb_command.specs.Events.{event_of}
 use Rattle.lb.specs.Shown.{is_line_feed}
 use Rattle.lb.specs.Line.{kind_of, kind_with}
-use Rattle.lb.specs.Input.{is_told, told_from, told_lines, told_number}
+use Rattle.lb.specs.Input.{Reading, is_told, reading_of, readings, told_from, told_of, told_read, too_long}
 use Rattle.lb.specs.declared.line.LineKind.{LineKind}
 use Rattle.lb.specs.declared.line.LineKind.TheVariants.{Blank, Comment, Told}
 
--- one line, told or not
-one_line : (line : List ℕ) (b : Bool) → is_told line ≡ b → length (filter is_told (line ∷ [])) ≡ (if b then 1 else 0)
-one_line line true is = rw is refl
-one_line line false is = rw is refl
+-- a line that is told
+pub told_when : (n : ℕ) (kind : LineKind) (long : Bool) (bytes : List ℕ) → kind_with kind bytes ≡ Told → told_read n kind long bytes ≡ (n, reading_of long bytes) ∷ []
+told_when n kind long bytes is = rw is refl
 
 -- a line before others, told or not
-line_before : (line : List ℕ) (others : List (List ℕ)) (b : Bool) → is_told line ≡ b → length (filter is_told (line ∷ others)) ≡ (if b then 1 else 0) + length (filter is_told others)
-line_before line others true is = rw is (omega arith)
-line_before line others false is = rw is (omega arith)
+line_before : (n : ℕ) (line : List ℕ) (others : List (List ℕ)) (b : Bool) → is_told line ≡ b → told_read n Blank false line ++ told_of (n + 1) others ≡ told_of n (line ∷ others)
+line_before n line others true is = rw is refl
+line_before n line others false is = rw is refl
 
 -- a last part that is not empty is a line
 last_by : (x : List ℕ) (b : Bool) → b ≡ false → (if b then [] else x ∷ []) ≡ x ∷ []
@@ -30,18 +31,31 @@ last_by x b is = rw is refl
 last_part : (x : List ℕ) → 0 < length x → lines_of_parts (x ∷ []) ≡ x ∷ []
 last_part x some = last_by x (length x == 0) (ne_eqb (length x) 0 (λ none. omega arith))
 
--- the told lines of parts are counted
-told_parts : (parts : List (List ℕ)) → told_from Blank parts ≡ length (filter is_told (lines_of_parts parts))
-told_parts [] = refl
-told_parts ([] ∷ []) = refl
-told_parts ((byte ∷ bytes) ∷ []) = sym (ap (λ (ls : List (List ℕ)). length (filter is_told ls)) (last_part (byte ∷ bytes) (omega arith)) ∙ one_line (byte ∷ bytes) (is_told (byte ∷ bytes)) refl)
-told_parts (x ∷ y ∷ more) =
+-- the told lines of parts are read
+told_parts : (n : ℕ) (parts : List (List ℕ)) → told_from n Blank false parts ≡ told_of n (lines_of_parts parts)
+told_parts n [] = refl
+told_parts n ([] ∷ []) = refl
+told_parts n ((byte ∷ bytes) ∷ []) = ap (told_of n) (sym (last_part (byte ∷ bytes) (omega arith)))
+told_parts n (x ∷ y ∷ more) =
     let line = strip_carriage_return x in
-    ap (λ (n : ℕ). told_number (kind_of line) + n) (told_parts (y ∷ more)) ∙ sym (line_before line (lines_of_parts (y ∷ more)) (is_told line) refl)
+    ap (λ (others : List (ℕ × Reading)). told_read n Blank false line ++ others) (told_parts (n + 1) (y ∷ more)) ∙ line_before n line (lines_of_parts (y ∷ more)) (is_told line) refl
 
--- the told lines of an input are counted
-pub told_all : (bytes : List ℕ) → told_from Blank (slice_split is_line_feed bytes) ≡ length (told_lines bytes)
-told_all bytes = told_parts (slice_split is_line_feed bytes)
+-- the told lines of an input are read
+pub told_all : (bytes : List ℕ) → told_from 1 Blank false (slice_split is_line_feed bytes) ≡ readings bytes
+told_all bytes = told_parts 1 (slice_split is_line_feed bytes)
+
+-- over 300,000 bytes are too many
+is_over : (n : ℕ) → 300000 < n → nat_lt 300000 n ≡ true
+is_over n over = grind (arith, common_steps)
+
+long_reads : (line : List ℕ) → 300000 < length line → event_of line ≡ too_long
+long_reads line over =
+    let h = is_over (length line) over in
+    rw h refl
+
+too_long_by : (long : Bool) (line : List ℕ) → 300000 < length line → reading_of long line ≡ too_long
+too_long_by true line over = refl
+too_long_by false line over = long_reads line over
 
 -- the same, by whether the first byte is a space or a hash
 kind_step : (space hash : Bool) (a b : List ℕ) → kind_of (a ++ b) ≡ kind_with (kind_of a) b → (if space then kind_of (a ++ b) else (if hash then Comment else Told)) ≡ kind_with (if space then kind_of a else (if hash then Comment else Told)) b
@@ -111,29 +125,56 @@ strip_front front [] [] ends = ap (λ (xs : List ℕ). strip_carriage_return xs)
 strip_front front [] (byte ∷ part) ends = ap (λ (xs : List ℕ). strip_carriage_return xs) (append_assoc front [] (byte ∷ part)) ∙ strip-append front (byte ∷ part) (omega arith)
 strip_front front (byte ∷ held) part ends = ap (λ (xs : List ℕ). strip_carriage_return xs) (append_assoc front (byte ∷ held) part) ∙ strip-append front ((byte ∷ held) ++ part) (omega arith)
 
-shed_parts : (kind : LineKind) (front held : List ℕ) (parts : List (List ℕ)) → (length held ≡ 0 → get_or front (length front - 1) 0 ≡ 13 → ⊥) → told_from kind (onto_front (front ++ held) parts) ≡ told_from (kind_with kind front) (onto_front held parts)
-shed_parts kind front held [] ends = ap (λ (k : LineKind). told_number k) (kind_with-append kind front held)
-shed_parts kind front held (part ∷ []) ends = ap (λ (k : LineKind). told_number k) (ap (λ (xs : List ℕ). kind_with kind xs) (append_assoc front held part) ∙ kind_with-append kind front (held ++ part))
-shed_parts kind front held (part ∷ next ∷ parts) ends =
-    ap (λ (k : LineKind). told_number k + told_from Blank (next ∷ parts)) (ap (λ (xs : List ℕ). kind_with kind xs) (strip_front front held part ends) ∙ kind_with-append kind front (strip_carriage_return (held ++ part)))
+-- the front of a line that is too long goes into its kind
+shed_read : (n : ℕ) (kind : LineKind) (long : Bool) (front end : List ℕ) → 300000 < length (front ++ end) → told_read n kind long (front ++ end) ≡ told_read n (kind_with kind front) true end
+shed_read n kind long front end over =
+    let kinds = kind_with-append kind front end in
+    let reading = too_long_by long (front ++ end) over in
+    rw (kinds, reading) refl
+
+-- at most one byte is stripped
+strip_size_by : (xs : List ℕ) (b : Bool) → length xs ≤ length (if b then take (length xs - 1) xs else xs) + 1
+strip_size_by xs true =
+    let size = length-take-le (length xs - 1) xs (omega arith) in
+    omega (arith, size)
+strip_size_by xs false = omega arith
+
+strip_size : (xs : List ℕ) → length xs ≤ length (strip_carriage_return xs) + 1
+strip_size xs = strip_size_by xs (get_or xs (length xs - 1) 0 == 13)
+
+shed_parts : (n : ℕ) (kind : LineKind) (long : Bool) (front held : List ℕ) (parts : List (List ℕ)) → 300001 < length (front ++ held) → (length held ≡ 0 → get_or front (length front - 1) 0 ≡ 13 → ⊥) → told_from n kind long (onto_front (front ++ held) parts) ≡ told_from n (kind_with kind front) true (onto_front held parts)
+shed_parts n kind long front held [] over ends = shed_read n kind long front held (omega (arith, over))
+shed_parts n kind long front held (part ∷ []) over ends =
+    let same = append_assoc front held part in
+    let size = length-append (front ++ held) part in
+    let more : 300000 < length (front ++ (held ++ part)) = rw (← same) (omega (arith, over, size)) in
+    ap (λ (xs : List ℕ). told_read n kind long xs) same ∙ shed_read n kind long front (held ++ part) more
+shed_parts n kind long front held (part ∷ next ∷ parts) over ends =
+    let same = strip_front front held part ends in
+    let size = length-append (front ++ held) part in
+    let stripped = strip_size ((front ++ held) ++ part) in
+    let more : 300000 < length (front ++ strip_carriage_return (held ++ part)) = rw (← same) (omega (arith, over, size, stripped)) in
+    ap (λ (xs : List ℕ). told_read n kind long xs ++ told_from (n + 1) Blank false (next ∷ parts)) same
+    ∙ ap (λ (read : List (ℕ × Reading)). read ++ told_from (n + 1) Blank false (next ∷ parts)) (shed_read n kind long front (strip_carriage_return (held ++ part)) more)
 
 -- the front of the bytes held goes into the line's kind
-pub told_shed : (kind : LineKind) (front held rest : List ℕ) → All (λ byte. is_line_feed byte ≡ false) (front ++ held) → All (λ byte. is_line_feed byte ≡ false) held → (length held ≡ 0 → get_or front (length front - 1) 0 ≡ 13 → ⊥) → told_from kind (slice_split is_line_feed ((front ++ held) ++ rest)) ≡ told_from (kind_with kind front) (slice_split is_line_feed (held ++ rest))
-told_shed kind front held rest none none_held ends =
-    ap (λ (parts : List (List ℕ)). told_from kind parts) (split_front (front ++ held) rest none)
-    ∙ shed_parts kind front held (slice_split is_line_feed rest) ends
-    ∙ ap (λ (parts : List (List ℕ)). told_from (kind_with kind front) parts) (sym (split_front held rest none_held))
+pub told_shed : (n : ℕ) (kind : LineKind) (long : Bool) (front held rest : List ℕ) → 300001 < length (front ++ held) → All (λ byte. is_line_feed byte ≡ false) (front ++ held) → All (λ byte. is_line_feed byte ≡ false) held → (length held ≡ 0 → get_or front (length front - 1) 0 ≡ 13 → ⊥)
+    → told_from n kind long (slice_split is_line_feed ((front ++ held) ++ rest)) ≡ told_from n (kind_with kind front) true (slice_split is_line_feed (held ++ rest))
+told_shed n kind long front held rest over none none_held ends =
+    ap (λ (parts : List (List ℕ)). told_from n kind long parts) (split_front (front ++ held) rest none)
+    ∙ shed_parts n kind long front held (slice_split is_line_feed rest) over ends
+    ∙ ap (λ (parts : List (List ℕ)). told_from n (kind_with kind front) true parts) (sym (split_front held rest none_held))
 
-told_first : (kind : LineKind) (x : List ℕ) (parts : List (List ℕ)) → 0 < length parts → told_from kind (x ∷ parts) ≡ told_number (kind_with kind (strip_carriage_return x)) + told_from Blank parts
-told_first kind x [] some = absurd (omega arith)
-told_first kind x (part ∷ parts) some = refl
+told_first : (n : ℕ) (kind : LineKind) (long : Bool) (x : List ℕ) (parts : List (List ℕ)) → 0 < length parts → told_from n kind long (x ∷ parts) ≡ told_read n kind long (strip_carriage_return x) ++ told_from (n + 1) Blank false parts
+told_first n kind long x [] some = absurd (omega arith)
+told_first n kind long x (part ∷ parts) some = refl
 
 -- a line feed ends the line in hand
-pub told_line : (kind : LineKind) (x rest : List ℕ) → All (λ byte. is_line_feed byte ≡ false) x → told_from kind (slice_split is_line_feed (x ++ 10 ∷ rest)) ≡ told_number (kind_with kind (strip_carriage_return x)) + told_from Blank (slice_split is_line_feed rest)
-told_line kind x rest none =
-    ap (λ (parts : List (List ℕ)). told_from kind parts) (slice_split_at is_line_feed x 10 rest none refl)
-    ∙ told_first kind x (slice_split is_line_feed rest) (split_first rest)
+pub told_line : (n : ℕ) (kind : LineKind) (long : Bool) (x rest : List ℕ) → All (λ byte. is_line_feed byte ≡ false) x → told_from n kind long (slice_split is_line_feed (x ++ 10 ∷ rest)) ≡ told_read n kind long (strip_carriage_return x) ++ told_from (n + 1) Blank false (slice_split is_line_feed rest)
+told_line n kind long x rest none =
+    ap (λ (parts : List (List ℕ)). told_from n kind long parts) (slice_split_at is_line_feed x 10 rest none refl)
+    ∙ told_first n kind long x (slice_split is_line_feed rest) (split_first rest)
 
 -- the end of the input ends the line in hand
-pub told_end : (kind : LineKind) (x : List ℕ) → All (λ byte. is_line_feed byte ≡ false) x → told_from kind (slice_split is_line_feed (x ++ [])) ≡ told_number (kind_with kind x)
-told_end kind x none = ap (λ (xs : List ℕ). told_from kind (slice_split is_line_feed xs)) (append-nil x) ∙ ap (λ (parts : List (List ℕ)). told_from kind parts) (slice_split_none is_line_feed x none)
+pub told_end : (n : ℕ) (kind : LineKind) (long : Bool) (x : List ℕ) → All (λ byte. is_line_feed byte ≡ false) x → told_from n kind long (slice_split is_line_feed (x ++ [])) ≡ told_read n kind long x
+told_end n kind long x none = ap (λ (xs : List ℕ). told_from n kind long (slice_split is_line_feed xs)) (append-nil x) ∙ ap (λ (parts : List (List ℕ)). told_from n kind long parts) (slice_split_none is_line_feed x none)

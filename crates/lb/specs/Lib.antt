@@ -6,5 +6,4 @@ pub mod Faults
 pub mod Shown
 pub mod Line
 pub mod Input
-pub mod Answers
 pub mod Replaying

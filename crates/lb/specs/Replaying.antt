@@ -1,43 +1,54 @@
 -- What a replay does to its output.
-use Rattle.std.specs.Prelude.{◌≡◌, ℕ, List, ◌++◌, length, ⊤, Option, IfSome, Result, Ok, Err}
+use Rattle.std.specs.Prelude.{◌≡◌, ℕ, List, [], ◌∷◌, ◌++◌, map, ⊤, Option, IfSome, Result, Ok, Err}
 use Rattle.std.specs.Io.KnownBytes.{Appends}
 use Rattle.lb_core.specs.declared.event.Event.{Event}
 use Rattle.lb_core.specs.declared.answer.Answer.{Answer}
 use Rattle.lb_core.specs.Plain.{Plain, empty}
 use Rattle.lb_core.specs.Runs.{IsRun}
+use Rattle.lb_command.specs.Answers.{lines_of}
+use Rattle.lb_command.specs.declared.fault.CommandFault.{CommandFault}
 use Rattle.lb.specs.declared.faults.Stop.{Stop}
-use Rattle.lb.specs.Faults.{IsBadLine}
-use Rattle.lb.specs.Input.{told_lines}
-use Rattle.lb.specs.Answers.{lines_of}
+use Rattle.lb.specs.declared.faults.Stop.TheVariants.{BadLine, Device, NoMemory}
+use Rattle.lb.specs.Input.{Reading, StopsAt, readings}
 
--- from an empty balancer events were given answers, and an output grew by exactly these answers' lines
-pub record Replayed (old new : Option (List ℕ)) : Type 0 where
+-- of these readings the first are these events, in order, and the others are left
+abbrev pub ReadThen : List (ℕ × Reading) → List Event → List (ℕ × Reading) → Type 0
+ReadThen all events left = (front : List (ℕ × Reading)) × (all ≡ front ++ left) × (map (λ r. r.1) front ≡ map (λ e. Ok e) events)
+
+-- what is left once a replay ends: nothing at the end of its input, and the line that does not read first where it stops there
+abbrev pub EndsBefore : {A : Type 0} → Result A Stop → List (ℕ × Reading) → Type 0
+EndsBefore (Ok done) left = left ≡ []
+EndsBefore (Err stop) left = StopsAt stop left
+
+-- where the bytes of an input are known, its told lines up to where a replay ended were read as these events
+abbrev pub ReadUpTo : {A : Type 0} → Option (List ℕ) → List Event → Result A Stop → Type 0
+ReadUpTo input events result = IfSome input (λ bytes. (left : List (ℕ × Reading)) × ReadThen (readings bytes) events left × EndsBefore result left)
+
+-- from an empty balancer the events that the told lines of an input are read as, up to where the replay ended, were given
+-- answers, and an output grew by exactly these answers' lines
+pub record Replays {A : Type 0} (input old new : Option (List ℕ)) (result : Result A Stop) : Type 0 where
   pub events : List Event
   pub answers : List Answer
   pub end : Plain
   pub run : IsRun empty events answers end
   pub written : Appends old new (lines_of answers)
+  pub read : ReadUpTo input events result
 
--- the same, and where the bytes of the input are known, there was an event for each of its told lines
-pub record Replays (input old new : Option (List ℕ)) : Type 0 where
-  pub events : List Event
-  pub answers : List Answer
-  pub end : Plain
-  pub run : IsRun empty events answers end
-  pub written : Appends old new (lines_of answers)
-  pub told : IfSome input (λ bytes. length events ≡ length (told_lines bytes))
-
--- so many events were given answers, the last of whose lines are held and not yet written
-pub record Answered (old new : Option (List ℕ)) (held : List ℕ) (end : Plain) (count : ℕ) : Type 0 where
-  pub events : List Event
+-- these events were given answers, the last of whose lines are held and not yet written
+pub record Answered (old new : Option (List ℕ)) (held : List ℕ) (end : Plain) (events : List Event) : Type 0 where
   pub answers : List Answer
   pub front : List ℕ
   pub run : IsRun empty events answers end
   pub written : Appends old new front
   pub all : lines_of answers ≡ front ++ held
-  pub number : length events ≡ count
 
--- each line was judged, the last one perhaps as one that does not read
-abbrev pub Judged : {A : Type 0} → Result A Stop → Type 0
-Judged (Ok x) = ⊤
-Judged (Err stop) = IsBadLine stop
+-- a replay ended by the end of its input or by a line that does not read
+abbrev pub IsJudged : {A : Type 0} → Result A Stop → Type 0
+IsJudged (Ok x) = ⊤
+IsJudged (Err (BadLine number fault)) = ⊤
+IsJudged (Err Device) = ⊥
+IsJudged (Err NoMemory) = ⊥
+
+-- the end of a replay by the line with a number, which has this fault
+abbrev pub stopped_at : ℕ → CommandFault → Result (Unit {0}) Stop
+stopped_at number fault = Err (BadLine number fault)

@@ -1,15 +1,15 @@
 //! The lines of an input, one after the other.
 
-ghost use Rattle.std.specs.Prelude.{◌≡◌, IfOk, IfSome, OnOk};
+ghost use Rattle.std.specs.Prelude.{◌≡◌, ◌+◌, IfOk, IfSome, OnOk};
 ghost use Rattle.std.specs.Io.KnownBytes.{Keeps};
 ghost use Rattle.std.specs.Io.Buffered.{reader_remaining};
-ghost use Rattle.lb.specs.Line.{IsFresh, IsSound, kind_with};
-ghost use Rattle.lb.specs.Input.{IsGoing, Turns, events_of, told_number};
+ghost use Rattle.lb.specs.Line.{IsFresh, IsSound};
+ghost use Rattle.lb.specs.Input.{Judges, Turns, told_read};
 
-use crate::events::read_event;
-use crate::faults::{Fault, LineFault, Stop, Unread};
-use crate::line::{Line, LineKind, MAX_LINE, NotUtf8};
+use crate::faults::Stop;
+use crate::line::{Line, LineKind, NotUtf8};
 use crate::shown::Shown;
+use lb_command::{CommandFault, read_event_line};
 use lb_core::Event;
 use std::alloc::Global;
 use std::io;
@@ -39,6 +39,7 @@ impl<R: Read + Drop> Lines<R> {
     /// The lines of an input, of which none is read.
     pub(crate) fn new(alloc: Global, input: R) -> io::Result<Lines<R>>
         ensures line { IfOk result (λ lines. IsFresh lines.line) }
+        ensures ended { IfOk result (λ lines. lines.ended ≡ 0) }
         ensures input { IfOk result (λ lines. Keeps (R.remaining input) (reader_remaining R.remaining lines.input)) }
     {
         Ok(Lines {
@@ -55,7 +56,7 @@ impl<R: Read + Drop> Lines<R> {
 
     /// Takes what the input shows of a line. Where the line ends there, it is judged.
     pub(crate) fn turn(&mut self, alloc: Global) -> Result<Turn, Stop>
-        ensures { IsSound self.old.line → IfSome (reader_remaining R.remaining self.old.input) (λ bytes. IfOk result (λ turn. Turns self.old.line bytes turn self.new.line (reader_remaining R.remaining self.new.input))) }
+        ensures { IsSound self.old.line → IfSome (reader_remaining R.remaining self.old.input) (λ bytes. Turns self.old.ended self.old.line bytes result self.new.ended self.new.line (reader_remaining R.remaining self.new.input)) }
     {
         match self.line.read(&mut self.input)? {
             Shown::Piece => match self.line.shed() {
@@ -73,8 +74,8 @@ impl<R: Read + Drop> Lines<R> {
 
     /// Judges the line in hand, and makes ready for the next.
     fn end_line(&mut self, alloc: Global) -> Result<Turn, Stop>
-        ensures judged { IfOk result (λ turn. (events_of turn ≡ told_number (kind_with self.old.line.kind self.old.line.bytes.items)) × IsGoing turn) }
-        ensures line { OnOk result (IsFresh self.new.line) }
+        ensures judged { Judges (self.old.ended + 1) (told_read (self.old.ended + 1) self.old.line.kind self.old.line.is_long self.old.line.bytes.items) result }
+        ensures line { OnOk result (IsFresh self.new.line × (self.new.ended ≡ self.old.ended + 1)) }
         ensures input { self.new.input ≡ self.old.input }
     {
         let Some(number) = self.ended.checked_add(1) else {
@@ -87,25 +88,23 @@ impl<R: Read + Drop> Lines<R> {
     }
 }
 
-/// What a whole line gives: nothing where it is skipped, and else its event.
+/// What the whole line with a number gives: nothing where it is skipped, and else its event.
 fn judge(alloc: Global, line: &Line, number: u64) -> Result<Turn, Stop>
-    ensures { IfOk result (λ turn. (events_of turn ≡ told_number (kind_with line.now.kind line.now.bytes.items)) × IsGoing turn) }
+    ensures { Judges number (told_read number line.now.kind line.now.is_long line.now.bytes.items) result }
 {
-    match line.kind() {
-        Ok(LineKind::Blank | LineKind::Comment) => return Ok(Turn::Nothing),
-        Ok(LineKind::Told) => {}
-        Err(NotUtf8) => return Err(Stop::Device),
-    }
-    let Some(text) = line.text() else {
-        let fault = Fault {
-            kind: LineFault::Extra,
-            place: MAX_LINE,
-        };
-        return Err(Stop::BadLine { number, fault });
+    let Ok(text) = line.text() else {
+        return Err(Stop::Device);
     };
-    match read_event(alloc, text) {
+    match line.kind(text) {
+        LineKind::Blank | LineKind::Comment => return Ok(Turn::Nothing),
+        LineKind::Told => {}
+    }
+    if line.is_long() {
+        let fault = CommandFault::too_long();
+        return Err(Stop::BadLine { number, fault });
+    }
+    match read_event_line(alloc, text) {
         Ok(event) => Ok(Turn::Event(event)),
-        Err(Unread::Fault(fault)) => Err(Stop::BadLine { number, fault }),
-        Err(Unread::NoMemory) => Err(Stop::NoMemory),
+        Err(fault) => Err(Stop::BadLine { number, fault }),
     }
 }

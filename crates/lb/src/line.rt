@@ -7,13 +7,11 @@ ghost use Rattle.lb.specs.Shown.{Takes};
 ghost use Rattle.lb.specs.Line.{IsFresh, Sheds, kind_with, kind_of as kind_of_bytes};
 
 use crate::shown::{Shown, take_shown};
+use lb_command::MAX_LINE;
 use std::alloc::Global;
 use std::io;
 use std::io::{BufReader, ErrorKind, Read};
 use std::str::from_utf8;
-
-/// The most bytes that a line has which is neither blank nor a comment.
-pub(crate) const MAX_LINE: usize = 300_000;
 
 /// What the bytes of a line make it.
 #[derive(Clone, Copy, Debug, PartialEq, Eq)]
@@ -131,23 +129,28 @@ impl Line {
         }
     }
 
-    /// What the whole line is.
-    pub(crate) fn kind(&self) -> Result<LineKind, NotUtf8>
-        ensures { IfOk result (λ kind. kind ≡ kind_with self.now.kind self.now.bytes.items) }
+    /// The bytes of the line that are held, as a text.
+    pub(crate) fn text(&self) -> Result<&str, NotUtf8>
+        ensures { IfOk result (λ text. text.now ≡ self.now.bytes.items) }
     {
         match from_utf8(self.bytes.as_slice()) {
-            Ok(_) => Ok(self.kind.with(self.bytes.as_slice())),
+            Ok(text) => Ok(text),
             Err(_) => Err(NotUtf8),
         }
     }
 
-    /// The line, unless it is too long.
-    pub(crate) fn text(&self) -> Option<&[u8]> {
-        if self.is_long || self.bytes.len() > MAX_LINE {
-            None
-        } else {
-            Some(self.bytes.as_slice())
-        }
+    /// What the line is whose bytes that are held are these.
+    pub(crate) fn kind(&self, text: &str) -> LineKind
+        ensures { result ≡ kind_with self.now.kind text.now }
+    {
+        self.kind.with(text.as_bytes())
+    }
+
+    /// Whether bytes of the line are no longer held, since it is too long.
+    pub(crate) fn is_long(&self) -> bool
+        ensures { result ≡ self.now.is_long }
+    {
+        self.is_long
     }
 }
 

@@ -2,8 +2,6 @@
 //! answer to standard output.
 #![tactic(auto)]
 
-mod answers;
-mod events;
 mod faults;
 mod input;
 mod line;
@@ -13,10 +11,7 @@ mod rows;
 mod shown;
 #[cfg(test)]
 mod tests;
-mod words;
 
-pub use answers::answer_line;
-pub use faults::{Fault, LineFault};
 pub use replaying::replay;
 use std::process::ExitCode;
 

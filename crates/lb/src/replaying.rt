@@ -1,18 +1,19 @@
 //! Replaying lines: each is an event of one balancer, and each answer becomes a line.
 
-ghost use Rattle.std.specs.Prelude.{◌≡◌, ◌≢◌, ◌≤◌, ◌++◌, [], List, ℕ, Option, codes, length, IfSome, OnOk, IsTrue};
-ghost use Rattle.std.specs.Io.KnownBytes.{Appends, Keeps};
+ghost use Rattle.std.specs.Prelude.{◌≡◌, ◌≢◌, ◌≤◌, ◌++◌, [], List, ℕ, Option, Err, Ok, codes, OnOk, IsTrue};
+ghost use Rattle.std.specs.Io.KnownBytes.{Appends};
 ghost use Rattle.lb_core.specs.Plain.{Plain};
 ghost use Rattle.lb_core.specs.Step.{Answers};
 ghost use Rattle.lb_core.specs.declared.answer.Answer.{Answer};
-ghost use Rattle.lb.specs.Answers.{line_of};
+ghost use Rattle.lb_core.specs.declared.event.Event.{Event};
+ghost use Rattle.lb_command.specs.Answers.{line_of};
+ghost use Rattle.lb_command.specs.declared.fault.CommandFault.{CommandFault};
 ghost use Rattle.lb.specs.Faults.{stop_text, stop_status};
-ghost use Rattle.lb.specs.Input.{told_lines};
-ghost use Rattle.lb.specs.Replaying.{Replayed, Replays, Answered, Judged};
+ghost use Rattle.lb.specs.Replaying.{Answered, IsJudged, ReadUpTo, Replays, stopped_at};
 
-use crate::answers::answer_line;
 use crate::faults::Stop;
 use crate::input::{Lines, Turn};
+use lb_command::answer_line;
 use lb_core::{Balancer, Event};
 use std::alloc::{AllocError, Global};
 use std::io;
@@ -29,9 +30,10 @@ pub fn replay<A: AllocGlobal, R: Read + Drop, W: Write, F: Write>(
     output: &mut W,
     faults: &mut F,
 ) -> u8
-    ensures run { result ≤ 1 → Replayed (W.contents output.old) (W.contents output.new) }
-    // at the end of an input whose bytes are known, each of its told lines was an event
-    ensures all { result ≡ 0 → Replays (R.remaining input) (W.contents output.old) (W.contents output.new) }
+    // each told line was an event
+    ensures ended { result ≡ 0 → Replays (R.remaining input) (W.contents output.old) (W.contents output.new) (Ok tt) }
+    // each told line was an event, up to the one with this number, which does not read
+    ensures stopped { result ≡ 1 → (number : ℕ) × (fault : CommandFault) × Replays (R.remaining input) (W.contents output.old) (W.contents output.new) (stopped_at number fault) }
     ensures status { (result ≤ 3) × (result ≢ 2) }
 {
     match replay_lines(rt.alloc(), input, output) {
@@ -49,8 +51,7 @@ fn replay_lines<R: Read + Drop, W: Write>(
     input: R,
     output: &mut W,
 ) -> Result<(), Stop>
-    ensures judged { Judged result → Replayed (W.contents output.old) (W.contents output.new) }
-    ensures all { OnOk result (Replays (R.remaining input) (W.contents output.old) (W.contents output.new)) }
+    ensures { IsJudged result → Replays (R.remaining input) (W.contents output.old) (W.contents output.new) result }
 {
     let mut held = Vec::new(alloc);
     let result = answer_lines(alloc, input, output, &mut held);
@@ -66,8 +67,7 @@ fn answer_lines<R: Read + Drop, W: Write>(
     held: &mut Vec<u8>,
 ) -> Result<(), Stop>
     requires { held.old.items ≡ [] }
-    ensures judged { Judged result → (end : Plain) × (count : ℕ) × Answered (W.contents output.old) (W.contents output.new) held.new.items end count }
-    ensures all { OnOk result ((end : Plain) × (count : ℕ) × Answered (W.contents output.old) (W.contents output.new) held.new.items end count × IfSome (R.remaining input) (λ bytes. count ≡ length (told_lines bytes))) }
+    ensures { IsJudged result → (end : Plain) × (events : List Event) × Answered (W.contents output.old) (W.contents output.new) held.new.items end events × ReadUpTo (R.remaining input) events result }
 {
     let mut balancer = Balancer::new(alloc)?;
     let mut lines = Lines::new(alloc, input)?;
@@ -112,7 +112,7 @@ fn write_out<W: Write>(output: &mut W, held: &mut Vec<u8>) -> io::Result<()>
 
 /// Writes out what is held, if the input may now be waited for.
 fn write_if<W: Write>(waits: bool, output: &mut W, held: &mut Vec<u8>) -> io::Result<()>
-    ensures kept { OnOk result ((first : Option (List ℕ)) (end : Plain) (count : ℕ) → Answered first (W.contents output.old) held.old.items end count → Answered first (W.contents output.new) held.new.items end count) }
+    ensures kept { OnOk result ((first : Option (List ℕ)) (end : Plain) (events : List Event) → Answered first (W.contents output.old) held.old.items end events → Answered first (W.contents output.new) held.new.items end events) }
     ensures written { OnOk result (IsTrue waits → held.new.items ≡ []) }
 {
     if waits {

@@ -8,3 +8,4 @@ pub mod Actions
 pub mod Commands
 pub mod Events
 pub mod Setup
+pub mod Answers

@@ -9,7 +9,7 @@ use std::alloc::{AllocError, AllocFailed};
 use thiserror::Error;
 
 /// The most bytes of a line.
-pub(crate) const MAX_LINE: usize = 300_000;
+pub const MAX_LINE: usize = 300_000;
 
 /// Why a line does not read. `number` and `name` are what texts give it.
 #[derive(Clone, Copy, Debug, PartialEq, Eq, Error)]
@@ -91,7 +91,7 @@ pub struct CommandFault {
 
 impl CommandFault {
     /// That of a line of over 300,000 bytes.
-    pub(crate) fn too_long() -> CommandFault
+    pub fn too_long() -> CommandFault
         ensures { result ≡ record { place = max_line; kind = Extra } }
     {
         CommandFault {

@@ -1,7 +1,8 @@
-//! Texts of the console: commands, event lines and setup lines read, each to its first fault.
+//! Texts of the console: commands, event lines and setup lines are read, each to its first fault, and answers written as lines.
 #![tactic(auto)]
 
 mod actions;
+mod answers;
 mod commands;
 mod events;
 mod fault;
@@ -14,7 +15,8 @@ mod tests;
 mod values;
 mod words;
 
+pub use answers::{answer_line, note_text};
 pub use commands::read_command;
 pub use events::read_event_line;
-pub use fault::{CommandFault, FaultKind};
+pub use fault::{CommandFault, FaultKind, MAX_LINE};
 pub use setup::{Listener, Protocol, SetupLine, read_setup_line};

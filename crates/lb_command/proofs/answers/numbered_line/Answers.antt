@@ -1,5 +1,5 @@
 use Rattle.std.proofs.Common.{append_assoc}
-use Rattle.lb.proofs.answers.numbered_line.Goals as goal
+use Rattle.lb_command.proofs.answers.numbered_line.Goals as goal
 
 pub returns : goal.returns
 returns c = simp append_assoc c.format.ensures.ok

@@ -1,5 +1,5 @@
 use Rattle.std.proofs.Common.{append_assoc}
-use Rattle.lb.proofs.answers.edited_line.Goals as goal
+use Rattle.lb_command.proofs.answers.edited_line.Goals as goal
 
 pub returns-in-ServerMode : goal.returns-in-ServerMode
 returns-in-ServerMode c = rw c.in-ServerMode.is (simp append_assoc (rw c.mode_word-mode.ensures at c.format.ensures.ok))

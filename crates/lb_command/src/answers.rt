@@ -1,7 +1,7 @@
 //! Writing answers as lines.
 
 ghost use Rattle.std.specs.Prelude.{◌≡◌, IfOk, string_bytes};
-ghost use Rattle.lb.specs.Answers.{deliver_text, drop_text, edited_text, expired_text, forward_text, hex_text, ignored_text, kept_text, kind_text, line_of, local_text, mode_text, numbered_text, policy_text, pool_text, rules_text, servers_text, totals_text};
+ghost use Rattle.lb_command.specs.Answers.{deliver_text, drop_text, edited_text, expired_text, forward_text, hex_text, ignored_text, kept_text, kind_text, line_of, local_text, mode_text, note_of, numbered_text, policy_text, pool_text, rules_text, servers_text, totals_text};
 
 use lb_chain::ChainFault;
 use lb_core::{Answer, DropReason, EditFault, IgnoreReason, LocalReason, Note, Totals};
@@ -40,6 +40,25 @@ pub fn answer_line(alloc: Global, answer: &Answer) -> Result<String, AllocError>
             format!(in alloc; "nomemory {bytes}")
         }
     }
+}
+
+/// What a note tells: the whole line of an edit that was carried out or refused, and the first word of the line of any other
+/// answer. The one error is want of memory.
+pub fn note_text(alloc: Global, answer: &Answer) -> Result<String, AllocError>
+    ensures { IfOk result (λ text. string_bytes text ≡ note_of answer.now) }
+{
+    let word = match answer {
+        Answer::Edited(_) | Answer::Refused(_) => return answer_line(alloc, answer),
+        Answer::Dropped(_) => "dropped",
+        Answer::Local(..) => "local",
+        Answer::Forward(..) => "forward",
+        Answer::Deliver(..) => "deliver",
+        Answer::Expired(..) => "expired",
+        Answer::Quiet => "quiet",
+        Answer::Ignored(_) => "ignored",
+        Answer::NoMemory(_) => "nomemory",
+    };
+    String::from_str(alloc, word)
 }
 
 /// The line of a query that is sent to a server.

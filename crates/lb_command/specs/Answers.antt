@@ -161,6 +161,19 @@ line_of (Refused (Servers fault)) = servers_text fault
 line_of (Refused NoCache) = codes "refused cache 1 NoCache"
 line_of (NoMemory bytes) = codes "nomemory " ++ hex_text bytes
 
+-- what a note tells: the whole line of an edit, and the first word of the line of any other answer
+abbrev pub note_of : Answer → List ℕ
+note_of (Edited note) = edited_text note
+note_of (Refused fault) = line_of (Refused fault)
+note_of (Dropped reason) = codes "dropped"
+note_of (Local bytes reason) = codes "local"
+note_of (Forward server lane id bytes) = codes "forward"
+note_of (Deliver origin bytes kept) = codes "deliver"
+note_of (Expired origin bytes) = codes "expired"
+note_of Quiet = codes "quiet"
+note_of (Ignored reason) = codes "ignored"
+note_of (NoMemory bytes) = codes "nomemory"
+
 -- each answer's line and a line feed, in order
 abbrev pub lines_of : List Answer → List ℕ
 lines_of answers = flat_map (λ answer. line_of answer ++ codes "\n") answers
