@@ -2,4 +2,4 @@ pub mod Replays
 pub mod Takes
 pub mod ToldLines
 pub mod Turns
-pub mod Counts
+pub mod Readings

@@ -1,6 +1,6 @@
 //! Replaying lines: each is an event of one balancer, and each answer becomes a line.
 
-ghost use Rattle.std.specs.Prelude.{◌≡◌, ◌≢◌, ◌≤◌, ◌++◌, [], List, ℕ, Option, Err, Ok, codes, OnOk, IsTrue};
+ghost use Rattle.std.specs.Prelude.{◌≡◌, ◌≢◌, ◌≤◌, ◌++◌, [], List, ℕ, Option, codes, OnOk, IsTrue};
 ghost use Rattle.std.specs.Io.KnownBytes.{Appends};
 ghost use Rattle.lb_core.specs.Plain.{Plain};
 ghost use Rattle.lb_core.specs.Step.{Answers};
@@ -9,7 +9,7 @@ ghost use Rattle.lb_core.specs.declared.event.Event.{Event};
 ghost use Rattle.lb_command.specs.Answers.{line_of};
 ghost use Rattle.lb_command.specs.declared.fault.CommandFault.{CommandFault};
 ghost use Rattle.lb.specs.Faults.{stop_text, stop_status};
-ghost use Rattle.lb.specs.Replaying.{Answered, IsJudged, ReadUpTo, Replays, stopped_at};
+ghost use Rattle.lb.specs.Replaying.{Answered, IsJudged, ReadUpTo, Replays, at_end, stopped_at};
 
 use crate::faults::Stop;
 use crate::input::{Lines, Turn};
@@ -31,7 +31,7 @@ pub fn replay<A: AllocGlobal, R: Read + Drop, W: Write, F: Write>(
     faults: &mut F,
 ) -> u8
     // each told line was an event
-    ensures ended { result ≡ 0 → Replays (R.remaining input) (W.contents output.old) (W.contents output.new) (Ok tt) }
+    ensures ended { result ≡ 0 → Replays (R.remaining input) (W.contents output.old) (W.contents output.new) at_end }
     // each told line was an event, up to the one with this number, which does not read
     ensures stopped { result ≡ 1 → (number : ℕ) × (fault : CommandFault) × Replays (R.remaining input) (W.contents output.old) (W.contents output.new) (stopped_at number fault) }
     ensures status { (result ≤ 3) × (result ≢ 2) }

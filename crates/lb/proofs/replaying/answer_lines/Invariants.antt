@@ -1,12 +1,13 @@
-use Rattle.std.proofs.Common.{ℕ}
+use Rattle.std.proofs.Common.{List}
 use Rattle.std.specs.Io.Buffered.{reader_remaining}
+use Rattle.lb_core.specs.declared.event.Event.{Event}
 use Rattle.lb.specs.Replaying.{Answered}
-use Rattle.lb.proofs.Counts.{Counts}
+use Rattle.lb.proofs.Readings.{ReadSoFar}
 use Rattle.lb.proofs.replaying.answer_lines.Given as goal
 
--- so many events were answered, and they and the told lines that are left are all of the input's
+-- the events that the told lines so far were read as were answered
 abbrev pub invariant-turns : goal.invariant-turns
 invariant-turns g l =
-    (count : ℕ)
-    × Answered (g.W.Write.contents l.fn.output) (g.W.Write.contents l.output) l.held.items l.balancer count
-    × Counts (g.R.Read.remaining l.fn.input) (reader_remaining g.R.Read.remaining l.lines.input) l.lines.line count
+    (events : List Event)
+    × Answered (g.W.Write.contents l.fn.output) (g.W.Write.contents l.output) l.held.items l.balancer events
+    × ReadSoFar (g.R.Read.remaining l.fn.input) (reader_remaining g.R.Read.remaining l.lines.input) l.lines.ended l.lines.line events
