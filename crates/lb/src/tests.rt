@@ -1,17 +1,8 @@
 //! Replays over readers and writers in memory.
 
+use crate::replay;
 use crate::rows::{REFUSED_BY_TYPE, ROWS};
-use crate::{answer_line, replay};
-use lb_core::{
-    Answer, Balancer, Command, EditFault, Event, IgnoreReason, LocalReason, Note, StatedAction,
-    StatedRule, Timeout, Totals, run,
-};
-use lb_servers::{Ident, Mode, ParkFault, Policy, PoolName};
-use lb_terms::{Term, TermFault};
-use lb_wire::{
-    Addr, CacheId, Kept, Kind, Lane, Octets, Origin, Rcode, RecordType, RuleId, ServerId,
-};
-use std::alloc::{AllocError, Global};
+use std::alloc::AllocError;
 use std::io;
 use std::io::{Cursor, ErrorKind, Read, Write};
 use std::process::Abort;
@@ -96,196 +87,26 @@ fn expect<T: Abort + AllocGlobal, R: Read + Drop>(
 #[test]
 fn rows_are_answered(rt: HostRuntime) {
     for row in &ROWS {
-        expect(&rt, row.name, row.input.as_bytes(), 0, row.output, "");
+        expect(
+            &rt,
+            row.name,
+            row.input.as_bytes(),
+            row.status,
+            row.output,
+            row.faults,
+        );
         let slow = Dribble {
             rest: row.input.as_bytes(),
             cut: None,
             kind: ErrorKind::Other,
         };
-        expect(&rt, row.name, slow, 0, row.output, "");
+        expect(&rt, row.name, slow, row.status, row.output, row.faults);
     }
-}
-
-/// A query for the address of example.com, with the ID 0x1234.
-const QUERY: &str = "123401000001000000000000076578616d706c6503636f6d0000010001";
-
-const REFUSED: &str = "local rule 123481850001000000000000076578616d706c6503636f6d0000010001";
-
-/// The client of a replay's queries.
-const ORIGIN: Origin = Origin {
-    front: 0,
-    slot: 7,
-    source: Addr::V4([192, 0, 2, 1]),
-    port: 0,
-};
-
-/// A rule that refuses queries for addresses.
-fn rule_event() -> Result<Event, TermFault> {
-    let term = Term::Qtype(RecordType::A).checked()?;
-    let action = StatedAction::Rcode(Rcode::Refused);
-    Ok(Event::Edit {
-        now: 0,
-        command: Command::RuleAdd(None, StatedRule { term, action }),
-    })
-}
-
-/// `QUERY` from a client.
-fn query_event(alloc: Global) -> Result<Event, Fail> {
-    Ok(Event::Query {
-        now: 1000,
-        origin: ORIGIN,
-        kind: Kind::Datagram,
-        word: 16,
-        bytes: Octets::from_vec(hex::decode(alloc, QUERY)?),
-    })
-}
-
-/// The answers of a new balancer to the rule and the query.
-fn typed_answers(alloc: Global) -> Result<Vec<Answer>, Fail> {
-    let mut events = Vec::new(alloc);
-    events.push(rule_event()?)?;
-    events.push(query_event(alloc)?)?;
-    let mut balancer = Balancer::new(alloc)?;
-    match run(alloc, &mut balancer, events) {
-        Ok(answers) => Ok(answers),
-        Err(_) => Err(Fail::from(AllocError)),
-    }
-}
-
-/// Whether an answer is given by rule 1.
-fn is_by_rule_1(answer: &Answer) -> bool {
-    matches!(answer, Answer::Local(_, LocalReason::Rule(RuleId(1))))
-}
-
-#[test]
-fn typed_events_are_answered(rt: HostRuntime) -> Result<(), Fail> {
-    let answers = typed_answers(rt.alloc())?;
-    assert_eq!(rt; answers.len(), 2);
-    expect_line(&rt, &answers[0], "edited rule 1 added")?;
-    expect_line(&rt, &answers[1], REFUSED)?;
-    assert!(rt; is_by_rule_1(&answers[1]));
-    Ok(())
-}
-
-/// Compares the line of an answer.
-fn expect_line<T: Abort + AllocGlobal>(
-    rt: &T,
-    answer: &Answer,
-    line: &str,
-) -> Result<(), AllocError> {
-    let text = answer_line(rt.alloc(), answer)?;
-    assert!(rt; text.as_str() == line, "the line {line}");
-    Ok(())
-}
-
-/// Two octets of a message.
-fn octets<T: AllocGlobal>(rt: &T) -> Result<Octets, AllocError> {
-    Ok(Octets::from_vec(Vec::from_slice(rt.alloc(), b"\x0f\xa0".as_slice())?))
-}
-
-#[test]
-fn a_hit_has_its_line(rt: HostRuntime) -> Result<(), Fail> {
-    let hit = Answer::Local(octets(&rt)?, LocalReason::Hit);
-    Ok(expect_line(&rt, &hit, "local hit 0fa0")?)
-}
-
-#[test]
-fn a_query_that_is_sent_has_its_line(rt: HostRuntime) -> Result<(), Fail> {
-    let lane = Lane {
-        kind: Kind::Stream,
-        number: 0,
-    };
-    let sent = Answer::Forward(ServerId(u64::MAX), lane, 65_535, octets(&rt)?);
-    let line = "forward 18446744073709551615 tcp 65535 0fa0";
-    Ok(expect_line(&rt, &sent, line)?)
-}
-
-#[test]
-fn a_reply_has_its_line(rt: HostRuntime) -> Result<(), Fail> {
-    let reply = Answer::Deliver(ORIGIN, octets(&rt)?, Kept::NoRoom);
-    Ok(expect_line(&rt, &reply, "deliver 7 noroom 0fa0")?)
-}
-
-#[test]
-fn an_ignored_reply_has_its_line(rt: HostRuntime) -> Result<(), Fail> {
-    let ignored = Answer::Ignored(IgnoreReason::Mismatch);
-    Ok(expect_line(&rt, &ignored, "ignored mismatch")?)
-}
-
-/// How much there is of each part: six different numbers, the last beyond 64 bits.
-const TOTALS: Totals = Totals {
-    rules: 4096,
-    servers: 256,
-    pools: 64,
-    caches: 5,
-    outstanding: 0,
-    kept: 18_446_744_073_709_551_616,
-};
-
-/// The line of `TOTALS`.
-const SHOWN: &str =
-    "edited rules 4096 servers 256 pools 64 caches 5 outstanding 0 kept 18446744073709551616";
-
-#[test]
-fn answers_to_edits_have_their_lines(rt: HostRuntime) -> Result<(), Fail> {
-    let named = Ident::parse("cache-1").map_or(PoolName::Default, PoolName::Named);
-    let timeout = Timeout::from_millis(500).ok_or("no timeout")?;
-    for (note, line) in [
-        (Note::ServerAdded(ServerId(2)), "edited server 2 added"),
-        (Note::ServerRemoved(ServerId(2)), "edited server 2 removed"),
-        (
-            Note::ServerMode(ServerId(2), Mode::Up),
-            "edited server 2 mode up",
-        ),
-        (
-            Note::ServerMode(ServerId(2), Mode::Down),
-            "edited server 2 mode down",
-        ),
-        (
-            Note::ServerMode(ServerId(2), Mode::Auto),
-            "edited server 2 mode auto",
-        ),
-        (Note::ServerUp(ServerId(2)), "edited server 2 up"),
-        (Note::ServerDown(ServerId(2)), "edited server 2 down"),
-        (Note::TimeoutSet(timeout), "edited timeout 500"),
-        (Note::CacheAttached(CacheId(3)), "edited cache 3 attached"),
-        (Note::CacheDetached(CacheId(3)), "edited cache 3 detached"),
-        (Note::Expunged(1200), "edited expunged 1200"),
-        (Note::Shown(TOTALS), SHOWN),
-        (Note::PoolAdded(named), "edited pool cache-1 added"),
-        (
-            Note::PoolPolicy(PoolName::Default, Policy::FirstAvailable),
-            "edited pool - policy firstAvailable",
-        ),
-        (
-            Note::PoolPolicy(PoolName::Default, Policy::LeastOutstanding),
-            "edited pool - policy leastOutstanding",
-        ),
-        (
-            Note::PoolPolicy(PoolName::Default, Policy::RoundRobin),
-            "edited pool - policy roundrobin",
-        ),
-    ] {
-        expect_line(&rt, &Answer::Edited(note), line)?;
-    }
-    for (fault, line) in [
-        (ParkFault::NoSuchServer, "refused servers 1 NoSuchServer"),
-        (ParkFault::NoSuchPool, "refused servers 2 NoSuchPool"),
-        (ParkFault::NameTaken, "refused servers 3 NameTaken"),
-        (ParkFault::TooMany, "refused servers 4 TooMany"),
-        (ParkFault::NoMemory, "refused servers 5 NoMemory"),
-        (ParkFault::NoMoreIds, "refused servers 6 NoMoreIds"),
-    ] {
-        expect_line(&rt, &Answer::Refused(EditFault::Servers(fault)), line)?;
-    }
-    let no_cache = Answer::Refused(EditFault::NoCache);
-    expect_line(&rt, &no_cache, "refused cache 1 NoCache")?;
-    Ok(())
 }
 
 /// Lines that do not read, with the place, the number and the name of the fault.
 const FAULTS: [(&str, &str); 40] = [
-    ("reply 0 1 udp -", "0: 1 UnknownWord"),
+    ("replay 0 1 udp -", "0: 1 UnknownWord"),
     (
         "Edit 0 rule add qtype(A) rcode(REFUSED)",
         "0: 1 UnknownWord",
@@ -297,49 +118,43 @@ const FAULTS: [(&str, &str); 40] = [
     ("edit  ", "6: 2 Missing"),
     ("edit\t0", "4: 1 UnknownWord"),
     ("editor\t0", "0: 1 UnknownWord"),
-    ("edit x", "5: 1 UnknownWord"),
-    ("edit 18446744073709551616 rule", "5: 1 UnknownWord"),
+    ("edit x", "5: 4 BadNumber"),
+    ("edit 18446744073709551616 rule", "5: 4 BadNumber"),
     ("edit 18446744073709551615", "25: 2 Missing"),
-    ("edit -1 rule", "5: 1 UnknownWord"),
-    ("edit 0 show", "7: 1 UnknownWord"),
-    ("edit 0 rule remove 1", "12: 1 UnknownWord"),
-    ("edit 0 rule add at 0 qtype(A)", "16: 1 UnknownWord"),
-    ("edit 0 rule add all", "16: 1 UnknownWord"),
+    ("edit -1 rule", "5: 4 BadNumber"),
+    ("edit 0 shown", "7: 1 UnknownWord"),
+    ("edit 0 rule remove x", "19: 4 BadNumber"),
+    ("edit 0 rule add at x qtype(A)", "19: 4 BadNumber"),
+    ("edit 0 rule add all", "19: 2 Missing"),
     ("edit 0 rule add (", "16: 1 UnknownWord"),
     ("edit 0 rule add qtype A", "22: 1 UnknownWord"),
     ("edit 0 rule add qtype(", "22: 2 Missing"),
     ("edit 0 rule add qtype(a)", "22: 1 UnknownWord"),
-    ("edit 0 rule add qtype(65536)", "22: 1 UnknownWord"),
+    ("edit 0 rule add qtype(65536)", "22: 4 BadNumber"),
     ("edit 0 rule add qtype()", "22: 1 UnknownWord"),
     ("edit 0 rule add qtype(A,NS)", "23: 1 UnknownWord"),
     ("edit 0 rule add qtype(A", "23: 2 Missing"),
-    ("edit 0 rule add qtype(A) drop", "25: 1 UnknownWord"),
+    ("edit 0 rule add qtype(A) drops", "25: 1 UnknownWord"),
     (
         "edit 0 rule add qtype(A) rcode(YXDOMAIN)",
         "31: 1 UnknownWord",
     ),
-    (
-        "edit 0 rule add qtype(A) rcode(REFUSED) x",
-        "40: 1 UnknownWord",
-    ),
-    (
-        "edit 0 rule add qtype(A) rcode(REFUSED))",
-        "39: 1 UnknownWord",
-    ),
+    ("edit 0 rule add qtype(A) rcode(REFUSED) x", "40: 3 Extra"),
+    ("edit 0 rule add qtype(A) rcode(REFUSED))", "39: 3 Extra"),
     (
         "edit 0 rule add qtype(A) rcode(REFUSED)\t",
         "39: 1 UnknownWord",
     ),
-    ("query 0 18446744073709551616 udp", "8: 1 UnknownWord"),
+    ("query 0 18446744073709551616 udp", "8: 4 BadNumber"),
     ("query 0 7 doh", "10: 1 UnknownWord"),
-    ("query 0 7 tcp 192.0.2.01 16 -", "14: 1 UnknownWord"),
-    ("query 0 7 tcp 192.0.2.256 16 -", "14: 1 UnknownWord"),
-    ("query 0 7 tcp 192.0.2 16 -", "14: 1 UnknownWord"),
-    ("query 0 7 udp ::1 16 -", "14: 1 UnknownWord"),
-    ("query 0 7 udp 192.0.2.1 65536 -", "24: 1 UnknownWord"),
-    ("query 0 7 udp 192.0.2.1 16 123", "27: 1 UnknownWord"),
-    ("query 0 7 udp 192.0.2.1 16 1g", "27: 1 UnknownWord"),
-    ("query 0 7 udp 192.0.2.1 16 - -", "29: 1 UnknownWord"),
+    ("query 0 7 tcp 192.0.2.01 16 -", "14: 6 BadAddress"),
+    ("query 0 7 tcp 192.0.2.256 16 -", "14: 6 BadAddress"),
+    ("query 0 7 tcp 192.0.2 16 -", "14: 6 BadAddress"),
+    ("query 0 7 udp ::1::2 16 -", "14: 6 BadAddress"),
+    ("query 0 7 udp 192.0.2.1 65536 -", "24: 4 BadNumber"),
+    ("query 0 7 udp 192.0.2.1 16 123", "27: 7 BadHex"),
+    ("query 0 7 udp 192.0.2.1 16 1g", "27: 7 BadHex"),
+    ("query 0 7 udp 192.0.2.1 16 - -", "29: 3 Extra"),
 ];
 
 #[test]
@@ -538,7 +353,7 @@ fn long_lines_are_skipped_or_refused(rt: HostRuntime) -> Result<(), Fail> {
         input.as_slice(),
         1,
         "",
-        "line 1: at 27: 1 UnknownWord\n",
+        "line 1: at 27: 7 BadHex\n",
     );
     Ok(())
 }
