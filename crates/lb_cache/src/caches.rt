@@ -1,7 +1,7 @@
 //! The attached caches of all pools.
 
 ghost use Rattle.std.specs.Prelude.{◌≡◌, ◌<◌, ◌++◌, [], IfOk, IfSome, OnErr, OnOk, Some, length, map, option_map};
-ghost use Rattle.std.specs.List.{flat_map, position};
+ghost use Rattle.std.specs.List.{AllByRecursion, flat_map, position};
 ghost use Rattle.lb_cache.specs.Cache.{expunged, lacks};
 ghost use Rattle.lb_cache.specs.Caches.{attached_of, cache_with, covers, expunged_in, has_number, held_by, is_old, kept_in, kept_of, looked_in, no_caches, with_cache, without_cache, without_old, IsKeepable};
 
@@ -112,23 +112,22 @@ impl Caches {
         }
     }
 
-    /// Attaches a cache that keeps nothing yet under a number, in the place of an old one, where there is one. Where memory is
-    /// wanting nothing changes.
+    /// Attaches a cache that keeps nothing yet under a number that is greater than all those that are attached, in the place of
+    /// an old one, where there is one. Where memory is wanting nothing changes.
     pub fn attach(
         &mut self,
         old: Option<CacheId>,
         id: CacheId,
         cache: Cache,
     ) -> Result<(), AllocError>
+        requires fresh { AllByRecursion (λ c. c.id.0 < id.0) self.old.caches }
         requires empty { cache.replies ≡ [] }
         ensures attached { OnOk result (self.new ≡ with_cache (record { id = id; max = cache.max; max_ttl = cache.max_ttl }) (without_old old self.old)) }
         ensures unchanged { OnErr result (self.new ≡ self.old) }
     {
         self.shelves.reserve(1)?;
-        self.shelves
-            .retain(|shelf| !has_number(shelf, id) && !is_old(shelf, old));
-        let at = self.shelves.partition_point(|shelf| shelf.id.0 < id.0);
-        self.shelves.insert(at, Shelf { id, cache }).unwrap();
+        self.shelves.retain(|shelf| !is_old(shelf, old));
+        self.shelves.push(Shelf { id, cache }).unwrap();
         Ok(())
     }
 

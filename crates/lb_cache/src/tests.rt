@@ -1,9 +1,10 @@
 //! The cache, by values worked out by hand.
 
-ghost use Rattle.std.specs.Prelude.{◌≡◌, [], ◌∷◌, IfOk};
+ghost use Rattle.std.specs.Prelude.{◌≡◌, ◌<◌, [], ◌∷◌, IfOk, IsTrue};
+ghost use Rattle.std.specs.List.{AllByRecursion};
 ghost use Rattle.lb_cache.specs.Caches.{name_of_key};
 
-use crate::{Cache, CachedReply, Caches, Covered, MaxEntries, MaxTtl, Shards};
+use crate::{AttachedCache, Cache, CachedReply, Caches, Covered, MaxEntries, MaxTtl, Shards};
 use Kind::{Datagram, Stream};
 use Seen::{Done, Found, Gone, Nothing};
 use Told::{Attach, Detach, ExpungeAll, ExpungeName, ExpungeSuffix, Keep, Look};
@@ -225,6 +226,13 @@ enum Seen {
 /// keep a reply, with 0 behind the last.
 type Line = (Told, Seen, [u64; 2], [u64; 3]);
 
+/// Whether a number is greater than those of these caches.
+fn is_next(caches: &[AttachedCache], id: CacheId) -> bool
+    ensures { IsTrue result → AllByRecursion (λ c. c.id.0 < id.0) caches.now }
+{
+    caches.iter().all(|cache| cache.id.0 < id.0)
+}
+
 /// Attaches a new cache.
 fn attach(
     alloc: Global,
@@ -234,6 +242,9 @@ fn attach(
     old: Option<u64>,
 ) -> Result<(), Fail> {
     let cache = cache(alloc, max)?;
+    if !is_next(caches.list(alloc)?.as_slice(), CacheId(id)) {
+        return Err(Fail::from("not the next number"));
+    }
     Ok(caches.attach(old.map(|old| CacheId(old)), CacheId(id), cache)?)
 }
 
@@ -312,8 +323,8 @@ fn play<T: Abort + AllocGlobal>(rt: &T, row: &[Line]) -> Result<(), Fail> {
 const YES: Seen = Seen::Kept(Kept::Yes);
 
 const TWO_CACHES: &[Line] = &[
-    (Attach(2, 1, None), Done, [2, 0], [0, 0, 0]),
-    (Attach(1, 10, None), Done, [1, 2], [0, 0, 0]),
+    (Attach(1, 10, None), Done, [1, 0], [0, 0, 0]),
+    (Attach(2, 1, None), Done, [1, 2], [0, 0, 0]),
     (Keep(2, Datagram, 0), YES, [1, 2], [2, 0, 0]),
     (Keep(1, Datagram, 0), YES, [1, 2], [1, 2, 0]),
     (Keep(1, Stream, 0), YES, [1, 2], [1, 1, 2]),

@@ -1,11 +1,12 @@
 -- Each server keeps one health check, with its number, and a mark that is what its health says, through each change of the
 -- servers and of the checks.
-use Rattle.std.proofs.Common.{◌≡◌, ℕ, zero, suc, ◌+◌, ◌<◌, ◌^◌, ◌==◌, ◌||◌, Bool, true, false, not, List, [], ◌∷◌, ◌++◌, length, map, get_or, Some, Result, Ok, Err, cond, refl, sym, ◌∙◌, ap, subst, arith, nat_le}
+use Rattle.std.proofs.Common.{◌≡◌, ℕ, zero, suc, ◌+◌, ◌<◌, ◌^◌, ◌==◌, ◌||◌, Bool, true, false, not, List, [], ◌∷◌, ◌++◌, length, map, get_or, Option, Some, Result, Ok, Err, cond, refl, sym, ◌∙◌, ap, subst, arith, nat_le}
 use Rattle.std.specs.Prelude.{if◌then◌else◌, is_some, slice_get, slice_set}
 use Rattle.std.specs.Bool.{beq}
 use Rattle.std.specs.List.{AllByRecursion, filter, list_any, position}
 use Rattle.std.proofs.lemmas.Bool.Decides.{nat_tests}
 use Rattle.std.proofs.lemmas.List.Quantifiers.{position-Some}
+use Rattle.lb_wire.specs.declared.ids.CacheId.{CacheId}
 use Rattle.lb_wire.specs.declared.ids.ServerId.{ServerId}
 use Rattle.lb_wire.specs.declared.ids.PoolId.{PoolId}
 use Rattle.lb_health.specs.Health.{Standing, needed, result_of, turned}
@@ -19,7 +20,7 @@ use Rattle.lb_servers.specs.declared.server.Loaded.{Loaded}
 use Rattle.lb_servers.specs.declared.server.Mode.{Mode}
 use Rattle.lb_servers.specs.declared.server.Server.{Server}
 use Rattle.lb_servers.specs.declared.spec.ServerSpec.{ServerSpec}
-use Rattle.lb_servers.specs.Park.{Backends, added_pool, added_server, changed_pool, changed_server, lacks, max_pools, max_servers, removed_server, with_server}
+use Rattle.lb_servers.specs.Park.{Backends, added_pool, added_server, attached, changed_pool, changed_server, detached, lacks, max_pools, max_servers, removed_server, with_server}
 use Rattle.lb_servers.specs.Pool.{change_at, is_named, new_pool}
 use Rattle.lb_servers.specs.Server.{change_if, change_server, is_server, marked, server_named, with_mode, with_one_less, with_one_more}
 use Rattle.lb_servers.specs.Spec.{lacks_pool, new_server, stated_pools}
@@ -30,7 +31,7 @@ use Rattle.lb_core.specs.Upstream.{ByNumber, IsChecked, IsTied, IsUpstream, is_c
 use Rattle.lb_core.proofs.Tied.{eq_numbers, left_by, same_number, still_servers, tied_mark, tied_mode, tied_policy, tied_pool, tied_removed, tied_server}
 
 -- what holds of both arms holds of the choice
-one_of : {X : Type 0} (P : X → Type 0) (b : Bool) (x y : X) → P x → P y → P (if b then x else y)
+pub one_of : {X : Type 0} (P : X → Type 0) (b : Bool) (x y : X) → P x → P y → P (if b then x else y)
 one_of P true x y first second = first
 one_of P false x y first second = second
 
@@ -81,6 +82,17 @@ policy_keeps checks t change park pool is =
     let marks = marks_of checks t park is in
     with_tie (changed_pool change park pool).0 checks t (tied_policy t change park pool is.tied)
     (one_of {X = Backends × Result (Unit {0}) ParkFault} (Kept checks) (is_some (slice_get park.pools pool.0)) (record park { pools = change_at change pool.0 park.pools }, Ok tt) (park, Err faults.NoSuchPool) marks marks)
+
+-- so do the cache that a pool is given, and the one that is taken off it
+pub attached_keeps : (checks : List Check) (t : List Waiting) (park new : Backends) (pool : PoolId) (given : CacheId) → (new, given) ≡ attached park pool → IsUpstream park checks t → IsUpstream new checks t
+attached_keeps checks t park new pool given done is =
+    let tied : IsTied (attached park pool).0 t = record { loads = is.tied.loads; given = is.tied.given; sent = is.tied.sent; asked = is.tied.asked } in
+    subst (λ (p : Backends). IsUpstream p checks t) (sym (left_by new given _ done)) (with_tie (attached park pool).0 checks t tied (marks_of checks t park is))
+
+pub detached_keeps : (checks : List Check) (t : List Waiting) (park new : Backends) (pool : PoolId) (given : Option CacheId) → (new, given) ≡ detached park pool → IsUpstream park checks t → IsUpstream new checks t
+detached_keeps checks t park new pool given done is =
+    let tied : IsTied (detached park pool).0 t = record { loads = is.tied.loads; given = is.tied.given; sent = is.tied.sent; asked = is.tied.asked } in
+    subst (λ (p : Backends). IsUpstream p checks t) (sym (left_by new given _ done)) (with_tie (detached park pool).0 checks t tied (marks_of checks t park is))
 
 -- the servers' numbers are above this one
 abbrev Above : ℕ → List Loaded → Type 0

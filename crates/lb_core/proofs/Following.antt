@@ -29,7 +29,7 @@ use Rattle.lb_table.specs.Table.{due, entry_at}
 use Rattle.lb_cache.specs.declared.cached.AttachedCache.{AttachedCache}
 use Rattle.lb_cache.specs.declared.cached.Covered.{Covered}
 use Rattle.lb_cache.specs.declared.cached.KeptReply.{KeptReply}
-use Rattle.lb_cache.specs.Caches.{looked_in, with_cache, without_old}
+use Rattle.lb_cache.specs.Caches.{looked_in, without_old}
 use Rattle.lb_core.specs.declared.asked.Asked.{Asked}
 use Rattle.lb_core.specs.declared.asked.Routed.{Routed}
 use Rattle.lb_core.specs.declared.event.Event.{Event}
@@ -197,7 +197,7 @@ where_named : (name : PoolName) (pools : List Pool) → position_or_len (λ pool
 where_named name [] = refl
 where_named name (p ∷ pools) = rw (where_named name pools) refl
 
-named_alike : (name : PoolName) (pools : List Pool) → route_named (map route_of pools) name ≡ pool_named pools name
+pub named_alike : (name : PoolName) (pools : List Pool) → route_named (map route_of pools) name ≡ pool_named pools name
 named_alike name pools = rw (where_named name pools, length-map pools route_of) refl
 
 action_alike : (pools : List Pool) (action : StatedAction) → action_by (route_named (map route_of pools)) action ≡ action_by (pool_named pools) action
@@ -326,7 +326,8 @@ still_routed cache at [] = refl
 still_routed cache zero (p ∷ pools) = refl
 still_routed cache (suc at) (p ∷ pools) = ap (λ (rs : List RoutePool). route_of p ∷ rs) (still_routed cache at pools)
 
-routed_at : (at : ℕ) (pools : List Pool) → cache_routed (map route_of pools) at ≡ cache_at pools at
+-- the cache of a pool is the one that routes see
+pub routed_at : (at : ℕ) (pools : List Pool) → cache_routed (map route_of pools) at ≡ cache_at pools at
 routed_at at [] = refl
 routed_at zero (p ∷ pools) = refl
 routed_at (suc at) (p ∷ pools) = routed_at at pools
@@ -346,7 +347,7 @@ replaced_follows false p now command pool max max_ttl (Ok ready) is =
     let id : CacheId = record { 0 = p.next_cache } in
     let cache : AttachedCache = record { id = id; max = max; max_ttl = max_ttl } in
     let left : List RoutePool → List AttachedCache → Routes =
-    λ pools caches. record (routes_of p) { next_cache = p.next_cache + 1; pools = pools; caches = (with_cache cache (record { caches = caches; kept = [] })).caches } in
+    λ pools caches. record (routes_of p) { next_cache = p.next_cache + 1; pools = pools; caches = caches ++ cache ∷ [] } in
     let others : (without_old (cache_at p.pools pool.0) (caches_of (upstreams_of p))).caches ≡ caches_without (cache_routed (map route_of p.pools) pool.0) p.caches =
     old_left (cache_at p.pools pool.0) p.caches p.kept ∙ ap (λ (old : Option CacheId). caches_without old p.caches) (sym (routed_at pool.0 p.pools)) in
     ap (λ (pools : List RoutePool). left pools (without_old (cache_at p.pools pool.0) (caches_of (upstreams_of p))).caches) (still_routed (Some id) pool.0 p.pools)

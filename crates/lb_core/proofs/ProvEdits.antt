@@ -1,10 +1,9 @@
 -- What the steps of commands, ticks and health results do to the outstanding queries and the kept replies.
-use Rattle.std.proofs.Common.{◌≡◌, ℕ, ◌==◌, Bool, false, not, ◌&&◌, ◌||◌, List, [], ◌∷◌, length, map, Option, None, Some, Result, Ok, Err, refl, sym, ◌∙◌, subst}
+use Rattle.std.proofs.Common.{◌≡◌, ℕ, Bool, false, not, ◌&&◌, List, length, Option, None, Some, Result, Ok, Err, refl, sym, ◌∙◌, subst}
 use Rattle.std.specs.Prelude.{slice_get}
-use Rattle.std.specs.List.{All, Contains, filter, position, position_or_len}
-use Rattle.std.proofs.lemmas.Bool.{cond_both, or_from, or_parts}
-use Rattle.std.proofs.lemmas.List.{length-map}
-use Rattle.std.proofs.lemmas.List.Elements.{All-contains, All-contains_itself, All-weaker}
+use Rattle.std.specs.List.{All, Contains, filter, position}
+use Rattle.std.proofs.lemmas.Bool.{cond_both}
+use Rattle.std.proofs.lemmas.List.Elements.{All-contains_itself}
 use Rattle.lb_wire.specs.declared.ids.CacheId.{CacheId}
 use Rattle.lb_wire.specs.declared.ids.PoolId.{PoolId}
 use Rattle.lb_wire.specs.declared.ids.ServerId.{ServerId}
@@ -15,10 +14,9 @@ use Rattle.lb_health.specs.Health.{result_of}
 use Rattle.lb_health.specs.declared.health.Changed.{Changed}
 use Rattle.lb_health.specs.declared.health.Changed.TheVariants as changes
 use Rattle.lb_servers.specs.Park.{Backends, added_pool, added_server, cache_ready_of, changed_pool, removed_server}
-use Rattle.lb_servers.specs.Pool.{cache_at, is_named, pool_named, same_name, with_policy}
+use Rattle.lb_servers.specs.Pool.{cache_at, pool_named, with_policy}
 use Rattle.lb_servers.specs.declared.fault.ParkFault.{ParkFault}
 use Rattle.lb_servers.specs.declared.fault.ParkFault.TheVariants as park_faults
-use Rattle.lb_servers.specs.declared.pool.Pool.{Pool}
 use Rattle.lb_servers.specs.declared.pool.PoolName.{PoolName}
 use Rattle.lb_table.specs.Table.{is_due}
 use Rattle.lb_table.specs.declared.entry.Waiting.{Waiting}
@@ -41,30 +39,13 @@ use Rattle.lb_core.specs.Health.{result_at, result_by, result_step, result_told,
 use Rattle.lb_core.specs.Plain.{Plain, at_plain, chain_of, upstreams_of, with_upstreams}
 use Rattle.lb_core.specs.Provenance.{cache_named, ended_by, is_cache}
 use Rattle.lb_core.specs.Reading.{OfNone}
-use Rattle.lb_core.specs.Routes.{route_named, route_of, routes_of}
+use Rattle.lb_core.specs.Routes.{routes_of}
 use Rattle.lb_core.specs.Upstream.{Upstreams, added_checked, attached_if, backends_of, caches_of, detached_if, is_check, on_backends, put_into, removed_checked, replaced_cache, totals_of, with_check, without_check}
 use Rattle.lb_core.proofs.ProvAsks.{ask_for}
 use Rattle.lb_core.proofs.ProvLists.{Sifts, sifts_filter, sifts_none}
-use Rattle.lb_core.proofs.ProvQueries.{routed_cache}
+use Rattle.lb_core.proofs.Following.{named_alike, routed_at}
 use Rattle.lb_core.proofs.ProvReplies.{taken_stays}
 use Rattle.lb_core.proofs.ProvTurns.{Turns}
-
--- two sifts are one
-sifts_twice : {X : Type 0} (p q : X → Bool) (old mid new : List X) → Sifts p old mid → Sifts q mid new → Sifts (λ x. p x || q x) old new
-sifts_twice {X} p q old mid new first second = record {
-  each = All-weaker (λ x. Contains mid x × (q x ≡ false)) (λ x. Contains old x × ((p x || q x) ≡ false)) (λ x was.
-      let before = All-contains (λ (x : X). Contains old x × (p x ≡ false)) mid x first.each was.0 in
-      (before.0, or_from (p x) (q x) before.1 was.1)) new second.each;
-  rest = λ x there stays. let parts = or_parts (p x) (q x) stays in second.rest x (first.rest x there parts.0) parts.1;
-}
-
--- a pool has the name that routes see
-where_named : (name : PoolName) (pools : List Pool) → position_or_len (λ pool. same_name pool.name name) (map route_of pools) ≡ position_or_len (is_named name) pools
-where_named name [] = refl
-where_named name (p ∷ pools) = rw (where_named name pools) refl
-
-named_alike : (name : PoolName) (pools : List Pool) → route_named (map route_of pools) name ≡ pool_named pools name
-named_alike name pools = rw (where_named name pools, length-map pools route_of) refl
 
 -- commands
 
@@ -141,20 +122,15 @@ module _ (old : Plain) (now : ℕ) where
 
   -- the cache of the pool that a command names
   cache_is : (name : PoolName) (pool : PoolId) → pool_named old.pools name ≡ Some pool → cache_named (routes_of old) name ≡ cache_at old.pools pool.0
-  cache_is name pool is = rw (named_alike name old.pools ∙ is) (routed_cache old.pools pool.0)
+  cache_is name pool is = rw (named_alike name old.pools ∙ is) (routed_at pool.0 old.pools)
 
   module _ (name : PoolName) (most shards max_ttl : ℕ) where
     abbrev attach : Command
     attach = CacheAttach name most shards max_ttl
 
-    -- the replies that go where another cache comes, by the one that was there
-    abbrev goes_at : Option CacheId → KeptReply → Bool
-    goes_at cache k = is_cache (ask_for k) cache || k.cache.0 == old.next_cache
-
-    sifted : (cache : Option CacheId) → Sifts (goes_at cache) old.kept (filter (λ k. not (is_of (record { 0 = old.next_cache }) k)) (without_old cache (caches_of ups)).kept)
-    sifted None = sifts_filter (is_of (record { 0 = old.next_cache })) old.kept
-    sifted (Some id) = sifts_twice (is_of id) (is_of (record { 0 = old.next_cache })) old.kept (filter (λ k. not (is_of id k)) old.kept) _ (sifts_filter (is_of id) old.kept)
-        (sifts_filter (is_of (record { 0 = old.next_cache })) (filter (λ k. not (is_of id k)) old.kept))
+    sifted : (cache : Option CacheId) → Sifts (λ k. is_cache (ask_for k) cache) old.kept (without_old cache (caches_of ups)).kept
+    sifted None = sifts_none (λ k. false) old.kept (λ k. refl)
+    sifted (Some id) = sifts_filter (is_of id) old.kept
 
     attach_edit : (mark : Bool) (pool : Option PoolId) → pool_named old.pools name ≡ pool → UpsEdited old attach (attached_to mark ups most max_ttl pool)
     attach_edit mark None is = record { waiting_is = refl; kept_is = refl }
@@ -166,8 +142,7 @@ module _ (old : Plain) (now : ℕ) where
             (λ _. record { waiting_is = refl; kept_is = refl })
             (λ _. record {
               waiting_is = refl;
-              kept_is = subst (λ (cache : Option CacheId). Sifts (goes_at cache) old.kept (filter (λ k. not (is_of (record { 0 = old.next_cache }) k)) (without_old (cache_at old.pools pool.0) (caches_of ups)).kept))
-                  (sym (cache_is name pool is)) (sifted (cache_at old.pools pool.0));
+              kept_is = subst (λ (cache : Option CacheId). Sifts (λ k. is_cache (ask_for k) cache) old.kept (without_old (cache_at old.pools pool.0) (caches_of ups)).kept) (sym (cache_is name pool is)) (sifted (cache_at old.pools pool.0));
             })
 
   detach_edit : (name : PoolName) (pool : Option PoolId) → pool_named old.pools name ≡ pool → UpsEdited old (CacheDetach name) (detached_from ups pool)

@@ -1,9 +1,8 @@
 -- What the step of a query does to the outstanding queries, and what it is answered from.
-use Rattle.std.proofs.Common.{◌≡◌, ℕ, Bool, true, false, List, map, Option, None, Some, Result, Ok, Err, refl, sym, ◌∙◌, ap, subst}
-use Rattle.std.specs.Prelude.{if◌then◌else◌, option_and_then, option_map, slice_get}
+use Rattle.std.proofs.Common.{◌≡◌, ℕ, Bool, true, false, List, Option, None, Some, Result, Ok, Err, refl, sym, ◌∙◌, ap, subst}
+use Rattle.std.specs.Prelude.{if◌then◌else◌, option_and_then}
 use Rattle.std.proofs.lemmas.Bool.{both_ways}
 use Rattle.std.proofs.lemmas.List.Elements.{All-contains_itself}
-use Rattle.std.proofs.lemmas.Option.{slice_get-map}
 use Rattle.lb_wire.specs.Answer.{refusal_of}
 use Rattle.lb_wire.specs.Numbers.{rcode_number}
 use Rattle.lb_wire.specs.declared.addr.Origin.{Origin}
@@ -20,8 +19,7 @@ use Rattle.lb_wire.specs.declared.transport.Kind.{Kind}
 use Rattle.lb_chain.specs.declared.walked.Verdict.{Verdict}
 use Rattle.lb_chain.specs.declared.walked.Verdict.TheVariants as verdicts
 use Rattle.lb_chain.specs.declared.walked.Walked.{Walked}
-use Rattle.lb_servers.specs.Pool.{cache_at, cache_in}
-use Rattle.lb_servers.specs.declared.pool.Pool.{Pool}
+use Rattle.lb_servers.specs.Pool.{cache_at}
 use Rattle.lb_table.specs.Place.{at_place}
 use Rattle.lb_table.specs.Table.{FirstFree, is_at}
 use Rattle.lb_cache.specs.Caches.{looked_in}
@@ -38,9 +36,10 @@ use Rattle.lb_core.specs.Plain.{Plain, at_plain, upstreams_of}
 use Rattle.lb_core.specs.Provenance.{asked_by, asks_at, pool_by, pool_of}
 use Rattle.lb_core.specs.Query.{EndDecides, QuerySteps, ReadSteps, RuleDecides, WalkedSteps, default_pool, is_transfer, to_pool, walked_of}
 use Rattle.lb_core.specs.Reading.{Reading, OfQuery}
-use Rattle.lb_core.specs.Routes.{cache_routed, route_cache, route_of, routes_of}
+use Rattle.lb_core.specs.Routes.{cache_routed, routes_of}
 use Rattle.lb_core.specs.Step.{asked_at}
 use Rattle.lb_core.specs.Upstream.{Upstreams, picked_of, with_turn}
+use Rattle.lb_core.proofs.Following.{routed_at}
 use Rattle.lb_core.proofs.ProvLists.{none_pass, puts_insert}
 use Rattle.lb_core.proofs.ProvTurns.{AnsweredFrom, OutstandingAfter, Turns, looked}
 
@@ -132,19 +131,11 @@ module _ (ups : Upstreams) (q : Asked) (bytes : List ℕ) (view : QueryView) whe
   end_asks walked None answer new is = pool_asks walked default_pool answer new is
   end_asks walked (Some rule) answer new is = rule_asks walked rule walked.verdict answer new is
 
--- the cache of a pool is the one that routes see
-pub routed_cache : (pools : List Pool) (at : ℕ) → cache_routed (map route_of pools) at ≡ cache_at pools at
-routed_cache pools at = ap route_cache (slice_get-map route_of pools at) ∙ by (slice_get pools at)
-  where
-    by : (o : Option Pool) → route_cache (option_map route_of o) ≡ cache_in o
-    by None = refl
-    by (Some pool) = refl
-
 asked_alike : (plain : Plain) (kind : Kind) (bytes : List ℕ) (view : QueryView) (walked : Walked) (pool : Option PoolId) →
     option_and_then (λ pool. ask_of (cache_at plain.pools pool.0) kind bytes view (to_pool walked pool)) pool
     ≡ option_and_then (λ pool. ask_of (cache_routed (routes_of plain).pools pool.0) kind bytes view (to_pool walked pool)) pool
 asked_alike plain kind bytes view walked None = refl
-asked_alike plain kind bytes view walked (Some pool) = ap (λ (cache : Option CacheId). ask_of cache kind bytes view (to_pool walked pool)) (sym (routed_cache plain.pools pool.0))
+asked_alike plain kind bytes view walked (Some pool) = ap (λ (cache : Option CacheId). ask_of cache kind bytes view (to_pool walked pool)) (sym (routed_at pool.0 plain.pools))
 
 module _ (old : Plain) (now : ℕ) (origin : Origin) (kind : Kind) (word : ℕ) (bytes : List ℕ) where
   abbrev plain : Plain

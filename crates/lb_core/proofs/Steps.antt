@@ -1,5 +1,5 @@
 -- Steps of the balancer over its plain state.
-use Rattle.std.proofs.Common.{◌≡◌, ℕ, Bool, false, IsTrue, List, Option, Some, None, Result, max, refl, sym, ◌∙◌, ap, subst, arith}
+use Rattle.std.proofs.Common.{◌≡◌, ℕ, Bool, false, IsTrue, List, Result, max, refl, sym, ◌∙◌, ap, subst, arith}
 use Rattle.lb_wire.specs.Query.{Reads}
 use Rattle.lb_wire.specs.Reply.{ReadsReply}
 use Rattle.lb_wire.specs.declared.addr.Origin.{Origin}
@@ -15,25 +15,18 @@ use Rattle.lb_chain.specs.declared.walked.Walked.{Walked}
 use Rattle.lb_chain.specs.Edits.{Rules}
 use Rattle.lb_chain.specs.Counting.{counted}
 use Rattle.lb_chain.specs.Seen.{seen_rules, SeenTwice}
-use Rattle.lb_table.specs.Table.{due}
-use Rattle.lb_table.specs.declared.entry.Waiting.{Waiting}
-use Rattle.lb_health.specs.declared.health.Changed.{Changed}
-use Rattle.lb_health.specs.declared.health.Changed.TheVariants as changes
 use Rattle.lb_core.specs.declared.asked.Asked.{Asked}
 use Rattle.lb_core.specs.declared.answer.Answer.{Answer}
 use Rattle.lb_core.specs.declared.command.Command.{Command}
-use Rattle.lb_core.specs.declared.event.Event.TheVariants.{Query, Reply, Tick, HealthResult, Edit}
+use Rattle.lb_core.specs.declared.event.Event.TheVariants.{Query, Reply, Edit}
 use Rattle.lb_core.specs.Answer.{marked}
-use Rattle.lb_core.specs.Edit.{edit_of, upstream_changed, MayLackAt}
+use Rattle.lb_core.specs.Edit.{edit_of, MayLackAt}
 use Rattle.lb_core.specs.Plain.{Plain, at_plain, plain_of, with_upstreams}
 use Rattle.lb_core.specs.Reading.{OfNone, OfQuery, OfReply}
 use Rattle.lb_core.specs.Reply.{MayKeep, ReplySteps}
-use Rattle.lb_core.specs.Expiry.{Ends, Expires}
-use Rattle.lb_core.specs.Health.{result_step, result_taken, result_told}
 use Rattle.lb_core.specs.Step.{Answers, MayMarkAt, StepsAt, asked_at}
 use Rattle.lb_core.specs.Upstream.{Upstreams}
 use Rattle.lb_core.specs.Query.{Decides, MayLack, QuerySteps, WalkedSteps, with_passes}
-use Rattle.lb_core.proofs.ChainEdits.{false_true}
 use Rattle.lb_core.proofs.Forwards.{ended_plain}
 
 -- the state of a chain and of what stands upstream, seen later
@@ -84,43 +77,6 @@ reply_answers twice m now t chain ups after server lane bytes answer is step mar
       reads = step.1;
       step = subst (λ (p : Plain). StepsAt p (Reply now server lane bytes) (OfReply step.0) answer (plain_of t chain after)) then_old (after, step.2, refl);
       mark = λ marks. subst (λ (p : Plain). MayMarkAt p (Reply now server lane bytes)) then_old (mark marks);
-    }
-
--- a tick is answered without a mark
-unmarked_tick : (ups after : Upstreams) (now : ℕ) (w : Option Waiting) (answer : Answer) → Ends ups now w answer after → marked answer ≡ false
-unmarked_tick ups after now None answer step = ap (λ (d : Upstreams × Answer). marked d.1) step
-unmarked_tick ups after now (Some w) answer step = ap (λ (d : Upstreams × Answer). marked d.1) step.2
-
--- a tick
-pub tick_answers : SeenTwice → (m now t : ℕ) (chain : Rules) (ups after : Upstreams) (answer : Answer) →
-    t ≡ max m now → Expires ups t answer after → Answers (plain_of m chain ups) (Tick now) answer (plain_of t chain after)
-tick_answers twice m now t chain ups after answer is step =
-    let then_old : plain_of t chain ups ≡ at_plain now (plain_of m chain ups) = sym (later twice m now t chain ups is) in
-    record {
-      reading = OfNone;
-      reads = tt;
-      step = subst (λ (p : Plain). StepsAt p (Tick now) OfNone answer (plain_of t chain after)) then_old (after, step, refl);
-      mark = λ marks. absurd (false_true (sym (unmarked_tick ups after t (due t ups.outstanding) answer step) ∙ marks));
-    }
-
--- a health result is answered without a mark
-unmarked_result : (server : ServerId) (change : Option Changed) → marked (result_told server change) ≡ false
-unmarked_result server None = refl
-unmarked_result server (Some changes.No) = refl
-unmarked_result server (Some changes.Up) = refl
-unmarked_result server (Some changes.Down) = refl
-
--- a health result
-pub result_answers : SeenTwice → (m now t : ℕ) (chain : Rules) (ups after : Upstreams) (server : ServerId) (ok : Bool) (answer : Answer) →
-    t ≡ max m now → (after, answer) ≡ result_step ups server ok → Answers (plain_of m chain ups) (HealthResult now server ok) answer (plain_of t chain after)
-result_answers twice m now t chain ups after server ok answer is step =
-    let then_old : plain_of t chain ups ≡ at_plain now (plain_of m chain ups) = sym (later twice m now t chain ups is) in
-    let told : answer ≡ (result_step ups server ok).1 = ap (λ (d : Upstreams × Answer). d.1) step in
-    record {
-      reading = OfNone;
-      reads = tt;
-      step = subst (λ (p : Plain). StepsAt p (HealthResult now server ok) OfNone answer (plain_of t chain after)) then_old (ap (upstream_changed (plain_of t chain ups)) step);
-      mark = λ marks. absurd (false_true (sym (ap marked told ∙ unmarked_result server (result_taken ups server ok).1) ∙ marks));
     }
 
 -- an event of a command

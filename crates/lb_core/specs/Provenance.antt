@@ -1,6 +1,6 @@
 -- Where answers from a cache come from: a relation on events with their answers. No server, no outstanding query and no kept
 -- reply enters. A history has its latest event first.
-use Rattle.std.specs.Prelude.{if◌then◌else◌, ◌≡◌, ℕ, ◌+◌, ◌-◌, ◌*◌, ◌/◌, ◌<◌, max, Bool, true, false, ◌==◌, ◌&&◌, ◌||◌, List, [], ◌∷◌, ◌++◌, ◌⊎◌, Option, None, Some, option_and_then, Ok}
+use Rattle.std.specs.Prelude.{if◌then◌else◌, ◌≡◌, ℕ, ◌+◌, ◌-◌, ◌*◌, ◌/◌, ◌<◌, max, Bool, true, false, ◌==◌, ◌&&◌, List, [], ◌∷◌, ◌++◌, ◌⊎◌, Option, None, Some, option_and_then, Ok}
 use Rattle.std.specs.List.{AllByRecursion, Contains}
 use Rattle.lb_wire.specs.BigEndian.{number_at}
 use Rattle.lb_wire.specs.declared.ids.CacheId.{CacheId}
@@ -119,9 +119,9 @@ is_cache ask None = false
 is_cache ask (Some id) = ask.0.0 == id.0
 
 -- whether a command ends what is kept for a cache and key: it expunges the key there, or takes the cache off its pool, or puts
--- another in its place, or gives its number to a new one, which never happens where each number is given once
+-- another in its place
 abbrev pub ended_by : Routes → Command → CacheId × Key → Bool
-ended_by routes (CacheAttach name max shards max_ttl) ask = is_cache ask (cache_named routes name) || ask.0.0 == routes.next_cache
+ended_by routes (CacheAttach name max shards max_ttl) ask = is_cache ask (cache_named routes name)
 ended_by routes (CacheDetach name) ask = is_cache ask (cache_named routes name)
 ended_by routes (Expunge name covered) ask = is_cache ask (cache_named routes name) && covers_key covered ask.1
 ended_by routes _ ask = false

@@ -22,7 +22,7 @@ use Rattle.lb_core.specs.declared.command.Command.TheVariants.{RuleAdd, RuleRemo
 use Rattle.lb_cache.specs.declared.cached.AttachedCache.{AttachedCache}
 use Rattle.lb_core.specs.declared.answer.Answer.{Answer}
 use Rattle.lb_core.specs.declared.answer.Answer.TheVariants.{Edited}
-use Rattle.lb_cache.specs.Caches.{CacheLists, has_id, with_cache}
+use Rattle.lb_cache.specs.Caches.{has_id}
 use Rattle.lb_core.specs.Plain.{Plain}
 use Rattle.lb_core.specs.Query.{is_transfer}
 use Rattle.lb_core.specs.Edit.{place_or_end, rule_by}
@@ -99,11 +99,10 @@ abbrev pub with_attached : Routes → ℕ → ℕ → Option PoolId → Routes
 with_attached routes max max_ttl None = routes
 with_attached routes max max_ttl (Some pool) =
     let id : CacheId = record { 0 = routes.next_cache } in
-    let old : CacheLists = record { caches = caches_without (cache_routed routes.pools pool.0) routes.caches; kept = [] } in
     record routes {
       next_cache = routes.next_cache + 1;
       pools = change_route (with_route_cache (Some id)) pool.0 routes.pools;
-      caches = (with_cache (record { id = id; max = max; max_ttl = max_ttl }) old).caches;
+      caches = caches_without (cache_routed routes.pools pool.0) routes.caches ++ (record { id = id; max = max; max_ttl = max_ttl }) ∷ [];
     }
 
 -- the cache of a pool taken off it

@@ -238,3 +238,7 @@ pub record IsUpstream (park : Backends) (checks : List Check) (outstanding : Lis
   pub tied : IsTied park outstanding
   pub by_number : ByNumber (map server_of park.servers)
   pub checked : IsChecked (map server_of park.servers) checks
+
+-- each attached cache has a number that was given, as the next one tells
+abbrev pub AreNumbered : ℕ → List AttachedCache → Type 0
+AreNumbered next caches = AllByRecursion (λ cache. cache.id.0 < next) caches

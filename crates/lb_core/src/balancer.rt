@@ -90,15 +90,15 @@ impl Balancer {
     {
         // A law, which does nothing.
         seen_twice();
+        self.moment = self.moment.max(event.now());
         match event {
             Event::Query {
-                now,
                 origin,
                 kind,
                 word,
                 bytes,
+                ..
             } => {
-                self.moment = self.moment.max(now);
                 let asked = Asked {
                     moment: self.moment,
                     origin,
@@ -114,32 +114,20 @@ impl Balancer {
                 )
             }
             Event::Reply {
-                now,
                 server,
                 lane,
                 bytes,
-            } => {
-                self.moment = self.moment.max(now);
-                answer_reply(&mut self.upstream, self.moment, server, lane, bytes)
-            }
-            Event::Tick { now } => {
-                self.moment = self.moment.max(now);
-                answer_tick(&mut self.upstream, self.moment)
-            }
-            Event::HealthResult { now, server, ok } => {
-                self.moment = self.moment.max(now);
-                answer_result(&mut self.upstream, server, ok)
-            }
-            Event::Edit { now, command } => {
-                self.moment = self.moment.max(now);
-                edit(
-                    self.alloc,
-                    &mut self.chain,
-                    &mut self.upstream,
-                    self.moment,
-                    command,
-                )
-            }
+                ..
+            } => answer_reply(&mut self.upstream, self.moment, server, lane, bytes),
+            Event::Tick { .. } => answer_tick(&mut self.upstream, self.moment),
+            Event::HealthResult { server, ok, .. } => answer_result(&mut self.upstream, server, ok),
+            Event::Edit { command, .. } => edit(
+                self.alloc,
+                &mut self.chain,
+                &mut self.upstream,
+                self.moment,
+                command,
+            ),
         }
     }
 }

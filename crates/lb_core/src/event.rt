@@ -1,6 +1,7 @@
 //! What the balancer is told.
 
 ghost use Rattle.std.specs.Prelude.{◌≡◌, IfOk};
+ghost use Rattle.lb_core.specs.Reading.{moment_of};
 
 use crate::command::Command;
 use lb_wire::{Kind, Lane, Octets, Origin, ServerId};
@@ -46,6 +47,19 @@ pub enum Event {
 }
 
 impl Event {
+    /// The moment of the event, in milliseconds.
+    pub fn now(&self) -> u64
+        ensures { result ≡ moment_of self.now }
+    {
+        match self {
+            Event::Query { now, .. }
+            | Event::Reply { now, .. }
+            | Event::Tick { now }
+            | Event::HealthResult { now, .. }
+            | Event::Edit { now, .. } => *now,
+        }
+    }
+
     /// An equal event. The one error is want of memory.
     pub fn copy(&self, alloc: Global) -> Result<Event, AllocError>
         ensures { IfOk result (λ copy. copy ≡ self.now) }

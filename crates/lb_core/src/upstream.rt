@@ -49,13 +49,13 @@ pub(crate) struct Upstream {
 
 impl Model for Upstream {
     ghost use Rattle.std.specs.Prelude.{map};
-    ghost use Rattle.lb_core.specs.Upstream.{IsUpstream, Upstreams, server_of};
+    ghost use Rattle.lb_core.specs.Upstream.{AreNumbered, IsUpstream, Upstreams, server_of};
 
     ghost Value = { Upstreams };
 
     ghost view = { λ u. record { timeout = u.timeout; next_server = u.park.next; next_cache = u.park.next_cache; servers = map server_of u.park.servers; checks = u.checks.items; pools = u.park.pools; caches = u.caches.caches; outstanding = u.table; kept = u.caches.kept } };
 
-    ghost invariant = { λ u. IsUpstream u.park u.checks.items u.table };
+    ghost invariant = { λ u. IsUpstream u.park u.checks.items u.table × AreNumbered u.park.next_cache u.caches.caches };
 }
 
 impl Upstream {

@@ -1,32 +1,22 @@
-use Rattle.lb_core.proofs.Steps.{edit_answers, query_answers, reply_answers, result_answers, tick_answers}
+use Rattle.std.proofs.Common.{◌∙◌, ap, max}
+use Rattle.lb_core.specs.Reading.{moment_of}
+use Rattle.lb_core.proofs.Steps.{edit_answers, query_answers, reply_answers}
 use Rattle.lb_core.proofs.balancer.Balancer.step.Goals as goal
 
 pub returns-in-Query : goal.returns-in-Query
 returns-in-Query c =
     rw (← c.self.view_is, c.in-Query.is)
     (query_answers c.seen_twice.ensures c.self.inside.moment c.in-Query.now c.max-self-inside.result c.self.inside.chain c.answer_query.new.chain c.self.inside.upstream c.answer_query.new.upstream c.in-Query.origin c.in-Query.kind c.in-Query.word c.in-Query.bytes c.answer_query.result
-    c.max-self-inside.ensures c.answer_query.ensures.step c.answer_query.ensures.mark)
+    (c.max-self-inside.ensures ∙ ap (max c.self.inside.moment) (c.now.ensures ∙ ap moment_of c.in-Query.is)) c.answer_query.ensures.step c.answer_query.ensures.mark)
 
 pub returns-in-Reply : goal.returns-in-Reply
 returns-in-Reply c =
     rw (← c.self.view_is, c.in-Reply.is)
-    (reply_answers c.seen_twice.ensures c.self.inside.moment c.in-Reply.now c.max-self-inside-in-Reply.result c.self.inside.chain c.self.inside.upstream c.answer_reply.new.upstream c.in-Reply.server c.in-Reply.lane c.in-Reply.bytes c.answer_reply.result
-    c.max-self-inside-in-Reply.ensures c.answer_reply.ensures.step c.answer_reply.ensures.mark)
-
-pub returns-in-Tick : goal.returns-in-Tick
-returns-in-Tick c =
-    rw (← c.self.view_is, c.in-Tick.is)
-    (tick_answers c.seen_twice.ensures c.self.inside.moment c.in-Tick.now c.max-self-inside-in-Tick.result c.self.inside.chain c.self.inside.upstream c.answer_tick.new.upstream c.answer_tick.result
-    c.max-self-inside-in-Tick.ensures c.answer_tick.ensures)
-
-pub returns-in-HealthResult : goal.returns-in-HealthResult
-returns-in-HealthResult c =
-    rw (← c.self.view_is, c.in-HealthResult.is)
-    (result_answers c.seen_twice.ensures c.self.inside.moment c.in-HealthResult.now c.max-self-inside-in-HealthResult.result c.self.inside.chain c.self.inside.upstream c.answer_result.new.upstream c.in-HealthResult.server c.in-HealthResult.ok c.answer_result.result
-    c.max-self-inside-in-HealthResult.ensures c.answer_result.ensures)
+    (reply_answers c.seen_twice.ensures c.self.inside.moment c.in-Reply.now c.max-self-inside.result c.self.inside.chain c.self.inside.upstream c.answer_reply.new.upstream c.in-Reply.server c.in-Reply.lane c.in-Reply.bytes c.answer_reply.result
+    (c.max-self-inside.ensures ∙ ap (max c.self.inside.moment) (c.now.ensures ∙ ap moment_of c.in-Reply.is)) c.answer_reply.ensures.step c.answer_reply.ensures.mark)
 
 pub returns-in-Edit : goal.returns-in-Edit
 returns-in-Edit c =
     rw (← c.self.view_is, c.in-Edit.is)
-    (edit_answers c.seen_twice.ensures c.self.inside.moment c.in-Edit.now c.max-self-inside-in-Edit.result c.self.inside.chain c.edit.new.chain c.self.inside.upstream c.edit.new.upstream c.in-Edit.command c.edit.result
-    c.max-self-inside-in-Edit.ensures c.edit.ensures.edit c.edit.ensures.mark)
+    (edit_answers c.seen_twice.ensures c.self.inside.moment c.in-Edit.now c.max-self-inside.result c.self.inside.chain c.edit.new.chain c.self.inside.upstream c.edit.new.upstream c.in-Edit.command c.edit.result
+    (c.max-self-inside.ensures ∙ ap (max c.self.inside.moment) (c.now.ensures ∙ ap moment_of c.in-Edit.is)) c.edit.ensures.edit c.edit.ensures.mark)

@@ -9,8 +9,8 @@ pub returns-clause-picked : goal.returns-clause-picked
 returns-clause-picked c =
     rw (← c.self.view_is)
     (c.pick.ensures
-    ∙ ap (λ (servers : List Loaded). picked servers c.self.inside.park.pools c.args.pool) (sym (counted_anew c.self.inside.table c.self.inside.park.servers c.self.invariant.tied.loads)))
+    ∙ ap (λ (servers : List Loaded). picked servers c.self.inside.park.pools c.args.pool) (sym (counted_anew c.self.inside.table c.self.inside.park.servers c.self.invariant.0.tied.loads)))
 
 pub returns-clause-given : goal.returns-clause-given
 returns-clause-given c =
-    rw (← c.self.view_is, c.pick.ensures) (picked_given c.self.inside.park.next c.self.inside.park.servers c.self.inside.park.pools c.args.pool c.self.invariant.tied.given)
+    rw (← c.self.view_is, c.pick.ensures) (picked_given c.self.inside.park.next c.self.inside.park.servers c.self.inside.park.pools c.args.pool c.self.invariant.0.tied.given)

@@ -8,4 +8,4 @@ pub returns : goal.returns
 returns c =
     rw (← c.self.view_is)
     (c.server_named.ensures
-    ∙ ap (λ (servers : List Loaded). server_named servers c.args.name.now) (sym (counted_anew c.self.inside.table c.self.inside.park.servers c.self.invariant.tied.loads)))
+    ∙ ap (λ (servers : List Loaded). server_named servers c.args.name.now) (sym (counted_anew c.self.inside.table c.self.inside.park.servers c.self.invariant.0.tied.loads)))
