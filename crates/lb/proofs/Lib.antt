@@ -3,3 +3,4 @@ pub mod Takes
 pub mod ToldLines
 pub mod Turns
 pub mod Readings
+pub mod CheckedLines

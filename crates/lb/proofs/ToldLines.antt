@@ -28,7 +28,7 @@ line_before n line others false is = rw is refl
 last_by : (x : List ℕ) (b : Bool) → b ≡ false → (if b then [] else x ∷ []) ≡ x ∷ []
 last_by x b is = rw is refl
 
-last_part : (x : List ℕ) → 0 < length x → lines_of_parts (x ∷ []) ≡ x ∷ []
+pub last_part : (x : List ℕ) → 0 < length x → lines_of_parts (x ∷ []) ≡ x ∷ []
 last_part x some = last_by x (length x == 0) (ne_eqb (length x) 0 (λ none. omega arith))
 
 -- the told lines of parts are read

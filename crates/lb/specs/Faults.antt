@@ -2,12 +2,17 @@
 use Rattle.std.specs.Prelude.{ℕ, List, ◌++◌, codes, ⊤}
 use Rattle.std.specs.Fmt.{decimal}
 use Rattle.lb_command.specs.Fault.{fault_name, fault_number}
+use Rattle.lb_command.specs.declared.fault.CommandFault.{CommandFault}
 use Rattle.lb.specs.declared.faults.Stop.{Stop}
 use Rattle.lb.specs.declared.faults.Stop.TheVariants.{BadLine, Device, NoMemory}
 
+-- the line that tells of a line that does not read
+abbrev pub bad_line_text : ℕ → CommandFault → List ℕ
+bad_line_text number fault = codes "line " ++ decimal number ++ codes ": at " ++ decimal fault.place ++ codes ": " ++ decimal (fault_number fault.kind) ++ codes " " ++ fault_name fault.kind ++ codes "\n"
+
 -- the line that tells what ended a replay early
 abbrev pub stop_text : Stop → List ℕ
-stop_text (BadLine number fault) = codes "line " ++ decimal number ++ codes ": at " ++ decimal fault.place ++ codes ": " ++ decimal (fault_number fault.kind) ++ codes " " ++ fault_name fault.kind ++ codes "\n"
+stop_text (BadLine number fault) = bad_line_text number fault
 stop_text Device = codes "device fault\n"
 stop_text NoMemory = codes "no memory\n"
 

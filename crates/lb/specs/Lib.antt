@@ -7,3 +7,4 @@ pub mod Shown
 pub mod Line
 pub mod Input
 pub mod Replaying
+pub mod Checking

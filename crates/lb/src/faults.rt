@@ -1,12 +1,13 @@
 //! What ends a run of lines early.
 
-ghost use Rattle.std.specs.Prelude.{◌≡◌, ◌≢◌};
-ghost use Rattle.lb.specs.Faults.{stop_status};
+ghost use Rattle.std.specs.Prelude.{◌≡◌, ◌≢◌, OnOk};
+ghost use Rattle.std.specs.Io.KnownBytes.{Appends};
+ghost use Rattle.lb.specs.Faults.{bad_line_text, stop_status};
 
 use lb_command::CommandFault;
 use std::alloc::AllocError;
 use std::io;
-use std::io::ErrorKind;
+use std::io::{ErrorKind, Write};
 
 /// What ends a replay before its input does.
 #[derive(Clone, Copy, Debug, PartialEq, Eq)]
@@ -29,6 +30,20 @@ impl Stop {
             Stop::Device | Stop::NoMemory => 3,
         }
     }
+}
+
+/// Writes the line that tells of a line that does not read.
+pub(crate) fn write_bad_line<F: Write>(
+    number: u64,
+    fault: CommandFault,
+    faults: &mut F,
+) -> io::Result<()>
+    ensures { OnOk result (Appends (F.contents faults.old) (F.contents faults.new) (bad_line_text number fault)) }
+{
+    let place = fault.place;
+    let kind = fault.kind.number();
+    let name = fault.kind.name();
+    writeln!(faults, "line {number}: at {place}: {kind} {name}")
 }
 
 impl From<AllocError> for Stop {

@@ -37,7 +37,7 @@ impl LineKind {
 }
 
 /// What the bytes of a line make it.
-fn kind_of(bytes: &[u8]) -> LineKind
+pub(crate) fn kind_of(bytes: &[u8]) -> LineKind
     ensures { result ≡ kind_of_bytes bytes.now }
 {
     for byte in bytes {

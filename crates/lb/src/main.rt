@@ -2,6 +2,7 @@
 //! answer to standard output.
 #![tactic(auto)]
 
+mod checking;
 mod faults;
 mod input;
 mod line;
@@ -12,6 +13,7 @@ mod shown;
 #[cfg(test)]
 mod tests;
 
+pub use checking::check;
 pub use replaying::replay;
 use std::process::ExitCode;
 

@@ -11,7 +11,7 @@ ghost use Rattle.lb_command.specs.declared.fault.CommandFault.{CommandFault};
 ghost use Rattle.lb.specs.Faults.{stop_text, stop_status};
 ghost use Rattle.lb.specs.Replaying.{Answered, IsJudged, ReadUpTo, Replays, at_end, stopped_at};
 
-use crate::faults::Stop;
+use crate::faults::{Stop, write_bad_line};
 use crate::input::{Lines, Turn};
 use lb_command::answer_line;
 use lb_core::{Balancer, Event};
@@ -135,12 +135,7 @@ fn write_stop<F: Write>(stop: Stop, faults: &mut F) -> io::Result<()>
     ensures { OnOk result (Appends (F.contents faults.old) (F.contents faults.new) (stop_text stop)) }
 {
     match stop {
-        Stop::BadLine { number, fault } => {
-            let place = fault.place;
-            let kind = fault.kind.number();
-            let name = fault.kind.name();
-            writeln!(faults, "line {number}: at {place}: {kind} {name}")
-        }
+        Stop::BadLine { number, fault } => write_bad_line(number, fault, faults),
         Stop::Device => faults.write_all(b"device fault\n"),
         Stop::NoMemory => faults.write_all(b"no memory\n"),
     }

@@ -48,7 +48,7 @@ pub(crate) fn take_shown<R: Read>(
 }
 
 /// The place of the first line feed.
-fn line_feed(bytes: &[u8]) -> Option<usize>
+pub(crate) fn line_feed(bytes: &[u8]) -> Option<usize>
     ensures found { IfSome result (λ place. (place < length bytes.now) × (bytes.now ≡ take place bytes.now ++ 10 ∷ drop (place + 1) bytes.now) × All (λ byte. is_line_feed byte ≡ false) (take place bytes.now)) }
     ensures none { IfNone result (All (λ byte. is_line_feed byte ≡ false) bytes.now) }
 {

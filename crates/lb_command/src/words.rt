@@ -25,7 +25,7 @@ pub(crate) fn is_word_byte(byte: u8) -> bool
 }
 
 /// How many spaces come first.
-fn spaces(bytes: &[u8]) -> usize
+pub fn spaces(bytes: &[u8]) -> usize
     ensures within { result ≤ length bytes.now }
     ensures spaces { result ≡ spaces_of bytes.now }
 {
