@@ -1,4 +1,4 @@
--- shared by several files: Line, Reading
+-- shared by several files: Grammar, Line, Reading
 pub mod Fault
 pub mod Line
 pub mod Reading
@@ -8,3 +8,4 @@ pub mod Actions
 pub mod Commands
 pub mod Events
 pub mod Setup
+pub mod Grammar

@@ -32,6 +32,11 @@ abbrev pub Answers : {X : Type 0} → Result X CommandFault → Result X Command
 Answers (Ok x) read = read ≡ Ok x
 Answers (Err f) read = (f.kind ≡ kinds.NoMemory) ⊎ (read ≡ Err f)
 
+-- a line that is this is read so, unless memory is wanting
+abbrev pub ReadsAs : {X : Type 0} → Result X CommandFault → X → Type 0
+ReadsAs (Ok x) y = x ≡ y
+ReadsAs (Err f) y = f.kind ≡ kinds.NoMemory
+
 -- what is wrong where something is due: it is missing at the end, unknown at a sign or a stray byte, and else of this kind
 abbrev pub kind_at : FaultKind → List ℕ → FaultKind
 kind_at kind [] = kinds.Missing
