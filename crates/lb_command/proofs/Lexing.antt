@@ -7,12 +7,12 @@ use Rattle.lb_command.specs.Line.{is_sign, is_word_byte, begins_word, Seen, seen
 no_space : (b : ℕ) → is_word_byte b ≡ true → (b == 32) ≡ false
 no_space b h = grind (arith, common_steps)
 
-at_end : (total : ℕ) → words_of total [] ≡ []
+pub at_end : (total : ℕ) → words_of total [] ≡ []
 unfolding words_of
 at_end total = refl
 
 -- one byte more
-before : (total b : ℕ) (bs : List ℕ) → words_of total (b ∷ bs) ≡ (if b == 32 then words_of total bs else (if is_word_byte b && begins_word bs then in_front b (total - length (b ∷ bs)) (words_of total bs) else seen (b ∷ []) (total - length (b ∷ bs)) ∷ words_of total bs))
+pub before : (total b : ℕ) (bs : List ℕ) → words_of total (b ∷ bs) ≡ (if b == 32 then words_of total bs else (if is_word_byte b && begins_word bs then in_front b (total - length (b ∷ bs)) (words_of total bs) else seen (b ∷ []) (total - length (b ∷ bs)) ∷ words_of total bs))
 unfolding words_of
 before total b bs = refl
 

@@ -5,3 +5,6 @@ pub mod Lookups
 pub mod TermSteps
 pub mod NonZeros
 pub mod OptionSteps
+pub mod Exact
+pub mod Keeping
+pub mod Sequences
