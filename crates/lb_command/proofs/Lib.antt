@@ -8,3 +8,4 @@ pub mod OptionSteps
 pub mod Exact
 pub mod Keeping
 pub mod Sequences
+pub mod TermExact
