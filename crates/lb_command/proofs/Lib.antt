@@ -9,3 +9,4 @@ pub mod Exact
 pub mod Keeping
 pub mod Sequences
 pub mod TermExact
+pub mod ActionExact
