@@ -98,9 +98,11 @@ table_is {A} spell (entry ∷ entries) text x s h =
     ]
 
 -- a word of a table
+pub table_found : {A : Type 0} (kind : FaultKind) (spell : A → List ℕ) (entries : List (A × List ℕ)) → Spelled spell entries → looked_up entries [] ≡ None → Finds (due kind (looked_up entries)) (λ (x : A) s t. word (spell x) s t)
+table_found kind spell entries spelled none s t x h = as_word (looked_up entries) (spell x) x s t (λ said k. table_is spell entries said x spelled k) (says_found kind (looked_up entries) none s t x h)
+
 pub table_step : {A B : Type 0} (kind : FaultKind) (spell : A → List ℕ) (entries : List (A × List ℕ)) (s : Left) (f : A × Left → Result B CommandFault) (y : B) → Spelled spell entries → looked_up entries [] ≡ None → (due kind (looked_up entries) s >>= f) ≡ Ok y → (x : A) × (t : Left) × word (spell x) s t × (f (x, t) ≡ Ok y)
-table_step {A} kind spell entries s f y spelled none h =
-    step (due kind (looked_up entries)) (λ (x : A) s t. word (spell x) s t) s f y (λ s t x g. as_word (looked_up entries) (spell x) x s t (λ said k. table_is spell entries said x spelled k) (says_found kind (looked_up entries) none s t x g)) h
+table_step {A} kind spell entries s f y spelled none h = step (due kind (looked_up entries)) (λ (x : A) s t. word (spell x) s t) s f y (table_found kind spell entries spelled none) h
 
 pub table_again : {A : Type 0} (kind : FaultKind) (entries : List (A × List ℕ)) (text : List ℕ) (s t : Left) (x : A) → looked_up entries text ≡ Some x → word text s t → due kind (looked_up entries) s ≡ Ok (x, t)
 table_again kind entries text s t x known h = says_again kind (looked_up entries) s t x (seen text h.0, known, h.1)

@@ -10,3 +10,4 @@ pub mod Keeping
 pub mod Sequences
 pub mod TermExact
 pub mod ActionExact
+pub mod OptionExact
