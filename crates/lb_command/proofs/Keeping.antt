@@ -45,7 +45,7 @@ same s t h = subst (λ (u : Left). Kept s u) h (refl, omega arith, λ all. all)
 one_less : (w : Seen) (s t : Left) → s ≡ in_front_of w t → Kept s t
 one_less w s t h = subst (λ (u : Left). Kept u t) (sym h) (refl, omega arith, λ all. all.1)
 
-word_keeps : (text : List ℕ) → Keeps (word text)
+pub word_keeps : (text : List ℕ) → Keeps (word text)
 word_keeps text s t h = one_less (seen text h.0) s t h.1
 
 pub says_keeps : {A : Type 0} (value : List ℕ → Option A) (x : A) → Keeps (says value x)

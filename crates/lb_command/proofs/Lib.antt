@@ -11,3 +11,4 @@ pub mod Sequences
 pub mod TermExact
 pub mod ActionExact
 pub mod OptionExact
+pub mod CommandExact
