@@ -12,3 +12,6 @@ pub mod TermExact
 pub mod ActionExact
 pub mod OptionExact
 pub mod CommandExact
+pub mod EventExact
+pub mod SetupExact
+pub mod LineExact
