@@ -1,6 +1,5 @@
 -- Actions, against the grammar.
-use Rattle.std.proofs.Common.{◌≡◌, ℕ, ◌≤◌, Bool, true, false, ◌&&◌, Option, Some, None, Result, Ok, Err, List, [], ◌∷◌, length, refl, ◌∙◌, arith}
-use Rattle.std.proofs.lemmas.Bool.{cases_Bool}
+use Rattle.std.proofs.Common.{◌≡◌, ℕ, ◌≤◌, Bool, true, false, ◌&&◌, Some, Result, Ok, List, [], ◌∷◌, length, refl, ◌∙◌, arith}
 use Rattle.std.proofs.lemmas.Bool.Decides.{nat_tests}
 use Rattle.std.specs.Prelude.{codes, nat_le, if◌then◌else◌}
 use Rattle.lb_wire.specs.declared.addr.Addr.{Addr}
@@ -9,10 +8,10 @@ use Rattle.lb_servers.specs.declared.pool.PoolName.{PoolName}
 use Rattle.lb_core.specs.declared.command.StatedAction.{StatedAction}
 use Rattle.lb_core.specs.declared.command.StatedAction.TheVariants as actions
 use Rattle.lb_command.specs.Line.{Left}
-use Rattle.lb_command.specs.Reading.{◌>>=◌, due, listed, named, taken, too_many}
+use Rattle.lb_command.specs.Reading.{due, listed, taken, too_many}
 use Rattle.lb_command.specs.Values.{addr_of, pool_of, rcode_of}
 use Rattle.lb_command.specs.Actions.{action_at, action_body, pool_at, rcode_at, spoof_at, verdict_of, verdict_words}
-use Rattle.lb_command.specs.Grammar.{AllowedAction, ◌▷◌, action, bracketed, comma_list, says, word}
+use Rattle.lb_command.specs.Grammar.{AllowedAction, action, bracketed, comma_list, says, word}
 use Rattle.lb_command.specs.declared.actions.Verdict.{Verdict}
 use Rattle.lb_command.specs.declared.actions.Verdict.TheVariants as verdicts
 use Rattle.lb_command.specs.declared.fault.CommandFault.{CommandFault}

@@ -1,5 +1,5 @@
 -- Commands, against the grammar.
-use Rattle.std.proofs.Common.{◌≡◌, ℕ, zero, suc, ◌+◌, ◌≤◌, ◌<◌, Bool, true, false, ◌&&◌, Option, Some, None, Result, Ok, Err, List, [], ◌∷◌, length, subst, refl, sym, ap, ◌∙◌, arith, inl, inr}
+use Rattle.std.proofs.Common.{◌≡◌, ℕ, ◌≤◌, Bool, true, false, ◌&&◌, Option, Some, None, Result, Ok, List, [], ◌∷◌, length, subst, refl, sym, ap, ◌∙◌, arith, inl, inr}
 use Rattle.std.proofs.lemmas.Bool.{cases_Bool}
 use Rattle.std.proofs.lemmas.Grind.{common_steps}
 use Rattle.std.specs.Prelude.{codes, nat_le, nat_lt, if◌then◌else◌, bytes_eq, option_map}
@@ -30,7 +30,7 @@ use Rattle.lb_command.specs.Values.{addr_of, ident_of, in_range, looked_up, mode
 use Rattle.lb_command.specs.Terms.{checked_at, type_at}
 use Rattle.lb_command.specs.Actions.{action_at}
 use Rattle.lb_command.specs.Commands.{Stated, behind_cache_verb, behind_extent, behind_pool_verb, behind_rule_verb, behind_server_verb, behind_verb, by_name_at, by_suffix_at, cache_at, cache_attach_at, cache_detach_at, cache_verb_words, check_of, command_at, expunge_at, extent_words, nothing_stated, options_at, place_at, pool_add_at, pool_at, pool_policy_at, pool_verb_words, rule_add_at, rule_at, rule_id, rule_move_at, rule_remove_at, rule_verb_words, server_add_at, server_at, server_mode_at, server_remove_at, server_verb_words, spec_of, timeout_at, verb_words}
-use Rattle.lb_command.specs.Grammar.{Allowed, AllowedAction, Choice, Part, ◌▷◌, action, all_chosen, command, covered, number, options, optional_type, place, says, server, term, word}
+use Rattle.lb_command.specs.Grammar.{Allowed, AllowedAction, ◌▷◌, action, all_chosen, command, covered, number, optional_type, place, says, server, term, word}
 use Rattle.lb_command.specs.declared.fault.CommandFault.{CommandFault}
 use Rattle.lb_command.specs.declared.fault.FaultKind.TheVariants as kinds
 use Rattle.lb_command.specs.declared.commands.Verb.{Verb}
@@ -45,7 +45,7 @@ use Rattle.lb_command.specs.declared.commands.CacheVerb.{CacheVerb}
 use Rattle.lb_command.specs.declared.commands.CacheVerb.TheVariants as cache_verbs
 use Rattle.lb_command.specs.declared.commands.Extent.{Extent}
 use Rattle.lb_command.specs.declared.commands.Extent.TheVariants as extents
-use Rattle.lb_command.proofs.Exact.{Finds, bind_ok, carried, says_again, says_step, some_same, step, table_again, table_step, taken_again, taken_found, taken_not}
+use Rattle.lb_command.proofs.Exact.{Finds, bind_ok, carried, says_again, says_step, step, table_again, table_step, taken_again, taken_found, taken_not}
 use Rattle.lb_command.proofs.Keeping.{says_keeps, word_keeps}
 use Rattle.lb_command.proofs.TermExact.{checked_again, checked_found, type_again, type_found}
 use Rattle.lb_command.proofs.ActionExact.{Acts, action_again, action_found}

@@ -1,7 +1,6 @@
 -- Event lines, against the grammar.
-use Rattle.std.proofs.Common.{◌≡◌, ℕ, ◌≤◌, Bool, Option, Some, None, Result, Ok, Err, List, [], ◌∷◌, length, refl, sym, ap, ◌∙◌, arith}
+use Rattle.std.proofs.Common.{◌≡◌, ℕ, ◌≤◌, Bool, Some, Ok, List, [], length, refl, sym, ap, ◌∙◌, arith}
 use Rattle.std.specs.Prelude.{codes}
-use Rattle.lb_wire.specs.declared.addr.Addr.{Addr}
 use Rattle.lb_wire.specs.declared.addr.Origin.{Origin}
 use Rattle.lb_wire.specs.declared.ids.ServerId.{ServerId}
 use Rattle.lb_wire.specs.declared.transport.Kind.{Kind}
@@ -10,11 +9,10 @@ use Rattle.lb_core.specs.declared.command.Command.{Command}
 use Rattle.lb_core.specs.declared.event.Event.{Event}
 use Rattle.lb_core.specs.declared.event.Event.TheVariants.{Query, Reply, Tick, HealthResult, Edit}
 use Rattle.lb_command.specs.Line.{Left}
-use Rattle.lb_command.specs.Reading.{◌>>=◌, due}
 use Rattle.lb_command.specs.Values.{addr_of, hex_of, kind_of, looked_up, number_of, outcome_of, word_number}
 use Rattle.lb_command.specs.Commands.{command_at}
 use Rattle.lb_command.specs.Events.{behind_event_word, edit_at, event_at, event_table, health_at, lane_of, query_at, reply_at, server_id, tick_at, told_origin}
-use Rattle.lb_command.specs.Grammar.{AllowedEvent, ◌▷◌, command, event, number, says, word}
+use Rattle.lb_command.specs.Grammar.{AllowedEvent, ◌▷◌, event, number, says, word}
 use Rattle.lb_command.specs.declared.events.EventWord.{EventWord}
 use Rattle.lb_command.specs.declared.events.EventWord.TheVariants as event_words
 use Rattle.lb_command.specs.declared.fault.FaultKind.TheVariants as kinds

@@ -1,12 +1,12 @@
 -- What a reader reads is in the grammar, and what is in the grammar it reads: single words, and one part after the other.
-use Rattle.std.proofs.Common.{◌≡◌, ℕ, Bool, true, false, Option, Some, None, Result, Ok, Err, List, [], ◌∷◌, subst, refl, sym, ap, ◌∙◌, inl, inr}
+use Rattle.std.proofs.Common.{◌≡◌, ℕ, true, false, Option, Some, None, Result, Ok, Err, List, [], ◌∷◌, subst, refl, sym, ap, ◌∙◌, inl, inr}
 use Rattle.std.proofs.lemmas.Bool.{cases_Bool}
 use Rattle.std.proofs.lemmas.Slice.Eq.{bytes_eq-Decides}
-use Rattle.std.specs.Prelude.{bytes_eq, if◌then◌else◌}
-use Rattle.lb_command.specs.Line.{Left, Seen, behind_first, first_of, seen}
-use Rattle.lb_command.specs.Reading.{◌>>=◌, due, fault_at, named, or_fault, taken}
+use Rattle.std.specs.Prelude.{bytes_eq}
+use Rattle.lb_command.specs.Line.{Left, Seen, first_of, seen}
+use Rattle.lb_command.specs.Reading.{◌>>=◌, due, named, or_fault, taken}
 use Rattle.lb_command.specs.Values.{looked_up}
-use Rattle.lb_command.specs.Grammar.{Part, in_front_of, says, word}
+use Rattle.lb_command.specs.Grammar.{in_front_of, says, word}
 use Rattle.lb_command.specs.declared.fault.CommandFault.{CommandFault}
 use Rattle.lb_command.specs.declared.fault.FaultKind.{FaultKind}
 

@@ -1,5 +1,5 @@
 -- What a part leaves of a line: no more than there was, with the line's length, and no empty text where there was none.
-use Rattle.std.proofs.Common.{◌≡◌, ℕ, suc, ◌==◌, ◌-◌, ◌+◌, ◌≤◌, Bool, true, false, ◌&&◌, if◌then◌else◌, Option, Some, None, List, [], ◌∷◌, length, subst, refl, sym, ap, ◌∙◌, arith, inl, inr}
+use Rattle.std.proofs.Common.{◌≡◌, ℕ, ◌==◌, ◌-◌, ◌+◌, ◌≤◌, ◌&&◌, Option, Some, None, List, [], ◌∷◌, length, subst, refl, sym, ◌∙◌, arith, inl, inr}
 use Rattle.std.proofs.lemmas.Bool.{cases_Bool}
 use Rattle.std.specs.Prelude.{codes}
 use Rattle.lb_terms.specs.Selector.{Selector, Selectors, end, more}
@@ -16,7 +16,7 @@ use Rattle.lb_core.specs.declared.command.StatedAction.TheVariants as actions
 use Rattle.lb_core.specs.declared.event.Event.{Event}
 use Rattle.lb_core.specs.declared.event.Event.TheVariants.{Query, Reply, Tick, HealthResult, Edit}
 use Rattle.lb_command.specs.Line.{Left, Seen, begins_word, in_front, is_word_byte, seen, whole, words_of}
-use Rattle.lb_command.specs.Grammar.{Choice, Part, ◌▷◌, action, bracketed, choice, comma_list, command, covered, either, event, in_front_of, lengths, nothing, optional_type, options, order, pool, fall, rise, resolve, other_terms, others, place, says, server, setup, term, terms, word}
+use Rattle.lb_command.specs.Grammar.{Choice, Part, ◌▷◌, action, bracketed, choice, comma_list, command, covered, event, in_front_of, lengths, optional_type, options, order, pool, fall, rise, resolve, other_terms, others, place, says, server, setup, term, terms, word}
 use Rattle.lb_masks.specs.Number.{number_up_to}
 use Rattle.lb_command.specs.Values.{addr_of, count_of, hex_of, ident_of, in_range, kind_of, mask_of, mode_of, name_of, number_of, outcome_of, policy_of, pool_of, protocol_of, rcode_of, type_of, word_number}
 use Rattle.lb_command.specs.declared.setup.SetupLine.{SetupLine}

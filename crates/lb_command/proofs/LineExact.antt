@@ -1,9 +1,9 @@
 -- Whole lines, against the grammar.
-use Rattle.std.proofs.Common.{◌≡◌, ℕ, ◌≤◌, Bool, true, false, Option, Some, None, Result, Ok, Err, List, [], ◌∷◌, length, subst, refl, sym, ap, ◌∙◌, arith, inl, inr}
+use Rattle.std.proofs.Common.{◌≡◌, ℕ, ◌≤◌, false, Result, Ok, Err, List, [], ◌∷◌, length, subst, refl, sym, ap, ◌∙◌, arith, inl, inr}
 use Rattle.std.proofs.lemmas.Bool.{cases_Bool}
 use Rattle.std.proofs.lemmas.Bool.Decides.{nat_tests}
 use Rattle.std.proofs.lemmas.Slice.Eq.{bytes_eq-Decides}
-use Rattle.std.specs.Prelude.{IfOk, bytes_eq, nat_lt, if◌then◌else◌}
+use Rattle.std.specs.Prelude.{IfOk, bytes_eq, nat_lt}
 use Rattle.lb_core.specs.declared.command.Command.{Command}
 use Rattle.lb_core.specs.declared.event.Event.{Event}
 use Rattle.lb_command.specs.Line.{Left, Seen, whole}

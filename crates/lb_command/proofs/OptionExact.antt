@@ -1,5 +1,5 @@
 -- The options of a server, against the grammar.
-use Rattle.std.proofs.Common.{◌≡◌, ℕ, zero, suc, ◌+◌, ◌≤◌, Bool, true, false, Option, Some, None, Result, Ok, Err, List, [], ◌∷◌, ◌++◌, length, refl, sym, ap, ◌∙◌, arith, inl, inr}
+use Rattle.std.proofs.Common.{◌≡◌, ℕ, zero, suc, ◌+◌, ◌≤◌, Bool, true, false, Option, Some, None, Result, Ok, List, [], ◌∷◌, ◌++◌, length, refl, ap, ◌∙◌, arith, inl, inr}
 use Rattle.std.proofs.lemmas.Bool.Decides.{nat_tests}
 use Rattle.std.proofs.lemmas.List.{length-append}
 use Rattle.std.specs.Prelude.{◌⊎◌, codes, nat_lt, if◌then◌else◌}
@@ -8,14 +8,14 @@ use Rattle.lb_servers.specs.declared.pool.PoolName.{PoolName}
 use Rattle.lb_command.specs.Line.{Left, behind_first, first_of}
 use Rattle.lb_command.specs.Reading.{◌>>=◌, due, too_many}
 use Rattle.lb_command.specs.Values.{count_of, looked_up, pool_of, word_number}
-use Rattle.lb_command.specs.Commands.{Stated, behind_option, fall_at, option_words, options_at, order_at, pool_option_at, rise_at, with_option}
-use Rattle.lb_command.specs.Grammar.{Choice, ◌▷◌, all_chosen, choice, chosen, fall, options, order, pool, resolve, rise, says, word}
+use Rattle.lb_command.specs.Commands.{Stated, behind_option, fall_at, option_words, options_at, order_at, pool_option_at, rise_at}
+use Rattle.lb_command.specs.Grammar.{Choice, all_chosen, choice, chosen, fall, options, order, pool, resolve, rise, says, word}
 use Rattle.lb_command.specs.declared.fault.CommandFault.{CommandFault}
 use Rattle.lb_command.specs.declared.fault.FaultKind.TheVariants as kinds
 use Rattle.lb_command.specs.declared.options.ServerOption.{ServerOption}
 use Rattle.lb_command.specs.declared.options.ServerOption.TheVariants as server_options
 use Rattle.lb_command.proofs.Exact.{Spelled, bind_ok, carried, says_again, says_step, table_found}
-use Rattle.lb_command.proofs.Keeping.{choice_keeps, says_keeps}
+use Rattle.lb_command.proofs.Keeping.{says_keeps}
 use Rattle.lb_command.proofs.OptionSteps.{another, last}
 
 abbrev option_text : ServerOption → List ℕ

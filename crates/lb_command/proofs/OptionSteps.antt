@@ -1,10 +1,10 @@
 -- Reading the options of a server, a step at a time.
-use Rattle.std.proofs.Common.{◌≡◌, ℕ, zero, suc, ◌-◌, ◌+◌, ◌<◌, ◌≤◌, Bool, false, Option, Some, None, Result, Ok, Err, List, [], refl, sym, ap, ◌∙◌, arith}
+use Rattle.std.proofs.Common.{◌≡◌, ℕ, suc, ◌-◌, ◌+◌, ◌<◌, ◌≤◌, false, Some, None, Result, Ok, Err, List, [], refl, sym, ap, ◌∙◌, arith}
 use Rattle.std.specs.declared.num.NonZeroU8.{NonZeroU8}
 use Rattle.lb_servers.specs.declared.pool.PoolName.{PoolName}
 use Rattle.lb_command.specs.Commands.{Stated, behind_option, nothing_stated, option_words, options_at}
 use Rattle.lb_command.specs.Line.{Left, behind_first, first_of}
-use Rattle.lb_command.specs.Reading.{◌>>=◌, Fails}
+use Rattle.lb_command.specs.Reading.{Fails}
 use Rattle.lb_command.specs.Values.{looked_up, one}
 use Rattle.lb_command.specs.declared.fault.CommandFault.{CommandFault}
 use Rattle.lb_command.specs.declared.fault.Unread.{Unread}

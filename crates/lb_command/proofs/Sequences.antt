@@ -1,10 +1,10 @@
 -- Lists with commas, against the grammar.
-use Rattle.std.proofs.Common.{◌≡◌, ℕ, zero, suc, ◌+◌, ◌≤◌, Bool, true, false, Option, Some, None, Result, Ok, Err, List, [], ◌∷◌, length, refl, sym, ap, ◌∙◌, arith, inl, inr}
+use Rattle.std.proofs.Common.{◌≡◌, ℕ, zero, suc, ◌+◌, ◌≤◌, Bool, true, false, Option, None, Result, Ok, List, [], ◌∷◌, length, refl, sym, ap, arith, inl, inr}
 use Rattle.std.proofs.lemmas.Bool.{cases_Bool}
-use Rattle.std.specs.Prelude.{if◌then◌else◌, codes}
+use Rattle.std.specs.Prelude.{codes}
 use Rattle.lb_command.specs.Line.{Left}
 use Rattle.lb_command.specs.Reading.{◌>>=◌, due, listed, taken}
-use Rattle.lb_command.specs.Grammar.{Part, ◌▷◌, comma_list, others, says, word}
+use Rattle.lb_command.specs.Grammar.{Part, comma_list, others, says, word}
 use Rattle.lb_command.specs.declared.fault.CommandFault.{CommandFault}
 use Rattle.lb_command.specs.declared.fault.FaultKind.{FaultKind}
 use Rattle.lb_command.proofs.Exact.{Finds, bind_ok, carried, says_again, says_found, taken_again, taken_found, taken_not}

@@ -1,12 +1,12 @@
 -- Lines of a setup file, against the grammar.
-use Rattle.std.proofs.Common.{◌≡◌, ℕ, ◌≤◌, Bool, true, false, Option, Some, None, Result, Ok, Err, List, [], ◌∷◌, length, refl, sym, ap, ◌∙◌, arith, inl, inr}
+use Rattle.std.proofs.Common.{◌≡◌, ℕ, ◌≤◌, false, Ok, [], length, refl, inl, inr}
 use Rattle.std.proofs.lemmas.Bool.{cases_Bool}
-use Rattle.std.specs.Prelude.{codes, if◌then◌else◌}
+use Rattle.std.specs.Prelude.{codes}
 use Rattle.lb_masks.specs.Number.{number_up_to}
 use Rattle.lb_core.specs.declared.command.Command.{Command}
 use Rattle.lb_core.specs.declared.command.Command.TheVariants.{RuleAdd, RuleRemove, RuleMove, ServerAdd, ServerRemove, ServerMode, PoolAdd, PoolPolicy, CacheAttach, CacheDetach, Expunge, SetTimeout, Show}
 use Rattle.lb_command.specs.Line.{Left}
-use Rattle.lb_command.specs.Reading.{◌>>=◌, due, taken}
+use Rattle.lb_command.specs.Reading.{taken}
 use Rattle.lb_command.specs.Values.{addr_of, in_range, protocol_of}
 use Rattle.lb_command.specs.Commands.{command_at}
 use Rattle.lb_command.specs.Setup.{edit_line_at, listen_at, log_at, setup_at}

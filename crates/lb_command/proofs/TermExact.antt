@@ -1,21 +1,20 @@
 -- Terms, against the grammar.
-use Rattle.std.proofs.Common.{◌≡◌, ℕ, zero, suc, ◌+◌, ◌-◌, ◌≤◌, Bool, true, false, not, ◌&&◌, ◌||◌, Option, Some, None, Result, Ok, Err, List, [], ◌∷◌, length, subst, refl, sym, ap, ◌∙◌, arith, inl, inr, zero-add}
+use Rattle.std.proofs.Common.{◌≡◌, ℕ, zero, suc, ◌+◌, ◌-◌, ◌≤◌, Bool, true, false, not, ◌&&◌, ◌||◌, Some, Result, Ok, Err, List, [], ◌∷◌, length, subst, refl, sym, ap, ◌∙◌, arith, inl, inr, zero-add}
 use Rattle.std.proofs.lemmas.Bool.{cases_Bool}
 use Rattle.std.proofs.lemmas.Bool.Decides.{nat_tests}
-use Rattle.std.specs.Prelude.{◌⊎◌, codes, nat_le, nat_lt, max, if◌then◌else◌}
+use Rattle.std.specs.Prelude.{◌⊎◌, codes, nat_le, nat_lt, if◌then◌else◌}
 use Rattle.lb_masks.specs.Number.{number_up_to}
 use Rattle.lb_masks.specs.Mask.{Prefix}
 use Rattle.lb_wire.specs.declared.record_type.RecordType.{RecordType}
 use Rattle.lb_terms.specs.Selector.{Selector, Selectors, end, more, members_of}
 use Rattle.lb_terms.specs.Selector as sel
 use Rattle.lb_terms.specs.Check.{IsChecked, checked_of, depth_in, depth_of, has_members, has_rates, has_small_sets, have_small_sets, max_depth, max_nodes, nodes_in, nodes_of}
-use Rattle.lb_terms.specs.declared.fault.TermFault.{TermFault}
 use Rattle.lb_terms.specs.declared.fault.TermFault.TheVariants as faults
-use Rattle.lb_command.specs.Line.{Left, first_of, seen}
-use Rattle.lb_command.specs.Reading.{◌>>=◌, due, listed, named, taken, too_many}
+use Rattle.lb_command.specs.Line.{Left, first_of}
+use Rattle.lb_command.specs.Reading.{due, listed, taken}
 use Rattle.lb_command.specs.Values.{in_range, mask_of, name_of, type_kind, type_of}
 use Rattle.lb_command.specs.Terms.{State, alone, and_at, body_at, checked_at, checked_or, comma, form_of, form_words, left_in, lengths_at, masks_at, maxqps_at, members_at, not_at, one_fewer, or_at, qtype_at, suffix_at, term_at, type_at}
-use Rattle.lb_command.specs.Grammar.{Part, ◌▷◌, bracketed, comma_list, lengths, nothing, other_terms, says, term, terms, word}
+use Rattle.lb_command.specs.Grammar.{◌▷◌, bracketed, comma_list, lengths, other_terms, says, term, terms, word}
 use Rattle.lb_command.specs.declared.fault.CommandFault.{CommandFault}
 use Rattle.lb_command.specs.declared.fault.FaultKind.TheVariants as kinds
 use Rattle.lb_command.specs.declared.terms.Form.{Form}

@@ -1,8 +1,7 @@
 -- The grammar of commands, event lines and setup lines, line by line as the operator's table has it. A part says that what is
 -- left of a line begins with it, and what is left behind it.
-use Rattle.std.specs.Prelude.{◌≡◌, ◌⊎◌, ℕ, ◌≤◌, Bool, true, Option, Some, None, List, [], ◌∷◌, ◌++◌, length, codes}
+use Rattle.std.specs.Prelude.{◌≡◌, ◌⊎◌, ℕ, ◌≤◌, true, Option, Some, None, List, [], ◌∷◌, ◌++◌, length, codes}
 use Rattle.std.specs.declared.num.NonZeroU8.{NonZeroU8}
-use Rattle.lb_wire.specs.declared.ids.RuleId.{RuleId}
 use Rattle.lb_wire.specs.declared.record_type.RecordType.{RecordType}
 use Rattle.lb_masks.specs.Number.{number_up_to}
 use Rattle.lb_terms.specs.Selector.{Selector, Selectors, end, more}
@@ -24,7 +23,6 @@ use Rattle.lb_command.specs.Reading.{max_line}
 use Rattle.lb_command.specs.Values.{addr_of, count_of, hex_of, ident_of, in_range, kind_of, mask_of, mode_of, name_of, number_of, outcome_of, policy_of, pool_of, protocol_of, rcode_of, type_of, word_number}
 use Rattle.lb_command.specs.Commands.{Stated, check_of, nothing_stated, spec_of}
 use Rattle.lb_command.specs.Events.{lane_of, told_origin}
-use Rattle.lb_command.specs.declared.setup.Listener.{Listener}
 use Rattle.lb_command.specs.declared.setup.SetupLine.{SetupLine}
 use Rattle.lb_command.specs.declared.setup.SetupLine.TheVariants as setups
 

@@ -1,6 +1,6 @@
 -- Reading from left to right, to the first fault that is met.
 use Rattle.std.specs.Prelude.{if◌then◌else◌, ◌≡◌, ◌⊎◌, ℕ, zero, suc, Bool, true, false, ◌||◌, nat_lt, Option, Some, None, Result, Ok, Err, List, [], ◌∷◌, length, bytes_eq}
-use Rattle.lb_command.specs.Line.{Seen, Left, begins_word, first_of, behind_first, is_sign, is_word_byte, whole}
+use Rattle.lb_command.specs.Line.{Seen, Left, begins_word, first_of, behind_first, is_sign, is_word_byte}
 use Rattle.lb_command.specs.declared.fault.CommandFault.{CommandFault}
 use Rattle.lb_command.specs.declared.fault.FaultKind.{FaultKind}
 use Rattle.lb_command.specs.declared.fault.FaultKind.TheVariants as kinds
