@@ -1,14 +1,13 @@
 -- Actions, against the grammar.
-use Rattle.std.proofs.Common.{◌≡◌, ℕ, ◌≤◌, Bool, true, false, ◌&&◌, Some, Result, Ok, List, [], ◌∷◌, length, refl, ◌∙◌, arith}
-use Rattle.std.proofs.lemmas.Bool.Decides.{nat_tests}
-use Rattle.std.specs.Prelude.{codes, nat_le, if◌then◌else◌}
+use Rattle.std.proofs.Common.{◌≡◌, ℕ, ◌≤◌, ◌&&◌, Some, Result, Ok, List, [], ◌∷◌, length, refl, ◌∙◌, arith}
+use Rattle.std.specs.Prelude.{codes, nat_le}
 use Rattle.lb_wire.specs.declared.addr.Addr.{Addr}
 use Rattle.lb_wire.specs.declared.rcode.Rcode.{Rcode}
 use Rattle.lb_servers.specs.declared.pool.PoolName.{PoolName}
 use Rattle.lb_core.specs.declared.command.StatedAction.{StatedAction}
 use Rattle.lb_core.specs.declared.command.StatedAction.TheVariants as actions
 use Rattle.lb_command.specs.Line.{Left}
-use Rattle.lb_command.specs.Reading.{due, listed, taken, too_many}
+use Rattle.lb_command.specs.Reading.{due, listed, taken}
 use Rattle.lb_command.specs.Values.{addr_of, pool_of, rcode_of}
 use Rattle.lb_command.specs.Actions.{action_at, action_body, pool_at, rcode_at, spoof_at, verdict_of, verdict_words}
 use Rattle.lb_command.specs.Grammar.{AllowedAction, action, bracketed, comma_list, says, word}
@@ -16,7 +15,8 @@ use Rattle.lb_command.specs.declared.actions.Verdict.{Verdict}
 use Rattle.lb_command.specs.declared.actions.Verdict.TheVariants as verdicts
 use Rattle.lb_command.specs.declared.fault.CommandFault.{CommandFault}
 use Rattle.lb_command.specs.declared.fault.FaultKind.TheVariants as kinds
-use Rattle.lb_command.proofs.Exact.{Finds, Spelled, carried, says_again, says_step, step, table_again, table_step, word_again, word_step}
+use Rattle.lb_command.proofs.Exact.{Finds, Spelled, carried, says_again, says_step, step, table_again, table_step, tested, word_again, word_step}
+use Rattle.lb_command.proofs.Truths.{both, le_of, of_le}
 use Rattle.lb_command.proofs.Sequences.{says_list_again, says_list_found, stops_at_close}
 
 abbrev verdict_text : Verdict → List ℕ
@@ -50,21 +50,6 @@ pool_found line s t y w h =
     let c = word_step kinds.UnknownWord (codes ")") b.1 _ (y, t) refl b.3 in
     carried (λ (z : StatedAction) (u : Left). Acts z line u) (actions.Pool b.0) y c.1 t c.3 ((s, w, (a.1, a.2, (b.1, b.2, c.2))), tt)
 
-le_of : (a b : ℕ) → nat_le a b ≡ true → a ≤ b
-le_of a b h = grind (arith, nat_tests)
-
-of_le : (a b : ℕ) → a ≤ b → nat_le a b ≡ true
-of_le a b h = grind (arith, nat_tests)
-
-second_of : (a b : Bool) → (a && b) ≡ true → b ≡ true
-second_of true b h = h
-second_of false b h = absurd (cc)
-
--- what is read where a test passes
-tested : {A : Type 0} (b : Bool) (s : Left) (x y : A) → (if b then Ok x else too_many s) ≡ Ok y → (b ≡ true) × ◌≡◌ {A = Result A CommandFault} (Ok x) (Ok y)
-tested true s x y h = (refl, h)
-tested false s x y h = absurd (cc)
-
 spoof_found : (line s t : Left) (y : StatedAction) → word (codes "spoof") line s → spoof_at s ≡ Ok (y, t) → Acts y line t
 unfolding spoof_at
 spoof_found line s t y w h =
@@ -72,7 +57,7 @@ spoof_found line s t y w h =
     let b = step (listed (due kinds.BadAddress addr_of) (taken (codes ",")) (λ s. s) 8) (comma_list (says addr_of)) a.1 _ (y, t) (says_list_found kinds.BadAddress addr_of 8 refl) a.3 in
     let c = word_step kinds.UnknownWord (codes ")") b.1 _ (y, t) refl b.3 in
     let k = tested (nat_le 1 (length b.0) && nat_le (length b.0) 8) s (actions.Spoof b.0, c.1) (y, t) c.3 in
-    let few = le_of (length b.0) 8 (second_of (nat_le 1 (length b.0)) (nat_le (length b.0) 8) k.0) in
+    let few = le_of (length b.0) 8 (both (nat_le 1 (length b.0)) (nat_le (length b.0) 8) k.0).1 in
     carried (λ (z : StatedAction) (u : Left). Acts z line u) (actions.Spoof b.0) y c.1 t k.1 ((s, w, (a.1, a.2, (b.1, b.2, c.2))), few)
 
 -- an action that is its word

@@ -46,6 +46,7 @@ use Rattle.lb_command.specs.declared.commands.CacheVerb.TheVariants as cache_ver
 use Rattle.lb_command.specs.declared.commands.Extent.{Extent}
 use Rattle.lb_command.specs.declared.commands.Extent.TheVariants as extents
 use Rattle.lb_command.proofs.Exact.{Finds, bind_ok, carried, says_again, says_step, step, table_again, table_step, taken_again, taken_found, taken_not}
+use Rattle.lb_command.proofs.Truths.{both}
 use Rattle.lb_command.proofs.Keeping.{says_keeps, word_keeps}
 use Rattle.lb_command.proofs.TermExact.{checked_again, checked_found, type_again, type_found}
 use Rattle.lb_command.proofs.ActionExact.{Acts, action_again, action_found}
@@ -376,10 +377,6 @@ behind_cache s t v known h = rw (table_again kinds.UnknownWord cache_verb_words 
 -- a digit begins a word
 digit_begins : (b : ℕ) → is_digit b 10 ≡ true → is_word_byte b ≡ true
 digit_begins b h = grind (arith, common_steps)
-
-both : (a b : Bool) → (a && b) ≡ true → (a ≡ true) × (b ≡ true)
-both true b h = (refl, h)
-both false b h = absurd (cc)
 
 passed : {A : Type 0} (c : Bool) (x y : A) → (if c then Some x else None) ≡ Some y → c ≡ true
 passed true x y h = refl

@@ -1,10 +1,10 @@
 -- What a reader reads is in the grammar, and what is in the grammar it reads: single words, and one part after the other.
-use Rattle.std.proofs.Common.{◌≡◌, ℕ, true, false, Option, Some, None, Result, Ok, Err, List, [], ◌∷◌, subst, refl, sym, ap, ◌∙◌, inl, inr}
+use Rattle.std.proofs.Common.{◌≡◌, ℕ, Bool, true, false, Option, Some, None, Result, Ok, Err, List, [], ◌∷◌, subst, refl, sym, ap, ◌∙◌, inl, inr}
 use Rattle.std.proofs.lemmas.Bool.{cases_Bool}
 use Rattle.std.proofs.lemmas.Slice.Eq.{bytes_eq-Decides}
-use Rattle.std.specs.Prelude.{bytes_eq}
+use Rattle.std.specs.Prelude.{bytes_eq, if◌then◌else◌}
 use Rattle.lb_command.specs.Line.{Left, Seen, first_of, seen}
-use Rattle.lb_command.specs.Reading.{◌>>=◌, due, named, or_fault, taken}
+use Rattle.lb_command.specs.Reading.{◌>>=◌, due, named, or_fault, taken, too_many}
 use Rattle.lb_command.specs.Values.{looked_up}
 use Rattle.lb_command.specs.Grammar.{in_front_of, says, word}
 use Rattle.lb_command.specs.declared.fault.CommandFault.{CommandFault}
@@ -23,6 +23,11 @@ carried {A} {B} P x y s t h p = subst (λ (q : A × B). P q.0 q.1) (ok_same (x, 
 pub bind_ok : {A B : Type 0} (r : Result A CommandFault) (f : A → Result B CommandFault) (y : B) → (r >>= f) ≡ Ok y → (x : A) × (r ≡ Ok x) × (f x ≡ Ok y)
 bind_ok (Err e) f y h = absurd (cc)
 bind_ok (Ok x) f y h = (x, refl, h)
+
+-- what is read where a test passes
+pub tested : {A : Type 0} (b : Bool) (s : Left) (x y : A) → (if b then Ok x else too_many s) ≡ Ok y → (b ≡ true) × ◌≡◌ {A = Result A CommandFault} (Ok x) (Ok y)
+tested true s x y h = (refl, h)
+tested false s x y h = absurd (cc)
 
 -- a reader that finds no more than a part
 abbrev pub Finds : {A S : Type 0} → (S → Result (A × S) CommandFault) → (A → S → S → Type 0) → Type 0

@@ -1,3 +1,4 @@
+pub mod Truths
 pub mod Texts
 pub mod Lexing
 pub mod Lists

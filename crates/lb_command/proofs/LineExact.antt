@@ -1,7 +1,6 @@
 -- Whole lines, against the grammar.
-use Rattle.std.proofs.Common.{◌≡◌, ℕ, ◌≤◌, false, Result, Ok, Err, List, [], ◌∷◌, length, subst, refl, sym, ap, ◌∙◌, arith, inl, inr}
+use Rattle.std.proofs.Common.{◌≡◌, ℕ, ◌≤◌, Result, Ok, Err, List, [], ◌∷◌, length, subst, refl, sym, ap, ◌∙◌, arith, inl, inr}
 use Rattle.std.proofs.lemmas.Bool.{cases_Bool}
-use Rattle.std.proofs.lemmas.Bool.Decides.{nat_tests}
 use Rattle.std.proofs.lemmas.Slice.Eq.{bytes_eq-Decides}
 use Rattle.std.specs.Prelude.{IfOk, bytes_eq, nat_lt}
 use Rattle.lb_core.specs.declared.command.Command.{Command}
@@ -15,6 +14,7 @@ use Rattle.lb_command.specs.Grammar.{Allowed, AllowedEvent, AllowedSetup, IsComm
 use Rattle.lb_command.specs.declared.fault.CommandFault.{CommandFault}
 use Rattle.lb_command.specs.declared.setup.SetupLine.{SetupLine}
 use Rattle.lb_command.proofs.Exact.{Finds, bind_ok, ok_same}
+use Rattle.lb_command.proofs.Truths.{not_over, of_not_over}
 use Rattle.lb_command.proofs.Keeping.{AreSome, IsSome, Keeps, command_keeps, event_keeps, line_few, line_some, setup_keeps}
 use Rattle.lb_command.proofs.CommandExact.{command_part_again, command_part_found}
 use Rattle.lb_command.proofs.EventExact.{event_part_again, event_part_found}
@@ -35,12 +35,6 @@ taken_all s line none total = ap (λ (ws : List Seen). record { words = ws; tota
 -- a part and the end behind it
 abbrev read_whole : {X : Type 0} → (Left → Result (X × Left) CommandFault) → Left → Result X CommandFault
 read_whole read s = read s >>= λ x. ended x.1 >>= λ end. Ok x.0
-
-not_over : (a b : ℕ) → nat_lt b a ≡ false → a ≤ b
-not_over a b h = grind (arith, nat_tests)
-
-of_not_over : (a b : ℕ) → a ≤ b → nat_lt b a ≡ false
-of_not_over a b h = grind (arith, nat_tests)
 
 whole_found : {X : Type 0} (read : Left → Result (X × Left) CommandFault) (part : X → Part) (allowed : X → Type 0) → Finds read (λ x s t. part x s t × allowed x) → ((x : X) → Keeps (part x))
     → (line : List ℕ) (x : X) → length line ≤ max_line → read_whole read (whole line) ≡ Ok x → Says (part x) line × allowed x

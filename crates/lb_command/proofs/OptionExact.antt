@@ -1,12 +1,11 @@
 -- The options of a server, against the grammar.
-use Rattle.std.proofs.Common.{◌≡◌, ℕ, zero, suc, ◌+◌, ◌≤◌, Bool, true, false, Option, Some, None, Result, Ok, List, [], ◌∷◌, ◌++◌, length, refl, ap, ◌∙◌, arith, inl, inr}
-use Rattle.std.proofs.lemmas.Bool.Decides.{nat_tests}
+use Rattle.std.proofs.Common.{◌≡◌, ℕ, zero, suc, ◌+◌, ◌≤◌, true, Option, Some, None, Result, Ok, List, [], ◌∷◌, ◌++◌, length, refl, ap, ◌∙◌, arith, inl, inr}
 use Rattle.std.proofs.lemmas.List.{length-append}
-use Rattle.std.specs.Prelude.{◌⊎◌, codes, nat_lt, if◌then◌else◌}
+use Rattle.std.specs.Prelude.{◌⊎◌, codes, nat_lt}
 use Rattle.std.specs.declared.num.NonZeroU8.{NonZeroU8}
 use Rattle.lb_servers.specs.declared.pool.PoolName.{PoolName}
 use Rattle.lb_command.specs.Line.{Left, behind_first, first_of}
-use Rattle.lb_command.specs.Reading.{◌>>=◌, due, too_many}
+use Rattle.lb_command.specs.Reading.{◌>>=◌, due}
 use Rattle.lb_command.specs.Values.{count_of, looked_up, pool_of, word_number}
 use Rattle.lb_command.specs.Commands.{Stated, behind_option, fall_at, option_words, options_at, order_at, pool_option_at, rise_at}
 use Rattle.lb_command.specs.Grammar.{Choice, all_chosen, choice, chosen, fall, options, order, pool, resolve, rise, says, word}
@@ -14,8 +13,9 @@ use Rattle.lb_command.specs.declared.fault.CommandFault.{CommandFault}
 use Rattle.lb_command.specs.declared.fault.FaultKind.TheVariants as kinds
 use Rattle.lb_command.specs.declared.options.ServerOption.{ServerOption}
 use Rattle.lb_command.specs.declared.options.ServerOption.TheVariants as server_options
-use Rattle.lb_command.proofs.Exact.{Spelled, bind_ok, carried, says_again, says_step, table_found}
+use Rattle.lb_command.proofs.Exact.{Spelled, bind_ok, carried, says_again, says_step, table_found, tested}
 use Rattle.lb_command.proofs.Keeping.{says_keeps}
+use Rattle.lb_command.proofs.Truths.{less_of, of_less}
 use Rattle.lb_command.proofs.OptionSteps.{another, last}
 
 abbrev option_text : ServerOption → List ℕ
@@ -38,19 +38,9 @@ order_found old new line s t w h =
     let a = says_step kinds.BadNumber word_number s _ (new, t) refl h in
     carried (λ (z : Stated) (u : Left). Makes old line z u) (record old { order = a.0 }) new a.1 t a.3 (order a.0, refl, (s, w, a.2), λ few. few)
 
-less_of : (a b : ℕ) → nat_lt a b ≡ true → a + 1 ≤ b
-less_of a b h = grind (arith, nat_tests)
-
-of_less : (a b : ℕ) → a + 1 ≤ b → nat_lt a b ≡ true
-of_less a b h = grind (arith, nat_tests)
-
 -- one pool more
 one_pool : (names : List PoolName) (name : PoolName) → length (names ++ name ∷ []) ≡ length names + 1
 one_pool names name = length-append names (name ∷ [])
-
-tested : {A : Type 0} (b : Bool) (s : Left) (x y : A) → (if b then Ok x else too_many s) ≡ Ok y → (b ≡ true) × ◌≡◌ {A = Result A CommandFault} (Ok x) (Ok y)
-tested true s x y h = (refl, h)
-tested false s x y h = absurd (cc)
 
 pool_found : (old new : Stated) (line s t : Left) → word (codes "pool") line s → pool_option_at old s ≡ Ok (new, t) → Makes old line new t
 unfolding pool_option_at

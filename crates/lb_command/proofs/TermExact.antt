@@ -1,8 +1,7 @@
 -- Terms, against the grammar.
-use Rattle.std.proofs.Common.{◌≡◌, ℕ, zero, suc, ◌+◌, ◌-◌, ◌≤◌, Bool, true, false, not, ◌&&◌, ◌||◌, Some, Result, Ok, Err, List, [], ◌∷◌, length, subst, refl, sym, ap, ◌∙◌, arith, inl, inr, zero-add}
+use Rattle.std.proofs.Common.{◌≡◌, ℕ, zero, suc, ◌+◌, ◌-◌, ◌≤◌, Bool, true, false, not, ◌||◌, Some, Result, Ok, Err, List, [], ◌∷◌, length, subst, refl, sym, ap, ◌∙◌, arith, inl, inr, zero-add}
 use Rattle.std.proofs.lemmas.Bool.{cases_Bool}
-use Rattle.std.proofs.lemmas.Bool.Decides.{nat_tests}
-use Rattle.std.specs.Prelude.{◌⊎◌, codes, nat_le, nat_lt, if◌then◌else◌}
+use Rattle.std.specs.Prelude.{◌⊎◌, codes, nat_lt, if◌then◌else◌}
 use Rattle.lb_masks.specs.Number.{number_up_to}
 use Rattle.lb_masks.specs.Mask.{Prefix}
 use Rattle.lb_wire.specs.declared.record_type.RecordType.{RecordType}
@@ -20,6 +19,7 @@ use Rattle.lb_command.specs.declared.fault.FaultKind.TheVariants as kinds
 use Rattle.lb_command.specs.declared.terms.Form.{Form}
 use Rattle.lb_command.specs.declared.terms.Form.TheVariants as forms
 use Rattle.lb_command.proofs.Exact.{Finds, bind_ok, carried, ok_same, says_again, says_found, says_step, Spelled, step, table_again, table_step, taken_again, taken_found, taken_not, word_again, word_step}
+use Rattle.lb_command.proofs.Truths.{both, le_of, neither, not_false, not_over, of_le, of_not_over}
 use Rattle.lb_command.proofs.Lists.{last_listed, one_more_listed}
 use Rattle.lb_command.proofs.Sequences.{After, ListOf, list_found, says_list_again, says_list_found, stops_at_close}
 
@@ -175,13 +175,6 @@ term_found (suc depth) s t y h =
     let b = bind_ok (one_fewer s.0 s.1) _ (y, t) a.3 in
     body_found (term_at depth) (term_found depth) a.0 s.1 (b.0, a.1) t y a.2 b.2
 
-le_of : (a b : ℕ) → nat_le a b ≡ true → a ≤ b
-le_of a b h = grind (arith, nat_tests)
-
-both : (a b : Bool) → (a && b) ≡ true → (a ≡ true) × (b ≡ true)
-both true b h = (refl, h)
-both false b h = absurd (cc)
-
 suffix_again : (s t : Left) (names : List (List (List ℕ))) → length names ≤ 1024 → bracketed (comma_list (says name_of) names) s t → suffix_at s ≡ Ok (sel.Suffix names, t)
 unfolding suffix_at
 suffix_again s t names few h =
@@ -309,20 +302,6 @@ mutual
       let rest = after_again ys y d count m h.0 h.2.0 b t most next h.2.2 (omega arith) (omega (arith, some_node y)) sets.1 close (omega (arith, some_node y)) in
       listed_more d most (n, s) (count, here) (count, h.0) (m, b) x (y ∷ list_of ys) one k rest
 
-neither : (a b : Bool) → (a || b) ≡ false → (a ≡ false) × (b ≡ false)
-neither true b h = absurd (cc)
-neither false b h = (refl, h)
-
-not_false : (b : Bool) → not b ≡ false → b ≡ true
-not_false true h = refl
-not_false false h = absurd (cc)
-
-not_over : (a b : ℕ) → nat_lt b a ≡ false → nat_le a b ≡ true
-not_over a b h = grind (arith, nat_tests)
-
-within_again : (a b : ℕ) → nat_le a b ≡ true → nat_lt b a ≡ false
-within_again a b h = grind (arith, nat_tests)
-
 passes : (a b c d : Bool) (x y : Selector) → (if a then Err faults.TooDeep else (if b then Err faults.TooLarge else (if c then Err faults.Empty else (if d then Err faults.BadRate else Ok x)))) ≡ Ok y → (a ≡ false) × (b ≡ false) × (c ≡ false) × (d ≡ false) × (x ≡ y)
 passes true b c d x y h = absurd (cc)
 passes false true c d x y h = absurd (cc)
@@ -335,7 +314,7 @@ within_limits : (x y : Selector) → checked_of x ≡ Ok y → (x ≡ y) × IsCh
 within_limits x y h =
     let p = passes (nat_lt max_depth (depth_of x)) (nat_lt max_nodes (nodes_of x) || not (has_small_sets x)) (not (has_members x)) (not (has_rates x)) x y h in
     let small = neither (nat_lt max_nodes (nodes_of x)) (not (has_small_sets x)) p.1 in
-    (p.4, record { depth = not_over (depth_of x) max_depth p.0; nodes = not_over (nodes_of x) max_nodes small.0; sets = not_false (has_small_sets x) small.1; members = not_false (has_members x) p.2; rates = not_false (has_rates x) p.3 })
+    (p.4, record { depth = of_le (depth_of x) max_depth (not_over (depth_of x) max_depth p.0); nodes = of_le (nodes_of x) max_nodes (not_over (nodes_of x) max_nodes small.0); sets = not_false (has_small_sets x) small.1; members = not_false (has_members x) p.2; rates = not_false (has_rates x) p.3 })
 
 ok_or_not : {A F : Type 0} (r : Result A F) → ((y : A) × (r ≡ Ok y)) ⊎ ((f : F) × (r ≡ Err f))
 ok_or_not (Ok y) = inl (y, refl)
@@ -352,7 +331,10 @@ check_found x y s h =
     ]
 
 limits_pass : (x : Selector) → IsChecked x → checked_of x ≡ Ok x
-limits_pass x c = rw (within_again (depth_of x) max_depth c.depth, within_again (nodes_of x) max_nodes c.nodes, c.sets, c.members, c.rates) refl
+limits_pass x c =
+    let depth = of_not_over (depth_of x) max_depth (le_of (depth_of x) max_depth c.depth) in
+    let nodes = of_not_over (nodes_of x) max_nodes (le_of (nodes_of x) max_nodes c.nodes) in
+    rw (depth, nodes, c.sets, c.members, c.rates) refl
 
 -- TERM within the limits
 pub checked_found : (s t : Left) (x : Selector) → checked_at s ≡ Ok (x, t) → term x s t × IsChecked x
