@@ -1,18 +1,18 @@
 -- The text that comes first in a line.
-use Rattle.std.proofs.Common.{◌≡◌, ℕ, suc, ◌==◌, ◌-◌, length, Bool, true, false, ◌&&◌, if◌then◌else◌, List, [], ◌∷◌, length, take, drop, refl, sym, ap, ◌∙◌, arith, inl, inr}
+use Rattle.std.proofs.Common.{◌≡◌, ℕ, suc, ◌==◌, ◌-◌, length, true, false, ◌&&◌, if◌then◌else◌, List, [], ◌∷◌, length, take, drop, refl, sym, ap, ◌∙◌, arith, inl, inr}
 use Rattle.std.proofs.lemmas.Bool.{cases_Bool}
 use Rattle.std.proofs.lemmas.Grind.{common_steps}
-use Rattle.lb_command.specs.Line.{is_sign, is_word_byte, begins_word, Seen, seen, in_front, words_of, first_in, tail_of, spaces_of, run_of, first_len}
+use Rattle.lb_command.specs.Line.{is_word_byte, begins_word, Seen, seen, in_front, words_of, first_in, tail_of, spaces_of, run_of, first_len}
 
 no_space : (b : ℕ) → is_word_byte b ≡ true → (b == 32) ≡ false
 no_space b h = grind (arith, common_steps)
 
-at_end : (total : ℕ) → words_of total [] ≡ []
+pub at_end : (total : ℕ) → words_of total [] ≡ []
 unfolding words_of
 at_end total = refl
 
 -- one byte more
-before : (total b : ℕ) (bs : List ℕ) → words_of total (b ∷ bs) ≡ (if b == 32 then words_of total bs else (if is_word_byte b && begins_word bs then in_front b (total - length (b ∷ bs)) (words_of total bs) else seen (b ∷ []) (total - length (b ∷ bs)) ∷ words_of total bs))
+pub before : (total b : ℕ) (bs : List ℕ) → words_of total (b ∷ bs) ≡ (if b == 32 then words_of total bs else (if is_word_byte b && begins_word bs then in_front b (total - length (b ∷ bs)) (words_of total bs) else seen (b ∷ []) (total - length (b ∷ bs)) ∷ words_of total bs))
 unfolding words_of
 before total b bs = refl
 

@@ -1,3 +1,4 @@
+pub mod Truths
 pub mod Texts
 pub mod Lexing
 pub mod Lists
@@ -5,3 +6,13 @@ pub mod Lookups
 pub mod TermSteps
 pub mod NonZeros
 pub mod OptionSteps
+pub mod Exact
+pub mod Keeping
+pub mod Sequences
+pub mod TermExact
+pub mod ActionExact
+pub mod OptionExact
+pub mod CommandExact
+pub mod EventExact
+pub mod SetupExact
+pub mod LineExact

@@ -1,5 +1,5 @@
 -- Lists that are read one after the other, as a loop does.
-use Rattle.std.proofs.Common.{◌≡◌, ℕ, zero, suc, ◌-◌, ◌+◌, ◌≤◌, ◌<◌, Bool, true, false, if◌then◌else◌, Result, Ok, Err, List, [], ◌∷◌, ◌++◌, refl, sym, ap, ◌∙◌, append_assoc, arith}
+use Rattle.std.proofs.Common.{◌≡◌, ℕ, zero, suc, ◌-◌, ◌+◌, ◌≤◌, ◌<◌, Bool, true, false, Result, Ok, Err, List, [], ◌∷◌, ◌++◌, refl, sym, ap, ◌∙◌, append_assoc, arith}
 use Rattle.lb_command.specs.Line.{Left}
 use Rattle.lb_command.specs.declared.fault.CommandFault.{CommandFault}
 use Rattle.lb_command.specs.declared.fault.Unread.{Unread}
@@ -14,12 +14,12 @@ regroup : {A S : Type 0} (front : List A) (x : A) (read : Result (List A × S) C
 regroup {A} {S} front x (Err e) = refl
 regroup {A} {S} front x (Ok more) = ap (λ (xs : List A). Ok (xs, more.1)) (simp append_assoc)
 
-one_more_listed : {A S : Type 0} (one : S → Result (A × S) CommandFault) (comma : S → Bool × S) (left_in : S → Left) (left : ℕ) (s t u : S) (x : A) → one s ≡ Ok (x, t) → comma t ≡ (true, u)
+pub one_more_listed : {A S : Type 0} (one : S → Result (A × S) CommandFault) (comma : S → Bool × S) (left_in : S → Left) (left : ℕ) (s t u : S) (x : A) → one s ≡ Ok (x, t) → comma t ≡ (true, u)
     → listed one comma left_in (suc left) s ≡ (listed one comma left_in left u >>= λ more. Ok (x ∷ more.0, more.1))
 unfolding listed
 one_more_listed one comma left_in left s t u x h k = rw (h, k) refl
 
-last_listed : {A S : Type 0} (one : S → Result (A × S) CommandFault) (comma : S → Bool × S) (left_in : S → Left) (left : ℕ) (s t u : S) (x : A) → one s ≡ Ok (x, t) → comma t ≡ (false, u)
+pub last_listed : {A S : Type 0} (one : S → Result (A × S) CommandFault) (comma : S → Bool × S) (left_in : S → Left) (left : ℕ) (s t u : S) (x : A) → one s ≡ Ok (x, t) → comma t ≡ (false, u)
     → listed one comma left_in (suc left) s ≡ Ok (x ∷ [], u)
 unfolding listed
 last_listed one comma left_in left s t u x h k = rw (h, k) refl

@@ -1,10 +1,10 @@
 -- Reading the options of a server, a step at a time.
-use Rattle.std.proofs.Common.{◌≡◌, ℕ, zero, suc, ◌-◌, ◌+◌, ◌<◌, ◌≤◌, Bool, false, Option, Some, None, Result, Ok, Err, List, [], refl, sym, ap, ◌∙◌, arith}
+use Rattle.std.proofs.Common.{◌≡◌, ℕ, suc, ◌-◌, ◌+◌, ◌<◌, ◌≤◌, false, Some, None, Result, Ok, Err, List, [], refl, sym, ap, ◌∙◌, arith}
 use Rattle.std.specs.declared.num.NonZeroU8.{NonZeroU8}
 use Rattle.lb_servers.specs.declared.pool.PoolName.{PoolName}
 use Rattle.lb_command.specs.Commands.{Stated, behind_option, nothing_stated, option_words, options_at}
 use Rattle.lb_command.specs.Line.{Left, behind_first, first_of}
-use Rattle.lb_command.specs.Reading.{◌>>=◌, Fails}
+use Rattle.lb_command.specs.Reading.{Fails}
 use Rattle.lb_command.specs.Values.{looked_up, one}
 use Rattle.lb_command.specs.declared.fault.CommandFault.{CommandFault}
 use Rattle.lb_command.specs.declared.fault.Unread.{Unread}
@@ -20,11 +20,11 @@ pub states_nothing : (pools : List PoolName) (fall rise : NonZeroU8) → pools �
 states_nothing pools fall rise none f r =
     ap (λ (ps : List PoolName). without ps fall rise) none ∙ ap (λ (n : NonZeroU8). without [] n rise) (same_number fall one f) ∙ ap (λ (n : NonZeroU8). without [] one n) (same_number rise one r)
 
-last : (fuel : ℕ) (stated : Stated) (left : Left) → looked_up option_words (first_of left).text ≡ None → options_at (suc fuel) stated left ≡ Ok (stated, left)
+pub last : (fuel : ℕ) (stated : Stated) (left : Left) → looked_up option_words (first_of left).text ≡ None → options_at (suc fuel) stated left ≡ Ok (stated, left)
 unfolding options_at
 last fuel stated left h = rw h refl
 
-another : (fuel : ℕ) (stated : Stated) (left : Left) (option : ServerOption) (x : Stated × Left) → looked_up option_words (first_of left).text ≡ Some option → behind_option option stated (behind_first left) ≡ Ok x
+pub another : (fuel : ℕ) (stated : Stated) (left : Left) (option : ServerOption) (x : Stated × Left) → looked_up option_words (first_of left).text ≡ Some option → behind_option option stated (behind_first left) ≡ Ok x
     → options_at (suc fuel) stated left ≡ options_at fuel x.0 x.1
 unfolding options_at
 another fuel stated left option x h k = rw (h, k) refl

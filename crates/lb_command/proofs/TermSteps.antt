@@ -1,5 +1,5 @@
 -- Reading a term, a step at a time.
-use Rattle.std.proofs.Common.{◌≡◌, ℕ, zero, suc, ◌-◌, Option, Some, None, Result, Ok, Err, refl, subst, arith}
+use Rattle.std.proofs.Common.{◌≡◌, ℕ, zero, suc, ◌-◌, Some, None, Result, Ok, Err, refl, subst, arith}
 use Rattle.lb_terms.specs.Selector.{Selector, selector_of}
 use Rattle.lb_terms.specs.declared.term.Term.{Term}
 use Rattle.lb_command.specs.Line.{Left, Seen, behind_first, first_of}

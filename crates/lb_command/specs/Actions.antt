@@ -1,5 +1,5 @@
 -- Reading actions.
-use Rattle.std.specs.Prelude.{if◌then◌else◌, ℕ, nat_le, ◌&&◌, Option, Some, None, Result, Ok, Err, List, [], ◌∷◌, length, codes}
+use Rattle.std.specs.Prelude.{if◌then◌else◌, ℕ, nat_le, ◌&&◌, Option, Result, Ok, List, [], ◌∷◌, length, codes}
 use Rattle.lb_core.specs.declared.command.StatedAction.{StatedAction}
 use Rattle.lb_core.specs.declared.command.StatedAction.TheVariants as actions
 use Rattle.lb_command.specs.Line.{Left}

@@ -1,9 +1,8 @@
 -- Reading commands. A part's name tells what stands there, behind the words that begin it.
-use Rattle.std.specs.Prelude.{if◌then◌else◌, ℕ, zero, suc, Bool, true, false, nat_lt, Option, Some, None, Result, Ok, Err, List, [], ◌∷◌, ◌++◌, length, codes}
+use Rattle.std.specs.Prelude.{if◌then◌else◌, ℕ, zero, suc, Bool, true, false, nat_lt, Option, Some, None, Result, Ok, List, [], ◌∷◌, ◌++◌, length, codes}
 use Rattle.std.specs.declared.num.NonZeroU8.{NonZeroU8}
 use Rattle.lb_wire.specs.declared.addr.Addr.{Addr}
 use Rattle.lb_wire.specs.declared.ids.RuleId.{RuleId}
-use Rattle.lb_wire.specs.declared.record_type.RecordType.{RecordType}
 use Rattle.lb_servers.specs.declared.pool.PoolName.{PoolName}
 use Rattle.lb_servers.specs.declared.spec.ServerSpec.{ServerSpec}
 use Rattle.lb_cache.specs.declared.cached.Covered.{Covered}
@@ -12,7 +11,7 @@ use Rattle.lb_core.specs.declared.check.CheckSpec.{CheckSpec}
 use Rattle.lb_core.specs.declared.command.Command.{Command}
 use Rattle.lb_core.specs.declared.command.Command.TheVariants.{RuleAdd, RuleRemove, RuleMove, ServerAdd, ServerRemove, ServerMode, PoolAdd, PoolPolicy, CacheAttach, CacheDetach, Expunge, SetTimeout, Show}
 use Rattle.lb_command.specs.Line.{Left, first_of, behind_first, whole}
-use Rattle.lb_command.specs.Reading.{◌>>=◌, due, ended, named, optional, taken, too_many, within}
+use Rattle.lb_command.specs.Reading.{◌>>=◌, due, ended, optional, taken, too_many, within}
 use Rattle.lb_command.specs.Values.{addr_of, count_of, ident_of, in_range, looked_up, mode_of, name_of, number_of, one, policy_of, pool_of, word_number}
 use Rattle.lb_command.specs.Terms.{checked_at, type_at}
 use Rattle.lb_command.specs.Actions.{action_at}

@@ -1,4 +1,4 @@
--- shared by several files: Line, Reading
+-- shared by several files: Grammar, Line, Reading
 pub mod Fault
 pub mod Line
 pub mod Reading
@@ -9,3 +9,4 @@ pub mod Commands
 pub mod Events
 pub mod Setup
 pub mod Answers
+pub mod Grammar

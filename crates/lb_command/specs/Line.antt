@@ -1,5 +1,5 @@
 -- The words and signs of a line.
-use Rattle.std.specs.Prelude.{if◌then◌else◌, ℕ, suc, ◌-◌, length, ◌==◌, nat_le, Bool, true, false, not, ◌&&◌, ◌||◌, List, [], ◌∷◌}
+use Rattle.std.specs.Prelude.{if◌then◌else◌, ℕ, suc, ◌-◌, length, ◌==◌, nat_le, Bool, false, not, ◌&&◌, ◌||◌, List, [], ◌∷◌}
 
 -- `(`, `)` and `,`
 abbrev pub is_sign : ℕ → Bool

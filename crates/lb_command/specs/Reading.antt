@@ -1,6 +1,6 @@
 -- Reading from left to right, to the first fault that is met.
 use Rattle.std.specs.Prelude.{if◌then◌else◌, ◌≡◌, ◌⊎◌, ℕ, zero, suc, Bool, true, false, ◌||◌, nat_lt, Option, Some, None, Result, Ok, Err, List, [], ◌∷◌, length, bytes_eq}
-use Rattle.lb_command.specs.Line.{Seen, Left, begins_word, first_of, behind_first, is_sign, is_word_byte, whole}
+use Rattle.lb_command.specs.Line.{Seen, Left, begins_word, first_of, behind_first, is_sign, is_word_byte}
 use Rattle.lb_command.specs.declared.fault.CommandFault.{CommandFault}
 use Rattle.lb_command.specs.declared.fault.FaultKind.{FaultKind}
 use Rattle.lb_command.specs.declared.fault.FaultKind.TheVariants as kinds
@@ -31,6 +31,11 @@ Gives (Err e) read = Fails e read
 abbrev pub Answers : {X : Type 0} → Result X CommandFault → Result X CommandFault → Type 0
 Answers (Ok x) read = read ≡ Ok x
 Answers (Err f) read = (f.kind ≡ kinds.NoMemory) ⊎ (read ≡ Err f)
+
+-- a line that is this is read so, unless memory is wanting
+abbrev pub ReadsAs : {X : Type 0} → Result X CommandFault → X → Type 0
+ReadsAs (Ok x) y = x ≡ y
+ReadsAs (Err f) y = f.kind ≡ kinds.NoMemory
 
 -- what is wrong where something is due: it is missing at the end, unknown at a sign or a stray byte, and else of this kind
 abbrev pub kind_at : FaultKind → List ℕ → FaultKind

@@ -1,15 +1,14 @@
 -- Reading lines of a setup file.
-use Rattle.std.specs.Prelude.{if◌then◌else◌, ℕ, Option, Some, None, Result, Ok, Err, List, [], ◌∷◌, codes}
+use Rattle.std.specs.Prelude.{if◌then◌else◌, ℕ, Result, Ok, List, codes}
 use Rattle.lb_masks.specs.Number.{number_up_to}
 use Rattle.lb_command.specs.Line.{Left, whole}
 use Rattle.lb_command.specs.Reading.{◌>>=◌, due, ended, taken, within}
-use Rattle.lb_command.specs.Values.{addr_of, in_range, looked_up, protocol_of}
+use Rattle.lb_command.specs.Values.{addr_of, in_range, protocol_of}
 use Rattle.lb_command.specs.Commands.{command_at}
 use Rattle.lb_command.specs.declared.fault.CommandFault.{CommandFault}
 use Rattle.lb_command.specs.declared.fault.FaultKind.TheVariants as kinds
 use Rattle.lb_command.specs.declared.setup.SetupLine.{SetupLine}
 use Rattle.lb_command.specs.declared.setup.SetupLine.TheVariants.{Listen, Log, Edit}
-use Rattle.lb_command.specs.declared.setup.Listener.{Listener}
 
 -- udp|tcp|doh|console ADDR PORT
 unfoldable pub listen_at : Left → Result (SetupLine × Left) CommandFault

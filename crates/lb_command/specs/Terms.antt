@@ -1,6 +1,5 @@
 -- Reading terms.
-use Rattle.std.specs.Prelude.{if◌then◌else◌, ℕ, zero, suc, Bool, Option, Some, None, Result, Ok, Err, List, [], ◌∷◌, codes}
-use Rattle.std.specs.Result.{result_ok}
+use Rattle.std.specs.Prelude.{if◌then◌else◌, ℕ, zero, suc, Bool, Option, Result, Ok, Err, List, [], ◌∷◌, codes}
 use Rattle.lb_masks.specs.Number.{number_up_to}
 use Rattle.lb_terms.specs.Selector.{Selector, members_of}
 use Rattle.lb_terms.specs.Selector as sel

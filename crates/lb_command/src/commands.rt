@@ -2,7 +2,9 @@
 
 ghost use Rattle.std.specs.Prelude.{◌≡◌, ◌≤◌, IfOk};
 ghost use Rattle.lb_command.specs.Commands.{behind_cache_verb, behind_extent, behind_pool_verb, behind_rule_verb, behind_server_verb, behind_verb, by_name_at, by_suffix_at, cache_at, cache_attach_at, cache_detach_at, cache_verb_words, command_at, command_of, command_whole, expunge_at, extent_words, place_at, pool_add_at, pool_at, pool_policy_at, pool_verb_words, rule_add_at, rule_at, rule_move_at, rule_remove_at, rule_verb_words, server_add_at, server_at, server_mode_at, server_remove_at, server_verb_words, timeout_at, verb_words};
-ghost use Rattle.lb_command.specs.Reading.{Answers, Gives, Reads};
+ghost use Rattle.lb_command.specs.Reading.{Answers, Gives, Reads, ReadsAs};
+ghost use Rattle.lb_command.specs.Grammar.{IsCommand};
+ghost use Rattle.lb_core.specs.declared.command.Command.{Command};
 ghost use Rattle.lb_command.specs.Values.{looked_up};
 
 use crate::actions::action;
@@ -428,7 +430,11 @@ fn whole_command(alloc: Global, words: &mut Words<'_>) -> Result<Command, Unread
 
 /// Reads a line as a command: the command, or the first fault with its place. The line is of at most 300,000 bytes.
 pub fn read_command(alloc: Global, line: &str) -> Result<Command, CommandFault>
-    ensures { Answers result (command_of line.now) }
+    ensures read { Answers result (command_of line.now) }
+    // what is read is in the grammar
+    ensures found { IfOk result (λ command. IsCommand line.now command) }
+    // what is in the grammar is read
+    ensures only { (command : Command) → IsCommand line.now command → ReadsAs result command }
 {
     let line = line.as_bytes();
     if line.len() > MAX_LINE {

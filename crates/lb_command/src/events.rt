@@ -2,7 +2,9 @@
 
 ghost use Rattle.std.specs.Prelude.{◌≡◌, ◌≤◌, IfOk};
 ghost use Rattle.lb_command.specs.Events.{behind_event_word, edit_at, event_at, event_of, event_table, event_whole, health_at, query_at, reply_at, tick_at};
-ghost use Rattle.lb_command.specs.Reading.{Answers, Gives, Reads};
+ghost use Rattle.lb_command.specs.Reading.{Answers, Gives, Reads, ReadsAs};
+ghost use Rattle.lb_command.specs.Grammar.{IsEvent};
+ghost use Rattle.lb_core.specs.declared.event.Event.{Event};
 ghost use Rattle.lb_command.specs.Values.{looked_up};
 
 use crate::commands::command;
@@ -147,7 +149,11 @@ fn whole_event(alloc: Global, words: &mut Words<'_>) -> Result<Event, Unread>
 
 /// Reads a line as an event: the event, or the first fault with its place. The line is of at most 300,000 bytes.
 pub fn read_event_line(alloc: Global, line: &str) -> Result<Event, CommandFault>
-    ensures { Answers result (event_of line.now) }
+    ensures read { Answers result (event_of line.now) }
+    // what is read is in the grammar
+    ensures found { IfOk result (λ event. IsEvent line.now event) }
+    // what is in the grammar is read
+    ensures only { (event : Event) → IsEvent line.now event → ReadsAs result event }
 {
     let line = line.as_bytes();
     if line.len() > MAX_LINE {

@@ -1,7 +1,9 @@
 //! Reading lines of a setup file.
 
 ghost use Rattle.std.specs.Prelude.{◌≡◌, ◌≤◌, IfOk};
-ghost use Rattle.lb_command.specs.Reading.{Answers, Gives, Reads};
+ghost use Rattle.lb_command.specs.Reading.{Answers, Gives, Reads, ReadsAs};
+ghost use Rattle.lb_command.specs.Grammar.{IsSetup};
+ghost use Rattle.lb_command.specs.declared.setup.SetupLine.{SetupLine};
 ghost use Rattle.lb_command.specs.Setup.{edit_line_at, listen_at, log_at, setup_at, setup_of, setup_whole};
 
 use crate::commands::command;
@@ -103,7 +105,11 @@ fn whole_setup(alloc: Global, words: &mut Words<'_>) -> Result<SetupLine, Unread
 
 /// Reads a line of a setup file: what it states, or the first fault with its place. The line is of at most 300,000 bytes.
 pub fn read_setup_line(alloc: Global, line: &str) -> Result<SetupLine, CommandFault>
-    ensures { Answers result (setup_of line.now) }
+    ensures read { Answers result (setup_of line.now) }
+    // what is read is in the grammar
+    ensures found { IfOk result (λ setup. IsSetup line.now setup) }
+    // what is in the grammar is read
+    ensures only { (setup : SetupLine) → IsSetup line.now setup → ReadsAs result setup }
 {
     let line = line.as_bytes();
     if line.len() > MAX_LINE {

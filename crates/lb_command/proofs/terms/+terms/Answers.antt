@@ -1,10 +1,8 @@
 use Rattle.std.proofs.Common.{◌≡◌, Bool, true, false, sym, ap, ◌∙◌, ◌++◌, ◌-◌, [], ◌∷◌, map}
 use Rattle.std.proofs.lemmas.Result.{err_from_is_err_and}
 use Rattle.std.proofs.lemmas.List.{map_push}
-use Rattle.std.specs.Prelude.{codes}
 use Rattle.lb_terms.specs.Selector.{selector_of}
 use Rattle.lb_command.specs.Line.{Seen, first_of, seen}
-use Rattle.lb_command.specs.Reading.{taken}
 use Rattle.lb_command.specs.Terms.{comma, left_in, term_at}
 use Rattle.lb_command.proofs.Lists.{ends, fails, goes_on, is_too_many}
 use Rattle.lb_command.proofs.TermSteps.{behind_form, no_form, one_too_many, reads_alone, starts, starts_none, too_deep}
