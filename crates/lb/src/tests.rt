@@ -1,6 +1,6 @@
 //! Replays over readers and writers in memory.
 
-use crate::replay;
+use crate::{check, replay};
 use crate::rows::{REFUSED_BY_TYPE, ROWS};
 use std::alloc::AllocError;
 use std::io;
@@ -467,4 +467,38 @@ fn wanting_memory_is_told(rt: HostRuntime) {
         "status {ended} with {written} and {told} bytes"
     );
     let _ = rt.println(format_args!("status {ended}, {written} bytes written, {told} told"));
+}
+
+/// Setup files, with the status, the output and the faults of their check.
+const CHECKS: [(&str, u8, &str, &str); 7] = [
+    ("rule add all drop\nserver add s1 127.0.0.1 5301\n", 0, "edited rules 1 servers 1 pools 1 caches 0 outstanding 0 kept 0\n", ""),
+    ("listen udp 127.0.0.1 5300\nlisten udp 127.0.0.1 5300\nlisten udp 127.0.0.1 5300\nlisten udp 127.0.0.1 5300\nlisten udp 127.0.0.1 5300\nlisten udp 127.0.0.1 5300\nlisten udp 127.0.0.1 5300\nlisten udp 127.0.0.1 5300\nlog 5\nlog 6\n", 0, "edited rules 0 servers 0 pools 1 caches 0 outstanding 0 kept 0\n", ""),
+    ("show x\n", 1, "", "line 1: at 5: 3 Extra\n"),
+    ("\n# x\nshow\nrule add all drop\nrule remove 2", 1, "", "line 5: refused rules 1 NoSuchRule\n"),
+    ("listen udp 127.0.0.1 5300\nlisten udp 127.0.0.1 5300\nlisten udp 127.0.0.1 5300\nlisten udp 127.0.0.1 5300\nlisten udp 127.0.0.1 5300\nlisten udp 127.0.0.1 5300\nlisten udp 127.0.0.1 5300\nlisten udp 127.0.0.1 5300\nlisten udp 127.0.0.1 5300\n", 1, "", "line 9: at 0: 3 Extra\n"),
+    ("rule remove 9\n", 1, "", "line 1: refused rules 1 NoSuchRule\n"),
+    (
+        "show\r\nrule add all drop\r\nlog 7\r\n  listen doh ::1 443\r",
+        1,
+        "",
+        "line 4: at 20: 1 UnknownWord\n",
+    ),
+];
+
+#[test]
+fn setup_files_are_checked(rt: HostRuntime) {
+    for (text, status, output, faults) in &CHECKS {
+        let mut written: Vec<u8> = Vec::new(rt.alloc());
+        let mut told: Vec<u8> = Vec::new(rt.alloc());
+        let ended = check(&rt, text, &mut written, &mut told);
+        assert!(rt;
+            written.as_slice() == output.as_bytes(),
+            "the output of {text}"
+        );
+        assert!(rt;
+            told.as_slice() == faults.as_bytes(),
+            "the faults of {text}"
+        );
+        assert_eq!(rt; ended, *status, "the status of {text}");
+    }
 }
