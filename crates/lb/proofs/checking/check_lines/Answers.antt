@@ -11,5 +11,5 @@ returns-clause-passed g c = record {
   answer = c.show-shown.result;
   last = c.show-shown.new.balancer;
   shown = c.show-shown.ensures;
-  written = subst (λ (bytes : List ℕ). Appends (g.W.Write.contents c.args.output.now) (g.W.Write.contents c.print.new.output) bytes) (c.as_str.ensures ∙ c.in_ok-line.ensures) c.in_ok-print.ensures;
+  written = subst (λ (bytes : List ℕ). Appends (g.W.Write.contents c.args.output.now) (g.W.Write.contents c.print.new.output) bytes) (c.as_str.ensures.value ∙ c.in_ok-line.ensures) c.in_ok-print.ensures;
 }
