@@ -1,7 +1,7 @@
 //! Replays over readers and writers in memory.
 
-use crate::{check, replay};
 use crate::rows::{REFUSED_BY_TYPE, ROWS};
+use crate::{check, replay};
 use std::alloc::AllocError;
 use std::io;
 use std::io::{Cursor, ErrorKind, Read, Write};
@@ -471,12 +471,37 @@ fn wanting_memory_is_told(rt: HostRuntime) {
 
 /// Setup files, with the status, the output and the faults of their check.
 const CHECKS: [(&str, u8, &str, &str); 7] = [
-    ("rule add all drop\nserver add s1 127.0.0.1 5301\n", 0, "edited rules 1 servers 1 pools 1 caches 0 outstanding 0 kept 0\n", ""),
-    ("listen udp 127.0.0.1 5300\nlisten udp 127.0.0.1 5300\nlisten udp 127.0.0.1 5300\nlisten udp 127.0.0.1 5300\nlisten udp 127.0.0.1 5300\nlisten udp 127.0.0.1 5300\nlisten udp 127.0.0.1 5300\nlisten udp 127.0.0.1 5300\nlog 5\nlog 6\n", 0, "edited rules 0 servers 0 pools 1 caches 0 outstanding 0 kept 0\n", ""),
+    (
+        "rule add all drop\nserver add s1 127.0.0.1 5301\n",
+        0,
+        "edited rules 1 servers 1 pools 1 caches 0 outstanding 0 kept 0\n",
+        "",
+    ),
+    (
+        "listen udp 127.0.0.1 5300\nlisten udp 127.0.0.1 5300\nlisten udp 127.0.0.1 5300\nlisten udp 127.0.0.1 5300\nlisten udp 127.0.0.1 5300\nlisten udp 127.0.0.1 5300\nlisten udp 127.0.0.1 5300\nlisten udp 127.0.0.1 5300\nlog 5\nlog 6\n",
+        0,
+        "edited rules 0 servers 0 pools 1 caches 0 outstanding 0 kept 0\n",
+        "",
+    ),
     ("show x\n", 1, "", "line 1: at 5: 3 Extra\n"),
-    ("\n# x\nshow\nrule add all drop\nrule remove 2", 1, "", "line 5: refused rules 1 NoSuchRule\n"),
-    ("listen udp 127.0.0.1 5300\nlisten udp 127.0.0.1 5300\nlisten udp 127.0.0.1 5300\nlisten udp 127.0.0.1 5300\nlisten udp 127.0.0.1 5300\nlisten udp 127.0.0.1 5300\nlisten udp 127.0.0.1 5300\nlisten udp 127.0.0.1 5300\nlisten udp 127.0.0.1 5300\n", 1, "", "line 9: at 0: 3 Extra\n"),
-    ("rule remove 9\n", 1, "", "line 1: refused rules 1 NoSuchRule\n"),
+    (
+        "\n# x\nshow\nrule add all drop\r\nrule remove 2",
+        1,
+        "",
+        "line 5: refused rules 1 NoSuchRule\n",
+    ),
+    (
+        "listen udp 127.0.0.1 5300\nlisten udp 127.0.0.1 5300\nlisten udp 127.0.0.1 5300\nlisten udp 127.0.0.1 5300\nlisten udp 127.0.0.1 5300\nlisten udp 127.0.0.1 5300\nlisten udp 127.0.0.1 5300\nlisten udp 127.0.0.1 5300\nlisten udp 127.0.0.1 5300\n",
+        1,
+        "",
+        "line 9: at 0: 3 Extra\n",
+    ),
+    (
+        "rule remove 9\n",
+        1,
+        "",
+        "line 1: refused rules 1 NoSuchRule\n",
+    ),
     (
         "show\r\nrule add all drop\r\nlog 7\r\n  listen doh ::1 443\r",
         1,

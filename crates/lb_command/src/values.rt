@@ -7,11 +7,11 @@ ghost use Rattle.lb_command.specs.Values.{addr_of, begins_digit, count_of, hex_o
 
 use crate::fault::FaultKind;
 use crate::setup::Protocol;
-use crate::words::{is_word_byte, number_up_to};
+use crate::words::is_word_byte;
 use hex::FromHexError;
 use lb_cache::{MaxEntries, MaxTtl, Shards};
 use lb_core::Timeout;
-use lb_masks::{Mask, parse_addr};
+use lb_masks::{Mask, decimal_up_to, parse_addr};
 use lb_name::Name;
 use lb_servers::{Ident, Mode, Policy, PoolName};
 use lb_wire::{Addr, Kind, Octets, RecordType};
@@ -161,7 +161,7 @@ pub(crate) fn type_of(text: &[u8]) -> Option<RecordType>
     if let Some(rtype) = RecordType::from_name(text) {
         return Some(rtype);
     }
-    let number = number_up_to(text, 65_535)?;
+    let number = decimal_up_to(text, 65_535)?;
     Some(RecordType(number as u16))
 }
 
@@ -180,7 +180,7 @@ pub(crate) fn in_range(text: &[u8], low: u32, high: u32) -> Option<u32>
     ensures value { result ≡ in_range low high text.now }
     ensures within { IfSome result (λ number. number ≤ high) }
 {
-    let number = number_up_to(text, MAX_NUMBER)? as u32;
+    let number = decimal_up_to(text, MAX_NUMBER)? as u32;
     if low <= number && number <= high {
         Some(number)
     } else {
@@ -192,35 +192,35 @@ pub(crate) fn in_range(text: &[u8], low: u32, high: u32) -> Option<u32>
 pub(crate) fn count_of(text: &[u8]) -> Option<NonZeroU8>
     ensures { result ≡ count_of text.now }
 {
-    NonZeroU8::new(number_up_to(text, 255)? as u8)
+    NonZeroU8::new(decimal_up_to(text, 255)? as u8)
 }
 
 /// How many replies a cache keeps at most, as a word says it.
 pub(crate) fn entries_of(text: &[u8]) -> Option<MaxEntries>
     ensures { result ≡ in_range 1 1000000 text.now }
 {
-    MaxEntries::new(number_up_to(text, MAX_NUMBER)? as u32)
+    MaxEntries::new(decimal_up_to(text, MAX_NUMBER)? as u32)
 }
 
 /// Over how many shards a cache spreads its replies, as a word says it.
 pub(crate) fn shards_of(text: &[u8]) -> Option<Shards>
     ensures { result ≡ in_range 1 64 text.now }
 {
-    Shards::new(number_up_to(text, MAX_NUMBER)? as u32)
+    Shards::new(decimal_up_to(text, MAX_NUMBER)? as u32)
 }
 
 /// The longest life of a reply in a cache, as a word says it, in seconds.
 pub(crate) fn max_ttl_of(text: &[u8]) -> Option<MaxTtl>
     ensures { result ≡ in_range 1 604800 text.now }
 {
-    MaxTtl::new(number_up_to(text, MAX_NUMBER)? as u32)
+    MaxTtl::new(decimal_up_to(text, MAX_NUMBER)? as u32)
 }
 
 /// How long a query waits for its reply, as a word says it, in milliseconds.
 pub(crate) fn timeout_of(text: &[u8]) -> Option<Timeout>
     ensures { result ≡ in_range 1 60000 text.now }
 {
-    Timeout::from_millis(number_up_to(text, MAX_NUMBER)? as u32)
+    Timeout::from_millis(decimal_up_to(text, MAX_NUMBER)? as u32)
 }
 
 /// The octets that hexadecimal digits of either case spell, or `-` for none. The one error is want of memory.

@@ -1,6 +1,6 @@
 //! The words and signs of a line, taken from the left.
 
-ghost use Rattle.std.specs.Prelude.{◌≡◌, ◌≤◌, IfOk, IfSome, length};
+ghost use Rattle.std.specs.Prelude.{◌≡◌, ◌≤◌, IfOk, length};
 ghost use Rattle.lb_masks.specs.Number.{number_up_to};
 ghost use Rattle.lb_command.specs.declared.fault.FaultKind.TheVariants.{BadNumber, BadTerm, NoMemory, UnknownWord};
 ghost use Rattle.lb_command.specs.declared.fault.Unread.TheVariants.{Fault};
@@ -8,6 +8,7 @@ ghost use Rattle.lb_command.specs.Line.{behind_first, begins_word, first_in, fir
 ghost use Rattle.lb_command.specs.Reading.{Gives, Reads, due, ended, extra_at, fault_at, named, taken};
 
 use crate::fault::{CommandFault, FaultKind, Unread};
+use lb_masks::decimal_up_to;
 use std::marker::Model;
 
 /// Whether a byte is a sign.
@@ -229,7 +230,7 @@ impl<'a> Words<'a> {
         ensures fits { IfOk result (λ n. n ≤ most) }
     {
         let token = self.next();
-        match number_up_to(token.text, most) {
+        match decimal_up_to(token.text, most) {
             Some(number) => Ok(number),
             None => Err(token.fault(FaultKind::BadNumber)),
         }
@@ -245,24 +246,4 @@ impl<'a> Words<'a> {
         }
         Ok(())
     }
-}
-
-/// The number that decimal digits spell, where it is at most this.
-pub(crate) fn number_up_to(text: &[u8], most: u64) -> Option<u64>
-    ensures value { result ≡ number_up_to 10 most text.now }
-    ensures within { IfSome result (λ number. number ≤ most) }
-{
-    if text.is_empty() {
-        return None;
-    }
-    let mut number = 0u64;
-    'digits: for byte in text {
-        let digit = char::from(*byte).to_digit(10)?;
-        let next = u128::from(number) * 10 + u128::from(digit);
-        if next > u128::from(most) {
-            return None;
-        }
-        number = next as u64;
-    }
-    Some(number)
 }

@@ -14,3 +14,4 @@ pub use address::parse_addr;
 pub use fault::MaskFault;
 pub use group::Group;
 pub use mask::{Mask, masked};
+pub use number::decimal_up_to;

@@ -121,8 +121,8 @@ impl Mask {
             let length = width(&addr);
             return Ok(Mask::under(addr, length));
         };
-        match decimal_up_to(digits, width(&addr)) {
-            Some(length) => Ok(Mask::under(addr, length)),
+        match decimal_up_to(digits, u64::from(width(&addr))) {
+            Some(length) => Ok(Mask::under(addr, length as u8)),
             None => Err(MaskFault::BadLength),
         }
     }

@@ -13,36 +13,34 @@ const HEXADECIMAL: u32 = 16;
 const GROUP_DIGITS: usize = 4;
 
 /// The number that digits spell, where it is not over the most. None of no digit, and of any other byte.
-fn number_up_to(text: &[u8], radix: u32, most: u32) -> Option<u32>
+fn number_up_to(text: &[u8], radix: u32, most: u64) -> Option<u64>
     requires low { 2 ≤ radix }
     requires high { radix ≤ 36 }
-    requires most { most ≤ 65535 }
     ensures value { result ≡ number_up_to radix most text.now }
     ensures within { IfSome result (λ number. number ≤ most) }
 {
     if text.is_empty() {
         return None;
     }
-    let mut number = 0;
+    let mut number = 0u64;
     'digits: for byte in text {
         let digit = char::from(*byte).to_digit(radix)?;
-        number = number * radix + digit;
-        if number > most {
+        let next = u128::from(number) * u128::from(radix) + u128::from(digit);
+        if next > u128::from(most) {
             return None;
         }
+        number = next as u64;
     }
     Some(number)
 }
 
-/// The number that decimal digits spell, leading zeros and all, where it is not over the most.
-pub(crate) fn decimal_up_to(text: &[u8], most: u8) -> Option<u8>
+/// The number that decimal digits spell, leading zeros and all, where it is not over the most. None of no digit, and of any
+/// other byte.
+pub fn decimal_up_to(text: &[u8], most: u64) -> Option<u64>
     ensures value { result ≡ number_up_to 10 most text.now }
     ensures within { IfSome result (λ number. number ≤ most) }
 {
-    match number_up_to(text, DECIMAL, u32::from(most)) {
-        Some(number) => Some(number as u8),
-        None => None,
-    }
+    number_up_to(text, DECIMAL, most)
 }
 
 /// Whether a zero stands before another digit.
@@ -59,7 +57,8 @@ pub(crate) fn decimal_octet(text: &[u8]) -> Option<u8>
     if has_leading_zero(text) {
         return None;
     }
-    decimal_up_to(text, u8::MAX)
+    let octet = decimal_up_to(text, u64::from(u8::MAX))?;
+    Some(octet as u8)
 }
 
 /// The number that one to four hexadecimal digits spell.
@@ -69,7 +68,7 @@ pub(crate) fn group(text: &[u8]) -> Option<u16>
     if text.len() > GROUP_DIGITS {
         return None;
     }
-    match number_up_to(text, HEXADECIMAL, u32::from(u16::MAX)) {
+    match number_up_to(text, HEXADECIMAL, u64::from(u16::MAX)) {
         Some(number) => Some(number as u16),
         None => None,
     }
