@@ -24,8 +24,8 @@ use Rattle.lb_core.specs.declared.check.CheckSpec.{CheckSpec}
 use Rattle.lb_core.specs.declared.command.Command.{Command}
 use Rattle.lb_core.specs.declared.command.Command.TheVariants.{RuleAdd, RuleRemove, RuleMove, ServerAdd, ServerRemove, ServerMode, PoolAdd, PoolPolicy, CacheAttach, CacheDetach, Expunge, SetTimeout, Show}
 use Rattle.lb_core.specs.declared.command.StatedRule.{StatedRule}
-use Rattle.lb_command.specs.Line.{Left, begins_word, first_of, is_word_byte}
-use Rattle.lb_command.specs.Reading.{◌>>=◌, due, optional, taken}
+use Rattle.lb_command.specs.Line.{Left, behind_first, first_of}
+use Rattle.lb_command.specs.Reading.{◌>>=◌, due, optional, or_left_out, taken}
 use Rattle.lb_command.specs.Values.{addr_of, ident_of, in_range, looked_up, mode_of, name_of, number_of, or_else, policy_of, pool_of, record_type, type_of, word_number}
 use Rattle.lb_command.specs.Terms.{checked_at, type_at}
 use Rattle.lb_command.specs.Actions.{action_at}
@@ -214,24 +214,19 @@ cache_found line inner t y w h =
     cache_case a.0 line inner a.1 t y w a.2 a.3
 
 -- [TYPE]
-optional_found : Finds (optional type_at) optional_type
-optional_found s t q h =
-    elim (cases_Bool (begins_word (first_of s).text)) [
-      | inl e ↦
-          let given : (type_at s >>= λ x. Ok (Some x.0, x.1)) ≡ Ok (q, t) = rw e at h in
-          let a = step type_at (says type_of) s _ (q, t) type_found given in
-          carried (λ (z : Option RecordType) (u : Left). optional_type z s u) (Some a.0) q a.1 t a.3 a.2
-      | inr e ↦
-          let not_given : ◌≡◌ {A = Result (Option RecordType × Left) CommandFault} (Ok (None, s)) (Ok (q, t)) = rw e at h in
-          carried (λ (z : Option RecordType) (u : Left). optional_type z s u) None q s t not_given refl
-    ]
+left_out_found : (s t : Left) (q read : Option RecordType) → type_of (first_of s).text ≡ read → or_left_out read s ≡ Ok (q, t) → optional_type q s t
+left_out_found s t q None e h = carried (λ (z : Option RecordType) (u : Left). optional_type z s u) None q s t h refl
+left_out_found s t q (Some x) e h = carried (λ (z : Option RecordType) (u : Left). optional_type z s u) (Some x) q (behind_first s) t h (type_found s (behind_first s) x (rw e refl))
+
+optional_found : Finds (optional type_of) optional_type
+optional_found s t q h = left_out_found s t q (type_of (first_of s).text) refl h
 
 -- name NAME [TYPE]
 by_name_found : (line s t : Left) (x : Covered) → word (codes "name") line s → by_name_at s ≡ Ok (x, t) → covered x line t
 unfolding by_name_at
 by_name_found line s t x w h =
     let a = says_step kinds.BadName name_of s _ (x, t) refl h in
-    let b = step (optional type_at) optional_type a.1 _ (x, t) optional_found a.3 in
+    let b = step (optional type_of) optional_type a.1 _ (x, t) optional_found a.3 in
     carried (λ (z : Covered) (u : Left). covered z line u) (covereds.Name a.0 b.0) x b.1 t b.3 (s, w, (a.1, a.2, b.2))
 
 -- suffix NAME
@@ -374,50 +369,10 @@ behind_cache : (s t : Left) (v : CacheVerb) → looked_up cache_verb_words (cach
 unfolding cache_at
 behind_cache s t v known h = rw (table_again kinds.UnknownWord cache_verb_words (cache_text v) s t v known h) refl
 
--- a digit begins a word
-digit_begins : (b : ℕ) → is_digit b 10 ≡ true → is_word_byte b ≡ true
-digit_begins b h = grind (arith, common_steps)
-
-passed : {A : Type 0} (c : Bool) (x y : A) → (if c then Some x else None) ≡ Some y → c ≡ true
-passed true x y h = refl
-passed false x y h = absurd (cc)
-
-number_begins : (text : List ℕ) (n : ℕ) → word_number text ≡ Some n → begins_word text ≡ true
-number_begins [] n h = absurd (cc)
-number_begins (b ∷ bs) n h =
-    let whole = passed (is_numeral 10 (b ∷ bs) && nat_le (digits_value 10 (b ∷ bs)) 65535) (digits_value 10 (b ∷ bs)) n h in
-    let numeral = (both (is_numeral 10 (b ∷ bs)) (nat_le (digits_value 10 (b ∷ bs)) 65535) whole).0 in
-    let digits = (both (nat_lt 0 (length (b ∷ bs))) (list_all (λ b. is_digit b 10) (b ∷ bs)) numeral).1 in
-    digit_begins b (both (is_digit b 10) (list_all (λ b. is_digit b 10) bs) digits).0
-
--- the words of a table that begin as words do
-abbrev AllBegin : {A : Type 0} → List (A × List ℕ) → Type 0
-AllBegin [] = Unit {0}
-AllBegin (entry ∷ entries) = (begins_word entry.1 ≡ true) × AllBegin entries
-
-entry_begins : {A : Type 0} (entries : List (A × List ℕ)) (text : List ℕ) (x : A) → AllBegin entries → looked_up entries text ≡ Some x → begins_word text ≡ true
-entry_begins [] text x all h = absurd (cc)
-entry_begins {A} (entry ∷ entries) text x all h =
-    elim (cases_Bool (bytes_eq entry.1 text)) [
-      | inl e ↦ rw (← (bytes_eq-Decides entry.1 text).0 e) all.0
-      | inr e ↦ entry_begins entries text x all.1 (sym (rw e refl) ∙ h)
-    ]
-
-either_begins : (text : List ℕ) (q : RecordType) (named : Option RecordType) (number : Option ℕ) → looked_up type_names text ≡ named → word_number text ≡ number → or_else named (option_map record_type number) ≡ Some q → begins_word text ≡ true
-either_begins text q (Some x) number h k e = entry_begins type_names text x (refl, (refl, (refl, (refl, (refl, (refl, (refl, (refl, (refl, (refl, tt)))))))))) h
-either_begins text q None (Some n) h k e = number_begins text n k
-either_begins text q None None h k e = absurd (cc)
-
--- a type begins as a word does
-type_begins : (text : List ℕ) (q : RecordType) → type_of text ≡ Some q → begins_word text ≡ true
-type_begins text q h = either_begins text q (looked_up type_names text) (word_number text) refl refl h
-
 -- a type is read where one stands, and none where the line ends
-optional_again : (s t : Left) (q : Option RecordType) → t.words ≡ [] → optional_type q s t → optional type_at s ≡ Ok (q, t)
+optional_again : (s t : Left) (q : Option RecordType) → t.words ≡ [] → optional_type q s t → optional type_of s ≡ Ok (q, t)
 optional_again s t None none h = rw (h, none) refl
-optional_again s t (Some q) none h =
-    let begins : begins_word (first_of s).text ≡ true = rw h.2 (type_begins h.0.text q h.1) in
-    rw (begins, type_again s t q h) refl
+optional_again s t (Some q) none h = rw (h.2, h.1) refl
 
 by_name_again : (s t : Left) (name : List (List ℕ)) (q : Option RecordType) → t.words ≡ [] → (says name_of name ▷ optional_type q) s t → by_name_at s ≡ Ok (covereds.Name name q, t)
 unfolding by_name_at

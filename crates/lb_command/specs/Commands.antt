@@ -12,8 +12,8 @@ use Rattle.lb_core.specs.declared.command.Command.{Command}
 use Rattle.lb_core.specs.declared.command.Command.TheVariants.{RuleAdd, RuleRemove, RuleMove, ServerAdd, ServerRemove, ServerMode, PoolAdd, PoolPolicy, CacheAttach, CacheDetach, Expunge, SetTimeout, Show}
 use Rattle.lb_command.specs.Line.{Left, first_of, behind_first, whole}
 use Rattle.lb_command.specs.Reading.{◌>>=◌, due, ended, optional, taken, too_many, within}
-use Rattle.lb_command.specs.Values.{addr_of, count_of, ident_of, in_range, looked_up, mode_of, name_of, number_of, one, policy_of, pool_of, word_number}
-use Rattle.lb_command.specs.Terms.{checked_at, type_at}
+use Rattle.lb_command.specs.Values.{addr_of, count_of, ident_of, in_range, looked_up, mode_of, name_of, number_of, one, policy_of, pool_of, type_of, word_number}
+use Rattle.lb_command.specs.Terms.{checked_at}
 use Rattle.lb_command.specs.Actions.{action_at}
 use Rattle.lb_command.specs.declared.fault.CommandFault.{CommandFault}
 use Rattle.lb_command.specs.declared.fault.FaultKind.TheVariants as kinds
@@ -234,7 +234,7 @@ cache_at left = do
 unfoldable pub by_name_at : Left → Result (Covered × Left) CommandFault
 by_name_at left = do
   name ← due kinds.BadName name_of left
-  qtype ← optional type_at name.1
+  qtype ← optional type_of name.1
   Ok (covereds.Name name.0 qtype.0, qtype.1)
 
 -- NAME

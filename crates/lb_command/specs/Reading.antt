@@ -1,6 +1,6 @@
 -- Reading from left to right, to the first fault that is met.
 use Rattle.std.specs.Prelude.{if◌then◌else◌, ◌≡◌, ◌⊎◌, ℕ, zero, suc, Bool, true, false, ◌||◌, nat_lt, Option, Some, None, Result, Ok, Err, List, [], ◌∷◌, length, bytes_eq}
-use Rattle.lb_command.specs.Line.{Seen, Left, begins_word, first_of, behind_first, is_sign, is_word_byte}
+use Rattle.lb_command.specs.Line.{Seen, Left, first_of, behind_first, is_sign, is_word_byte}
 use Rattle.lb_command.specs.declared.fault.CommandFault.{CommandFault}
 use Rattle.lb_command.specs.declared.fault.FaultKind.{FaultKind}
 use Rattle.lb_command.specs.declared.fault.FaultKind.TheVariants as kinds
@@ -61,9 +61,13 @@ named word text = if bytes_eq text word then Some tt else None
 abbrev pub taken : List ℕ → Left → Bool × Left
 taken word left = if bytes_eq (first_of left).text word then (true, behind_first left) else (false, left)
 
--- a part that may be left out: it stands there where a word does
-abbrev pub optional : {A : Type 0} → (Left → Result (A × Left) CommandFault) → Left → Result (Option A × Left) CommandFault
-optional part left = if begins_word (first_of left).text then (part left >>= λ x. Ok (Some x.0, x.1)) else Ok (None, left)
+-- a word that may be left out: it stands there where what comes next says a value
+abbrev pub or_left_out : {A : Type 0} → Option A → Left → Result (Option A × Left) CommandFault
+or_left_out (Some x) left = Ok (Some x, behind_first left)
+or_left_out None left = Ok (None, left)
+
+abbrev pub optional : {A : Type 0} → (List ℕ → Option A) → Left → Result (Option A × Left) CommandFault
+optional value left = or_left_out (value (first_of left).text) left
 
 -- what is wrong behind a whole line: a word or a sign is too much, and a stray byte unknown
 abbrev pub extra_at : List ℕ → FaultKind

@@ -4,7 +4,7 @@ ghost use Rattle.std.specs.Prelude.{◌≡◌, ◌≤◌, IfOk, Some, None};
 ghost use Rattle.lb_command.specs.declared.fault.FaultKind.TheVariants.{BadAddress, BadHex, BadName, BadNumber, UnknownWord};
 ghost use Rattle.lb_command.specs.Reading.{Reads, due, optional};
 ghost use Rattle.lb_command.specs.Terms.{type_at};
-ghost use Rattle.lb_command.specs.Values.{addr_of, count_of, hex_of, ident_of, in_range, kind_of, mask_of, mode_of, name_of, number_of, outcome_of, policy_of, pool_of, protocol_of, rcode_of, word_number};
+ghost use Rattle.lb_command.specs.Values.{addr_of, count_of, hex_of, ident_of, in_range, kind_of, mask_of, mode_of, name_of, number_of, outcome_of, policy_of, pool_of, protocol_of, rcode_of, type_of, word_number};
 
 use crate::fault::{FaultKind, Unread};
 use crate::setup::Protocol;
@@ -156,15 +156,15 @@ pub(crate) fn record_type(words: &mut Words<'_>) -> Result<RecordType, Unread>
     }
 }
 
-/// Takes a type, where a word comes.
+/// Takes a type, where one comes.
 pub(crate) fn optional_type(words: &mut Words<'_>) -> Result<Option<RecordType>, Unread>
-    ensures { Reads (λ qtype. qtype) result words.new (optional type_at words.old) }
+    ensures { Reads (λ qtype. qtype) result words.new (optional type_of words.old) }
 {
-    if words.peek().is_word() {
-        Ok(Some(record_type(words)?))
-    } else {
-        Ok(None)
-    }
+    let Some(qtype) = type_of(words.peek().text) else {
+        return Ok(None);
+    };
+    let _ = words.next();
+    Ok(Some(qtype))
 }
 
 /// Takes a response code.

@@ -67,8 +67,8 @@ const FAULTS: [(Reader, &str, usize, u8); 34] = [
         87,
         8,
     ),
-    (Reader::Command, "expunge - name example.com 65536", 27, 4),
-    (Reader::Command, "expunge - name example.com A6", 27, 1),
+    (Reader::Command, "expunge - name example.com 65536", 27, 3),
+    (Reader::Command, "expunge - name example.com A6", 27, 3),
     (Reader::Command, "expunge - name example.com (", 27, 3),
     (Reader::Command, "expunge - name", 14, 2),
     (

@@ -6,5 +6,5 @@ use Rattle.lb_command.proofs.values.count_of.Goals as goal
 
 pub returns : goal.returns
 returns c =
-    let number : number_up_to 10 255 c.args.text.now ≡ Some c.in_ok-number_up_to.field-0 = sym c.number_up_to.ensures.value ∙ c.in_ok-number_up_to.was in
-    from_new c.in_ok-number_up_to.field-0 c.new.result c.new.ensures ∙ ap (option_and_then non_zero) (sym number)
+    let number : number_up_to 10 255 c.args.text.now ≡ Some c.in_ok-decimal_up_to.field-0 = sym c.decimal_up_to.ensures.value ∙ c.in_ok-decimal_up_to.was in
+    from_new c.in_ok-decimal_up_to.field-0 c.new.result c.new.ensures ∙ ap (option_and_then non_zero) (sym number)
