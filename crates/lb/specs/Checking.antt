@@ -1,5 +1,5 @@
 -- What the check of a setup file does.
-use Rattle.std.specs.Prelude.{if◌then◌else◌, ◌≡◌, ◌⊎◌, ℕ, ◌+◌, Bool, true, false, nat_lt, List, [], ◌∷◌, ◌++◌, codes, ⊤, Option, Some, None, Result, Ok, Err}
+use Rattle.std.specs.Prelude.{if◌then◌else◌, ◌≡◌, ◌⊎◌, ℕ, ◌+◌, Bool, true, false, ◌&&◌, nat_le, length, List, [], ◌∷◌, ◌++◌, codes, ⊤, Option, Some, None, Result, Ok, Err}
 use Rattle.std.specs.Fmt.{decimal}
 use Rattle.std.specs.Io.KnownBytes.{Appends}
 use Rattle.std.specs.Str.Lines.{lines}
@@ -13,7 +13,8 @@ use Rattle.lb_core.specs.Step.{Answers}
 use Rattle.lb_command.specs.Answers.{line_of}
 use Rattle.lb_command.specs.Fault.{fault_name, fault_number}
 use Rattle.lb_command.specs.Line.{spaces_of}
-use Rattle.lb_command.specs.Setup.{setup_of}
+use Rattle.lb_command.specs.Reading.{max_line}
+use Rattle.lb_command.specs.Setup.{begins_listen, setup_of}
 use Rattle.lb_command.specs.declared.fault.CommandFault.{CommandFault}
 use Rattle.lb_command.specs.declared.fault.FaultKind.TheVariants as kinds
 use Rattle.lb_command.specs.declared.setup.SetupLine.{SetupLine}
@@ -51,10 +52,14 @@ ninth_listener line = record { place = spaces_of line; kind = kinds.Extra }
 abbrev pub EndsBy : Halt → Plain → CheckEnd → Plain → Type 0
 EndsBy halt old end new = (end ≡ Err halt) × (new ≡ old)
 
--- so many lines that listen are few enough for one more
-abbrev pub ByCount : Bool → Type 0 → Type 0 → Type 0
-ByCount true few many = few
-ByCount false few many = many
+-- one of two ways
+abbrev pub ByTest : Bool → Type 0 → Type 0 → Type 0
+ByTest true one other = one
+ByTest false one other = other
+
+-- a line begins as one that listens, behind eight of them; a line that is too long is not looked into
+abbrev pub is_ninth : ℕ → List ℕ → Bool
+is_ninth listeners line = nat_le 8 listeners && nat_le (length line) max_line && begins_listen line
 
 -- why an edit was refused, where it was
 abbrev pub refusal_of : Answer → Option EditFault
@@ -73,11 +78,11 @@ edit_end n None = all_applied
 
 -- what a line does that is read so, before others: a bad line ends the check, lines that listen are counted, a command is an edit
 -- at moment 0
-abbrev pub ByLine : Result SetupLine CommandFault → ℕ → List ℕ → (ℕ → Plain → CheckEnd → Plain → Type 0) → ℕ → Plain → CheckEnd → Plain → Type 0
-ByLine (Err fault) n line others listeners old end new = EndsBy (BadLine n fault) old end new
-ByLine (Ok (setups.Listen listener)) n line others listeners old end new = ByCount (nat_lt listeners 8) (others (listeners + 1) old end new) (EndsBy (BadLine n (ninth_listener line)) old end new)
-ByLine (Ok (setups.Log length)) n line others listeners old end new = others listeners old end new
-ByLine (Ok (setups.Edit command)) n line others listeners old end new = (answer : Answer) × (mid : Plain) × Answers old (events.Edit 0 command) answer mid × ByRefusal (refusal_of answer) n (others listeners) mid end new
+abbrev pub ByLine : Result SetupLine CommandFault → ℕ → (ℕ → Plain → CheckEnd → Plain → Type 0) → ℕ → Plain → CheckEnd → Plain → Type 0
+ByLine (Err fault) n others listeners old end new = EndsBy (BadLine n fault) old end new
+ByLine (Ok (setups.Listen listener)) n others listeners old end new = others (listeners + 1) old end new
+ByLine (Ok (setups.Log length)) n others listeners old end new = others listeners old end new
+ByLine (Ok (setups.Edit command)) n others listeners old end new = (answer : Answer) × (mid : Plain) × Answers old (events.Edit 0 command) answer mid × ByRefusal (refusal_of answer) n (others listeners) mid end new
 
 -- memory was wanting at a line
 abbrev pub WantsMemory : ℕ → Plain → CheckEnd → Plain → Type 0
@@ -86,7 +91,10 @@ WantsMemory n old end new = (fault : CommandFault) × (fault.kind ≡ kinds.NoMe
 -- these told lines are applied one after the other, behind so many that listen
 abbrev pub Applies : List (ℕ × List ℕ) → ℕ → Plain → CheckEnd → Plain → Type 0
 Applies [] listeners old end new = (end ≡ all_applied) × (new ≡ old)
-Applies (l ∷ others) listeners old end new = ByLine (setup_of l.1) l.0 l.1 (Applies others) listeners old end new ⊎ WantsMemory l.0 old end new
+Applies (l ∷ others) listeners old end new =
+    ByTest (is_ninth listeners l.1)
+    (EndsBy (BadLine l.0 (ninth_listener l.1)) old end new)
+    (ByLine (setup_of l.1) l.0 (Applies others) listeners old end new ⊎ WantsMemory l.0 old end new)
 
 -- a check ended by its last line or by one that is at fault
 abbrev pub IsApplied : CheckEnd → Type 0

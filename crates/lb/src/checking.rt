@@ -17,7 +17,8 @@ use crate::faults::write_bad_line;
 use crate::line::{LineKind, kind_of};
 use crate::shown::line_feed;
 use lb_command::{
-    CommandFault, FaultKind, SetupLine, answer_line, leading_spaces, read_setup_line,
+    CommandFault, FaultKind, MAX_LINE, SetupLine, answer_line, begins_listen, leading_spaces,
+    read_setup_line,
 };
 use lb_core::{Answer, Balancer, Command, EditFault, Event};
 use std::alloc::{AllocError, Global};
@@ -199,12 +200,12 @@ fn apply_line(
     let Ok(text) = from_utf8(line) else {
         return Err(Halt::Device);
     };
+    if *listeners >= MAX_LISTENERS && line.len() <= MAX_LINE && begins_listen(text) {
+        let fault = too_many(line);
+        return Err(Halt::BadLine { number, fault });
+    }
     match read_setup_line(alloc, text) {
         Ok(SetupLine::Listen(_)) => {
-            if *listeners >= MAX_LISTENERS {
-                let fault = too_many(line);
-                return Err(Halt::BadLine { number, fault });
-            }
             *listeners += 1;
             Ok(())
         }

@@ -470,7 +470,7 @@ fn wanting_memory_is_told(rt: HostRuntime) {
 }
 
 /// Setup files, with the status, the output and the faults of their check.
-const CHECKS: [(&str, u8, &str, &str); 7] = [
+const CHECKS: [(&str, u8, &str, &str); 8] = [
     (
         "rule add all drop\nserver add s1 127.0.0.1 5301\n",
         0,
@@ -484,6 +484,12 @@ const CHECKS: [(&str, u8, &str, &str); 7] = [
         "",
     ),
     ("show x\n", 1, "", "line 1: at 5: 3 Extra\n"),
+    (
+        "listen udp ::1 1\nlisten udp ::1 2\nlisten udp ::1 3\nlisten udp ::1 4\nlisten udp ::1 5\nlisten udp ::1 6\nlisten udp ::1 7\nlisten udp ::1 8\n  listen tls\n",
+        1,
+        "",
+        "line 9: at 2: 3 Extra\n",
+    ),
     (
         "\n# x\nshow\nrule add all drop\r\nrule remove 2",
         1,

@@ -1,7 +1,7 @@
 -- Reading lines of a setup file.
-use Rattle.std.specs.Prelude.{if◌then◌else◌, ℕ, Result, Ok, List, codes}
+use Rattle.std.specs.Prelude.{if◌then◌else◌, ℕ, Bool, Result, Ok, List, bytes_eq, codes}
 use Rattle.lb_masks.specs.Number.{number_up_to}
-use Rattle.lb_command.specs.Line.{Left, whole}
+use Rattle.lb_command.specs.Line.{Left, first_of, whole}
 use Rattle.lb_command.specs.Reading.{◌>>=◌, due, ended, taken, within}
 use Rattle.lb_command.specs.Values.{addr_of, in_range, protocol_of}
 use Rattle.lb_command.specs.Commands.{command_at}
@@ -35,6 +35,10 @@ unfoldable pub setup_at : Left → Result (SetupLine × Left) CommandFault
 setup_at left =
     if (taken (codes "listen") left).0 then listen_at (taken (codes "listen") left).1
     else (if (taken (codes "log") left).0 then log_at (taken (codes "log") left).1 else edit_line_at left)
+
+-- the first word of a line is `listen`
+abbrev pub begins_listen : List ℕ → Bool
+begins_listen line = bytes_eq (first_of (whole line)).text (codes "listen")
 
 -- all of a line
 unfoldable pub setup_whole : Left → Result SetupLine CommandFault

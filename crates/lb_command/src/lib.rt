@@ -19,5 +19,5 @@ pub use answers::{answer_line, note_text};
 pub use commands::read_command;
 pub use events::read_event_line;
 pub use fault::{CommandFault, FaultKind, MAX_LINE};
-pub use setup::{Listener, Protocol, SetupLine, read_setup_line};
+pub use setup::{Listener, Protocol, SetupLine, begins_listen, read_setup_line};
 pub use words::spaces as leading_spaces;

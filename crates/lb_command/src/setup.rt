@@ -4,7 +4,7 @@ ghost use Rattle.std.specs.Prelude.{◌≡◌, ◌≤◌, IfOk};
 ghost use Rattle.lb_command.specs.Reading.{Answers, Gives, Reads, ReadsAs};
 ghost use Rattle.lb_command.specs.Grammar.{IsSetup};
 ghost use Rattle.lb_command.specs.declared.setup.SetupLine.{SetupLine};
-ghost use Rattle.lb_command.specs.Setup.{edit_line_at, listen_at, log_at, setup_at, setup_of, setup_whole};
+ghost use Rattle.lb_command.specs.Setup.{begins_listen, edit_line_at, listen_at, log_at, setup_at, setup_of, setup_whole};
 
 use crate::commands::command;
 use crate::fault::{CommandFault, MAX_LINE, Unread};
@@ -121,4 +121,12 @@ pub fn read_setup_line(alloc: Global, line: &str) -> Result<SetupLine, CommandFa
         Err(Unread::Fault(fault)) => Err(fault),
         Err(Unread::NoMemory) => Err(words.no_memory()),
     }
+}
+
+/// Whether the first word of a line is `listen`, whatever comes behind it.
+pub fn begins_listen(line: &str) -> bool
+    ensures { result ≡ begins_listen line.now }
+{
+    let words = Words::new(line.as_bytes());
+    words.peek().text == b"listen".as_slice()
 }
