@@ -1246,50 +1246,70 @@ line 6: at 4: 2 Missing
 ",
 };
 
-pub(crate) const ROWS: [Row; 45] = [
+/// Messages that are no queries, or refused.
+pub(crate) const MESSAGES: [Row; 6] = [
     CUT_QUERY,
     MALFORMED,
     REFUSED_BY_TYPE,
     SHORT_AND_NOT_A_QUERY,
     OPT_QTYPE,
     TRANSFER,
+];
+
+/// Rules and rate limits.
+pub(crate) const RULES: [Row; 5] = [
     AND_STOPS_EARLY,
     LIMITERS,
     NOT_MAXQPS,
     OPT_ALL,
     PASSES_AND_MOVE,
-    RULES_REFUSED,
-    SPOOF,
-    SUFFIX,
-    TRUNCATED,
-    WINDOW,
+];
+
+/// More of rules.
+pub(crate) const MORE_RULES: [Row; 5] = [RULES_REFUSED, SPOOF, SUFFIX, TRUNCATED, WINDOW];
+
+/// Servers and pools.
+pub(crate) const SERVERS: [Row; 5] = [
     FIRST_AVAILABLE,
     FREE_ID_GOES_ROUND,
     LEAST_OUTSTANDING,
     NO_RECURSE,
     POOL,
+];
+
+/// More of servers.
+pub(crate) const MORE_SERVERS: [Row; 4] = [
     POOLS_AND_SERVERS_REFUSED,
     ROUND_ROBIN,
     SERVER_REMOVED,
     WHICH_REPLY_BELONGS,
-    EXPIRED_KEEPS_RD,
-    EXPIRY,
-    HEALTH,
-    ORDER_OF_ENTRY,
-    TIMEOUT,
+];
+
+/// Expiry and health.
+pub(crate) const TIMES: [Row; 5] = [EXPIRED_KEEPS_RD, EXPIRY, HEALTH, ORDER_OF_ENTRY, TIMEOUT];
+
+/// Packet caches.
+pub(crate) const CACHES: [Row; 5] = [
     CACHE_HIT_AND_AGEING,
     COOKIE_IN_KEY_BEFORE,
-    CUT_REPLY,
     DETACHED_MEANWHILE,
     EXPUNGE,
     FULL_CACHE,
+];
+
+/// More of caches.
+pub(crate) const MORE_CACHES: [Row; 4] = [
     FULL_SHARDED_CACHE,
     NEGATIVE_LIFE_BEFORE,
     NO_CACHE,
     POINTER_TO_ITSELF,
-    REPLACED_MEANWHILE,
-    SPELLING_KIND_SKIPCACHE,
-    WHAT_IS_KEPT,
-    BAD_LINE,
-    LINES,
 ];
+
+/// What is kept.
+pub(crate) const KEPT: [Row; 3] = [REPLACED_MEANWHILE, SPELLING_KIND_SKIPCACHE, WHAT_IS_KEPT];
+
+/// Replies that are cut.
+pub(crate) const REPLIES: [Row; 1] = [CUT_REPLY];
+
+/// Lines that are skipped, and one that does not read.
+pub(crate) const LINES_OF_REPLAYS: [Row; 2] = [BAD_LINE, LINES];

@@ -1,6 +1,9 @@
 //! Replays over readers and writers in memory.
 
-use crate::rows::{REFUSED_BY_TYPE, ROWS};
+use crate::rows::{
+    CACHES, KEPT, LINES_OF_REPLAYS, MESSAGES, MORE_CACHES, MORE_RULES, MORE_SERVERS,
+    REFUSED_BY_TYPE, REPLIES, RULES, Row, SERVERS, TIMES,
+};
 use crate::{check, replay};
 use std::alloc::AllocError;
 use std::io;
@@ -84,24 +87,73 @@ fn expect<T: Abort + AllocGlobal, R: Read + Drop>(
     assert_eq!(rt; ended, status, "the status of {name}");
 }
 
-#[test]
-fn rows_are_answered(rt: HostRuntime) {
-    for row in &ROWS {
-        expect(
-            &rt,
-            row.name,
-            row.input.as_bytes(),
-            row.status,
-            row.output,
-            row.faults,
-        );
+/// Replays rows, each from memory and a byte at a time.
+fn expect_rows<T: Abort + AllocGlobal>(rt: &T, rows: &[Row]) {
+    for row in rows {
+        let input = row.input.as_bytes();
+        expect(rt, row.name, input, row.status, row.output, row.faults);
         let slow = Dribble {
-            rest: row.input.as_bytes(),
+            rest: input,
             cut: None,
             kind: ErrorKind::Other,
         };
-        expect(&rt, row.name, slow, row.status, row.output, row.faults);
+        expect(rt, row.name, slow, row.status, row.output, row.faults);
     }
+}
+
+#[test]
+fn messages_are_refused(rt: HostRuntime) {
+    expect_rows(&rt, &MESSAGES);
+}
+
+#[test]
+fn rules_are_walked(rt: HostRuntime) {
+    expect_rows(&rt, &RULES);
+}
+
+#[test]
+fn rules_are_refused_and_answer(rt: HostRuntime) {
+    expect_rows(&rt, &MORE_RULES);
+}
+
+#[test]
+fn servers_are_picked(rt: HostRuntime) {
+    expect_rows(&rt, &SERVERS);
+}
+
+#[test]
+fn servers_are_edited(rt: HostRuntime) {
+    expect_rows(&rt, &MORE_SERVERS);
+}
+
+#[test]
+fn queries_expire(rt: HostRuntime) {
+    expect_rows(&rt, &TIMES);
+}
+
+#[test]
+fn caches_answer(rt: HostRuntime) {
+    expect_rows(&rt, &CACHES);
+}
+
+#[test]
+fn caches_are_full(rt: HostRuntime) {
+    expect_rows(&rt, &MORE_CACHES);
+}
+
+#[test]
+fn replies_are_kept(rt: HostRuntime) {
+    expect_rows(&rt, &KEPT);
+}
+
+#[test]
+fn replies_are_cut(rt: HostRuntime) {
+    expect_rows(&rt, &REPLIES);
+}
+
+#[test]
+fn lines_are_skipped(rt: HostRuntime) {
+    expect_rows(&rt, &LINES_OF_REPLAYS);
 }
 
 /// Lines that do not read, with the place, the number and the name of the fault.
