@@ -1,16 +1,9 @@
 -- Commands, against the grammar.
-use Rattle.std.proofs.Common.{◌≡◌, ℕ, ◌≤◌, Bool, true, false, ◌&&◌, Option, Some, None, Result, Ok, List, [], ◌∷◌, length, subst, refl, sym, ap, ◌∙◌, arith, inl, inr}
+use Rattle.std.proofs.Common.{◌≡◌, ℕ, ◌≤◌, false, Option, Some, None, Result, Ok, List, [], length, subst, refl, sym, ap, ◌∙◌, arith, inl, inr}
 use Rattle.std.proofs.lemmas.Bool.{cases_Bool}
-use Rattle.std.proofs.lemmas.Grind.{common_steps}
-use Rattle.std.specs.Prelude.{codes, nat_le, nat_lt, if◌then◌else◌, bytes_eq, option_map}
-use Rattle.std.specs.Char.{is_digit}
-use Rattle.std.specs.List.{list_all}
-use Rattle.std.specs.Str.Parse.{digits_value}
-use Rattle.std.proofs.lemmas.Slice.Eq.{bytes_eq-Decides}
-use Rattle.lb_wire.specs.RecordType.{type_names}
+use Rattle.std.specs.Prelude.{codes}
 use Rattle.lb_wire.specs.declared.ids.RuleId.{RuleId}
 use Rattle.lb_wire.specs.declared.record_type.RecordType.{RecordType}
-use Rattle.lb_masks.specs.Number.{is_numeral}
 use Rattle.lb_terms.specs.Selector.{Selector}
 use Rattle.lb_terms.specs.Selector as sel
 use Rattle.lb_terms.specs.Check.{IsChecked}
@@ -26,8 +19,8 @@ use Rattle.lb_core.specs.declared.command.Command.TheVariants.{RuleAdd, RuleRemo
 use Rattle.lb_core.specs.declared.command.StatedRule.{StatedRule}
 use Rattle.lb_command.specs.Line.{Left, behind_first, first_of}
 use Rattle.lb_command.specs.Reading.{◌>>=◌, due, optional, or_left_out, taken}
-use Rattle.lb_command.specs.Values.{addr_of, ident_of, in_range, looked_up, mode_of, name_of, number_of, or_else, policy_of, pool_of, record_type, type_of, word_number}
-use Rattle.lb_command.specs.Terms.{checked_at, type_at}
+use Rattle.lb_command.specs.Values.{addr_of, ident_of, in_range, looked_up, mode_of, name_of, number_of, policy_of, pool_of, type_of}
+use Rattle.lb_command.specs.Terms.{checked_at}
 use Rattle.lb_command.specs.Actions.{action_at}
 use Rattle.lb_command.specs.Commands.{Stated, behind_cache_verb, behind_extent, behind_pool_verb, behind_rule_verb, behind_server_verb, behind_verb, by_name_at, by_suffix_at, cache_at, cache_attach_at, cache_detach_at, cache_verb_words, check_of, command_at, expunge_at, extent_words, nothing_stated, options_at, place_at, pool_add_at, pool_at, pool_policy_at, pool_verb_words, rule_add_at, rule_at, rule_id, rule_move_at, rule_remove_at, rule_verb_words, server_add_at, server_at, server_mode_at, server_remove_at, server_verb_words, spec_of, timeout_at, verb_words}
 use Rattle.lb_command.specs.Grammar.{Allowed, AllowedAction, ◌▷◌, action, all_chosen, command, covered, number, optional_type, place, says, server, term, word}
@@ -46,9 +39,8 @@ use Rattle.lb_command.specs.declared.commands.CacheVerb.TheVariants as cache_ver
 use Rattle.lb_command.specs.declared.commands.Extent.{Extent}
 use Rattle.lb_command.specs.declared.commands.Extent.TheVariants as extents
 use Rattle.lb_command.proofs.Exact.{Finds, bind_ok, carried, says_again, says_step, step, table_again, table_step, taken_again, taken_found, taken_not}
-use Rattle.lb_command.proofs.Truths.{both}
 use Rattle.lb_command.proofs.Keeping.{says_keeps, word_keeps}
-use Rattle.lb_command.proofs.TermExact.{checked_again, checked_found, type_again, type_found}
+use Rattle.lb_command.proofs.TermExact.{checked_again, checked_found, type_found}
 use Rattle.lb_command.proofs.ActionExact.{Acts, action_again, action_found}
 use Rattle.lb_command.proofs.OptionExact.{MakeAll, options_again, options_found}
 

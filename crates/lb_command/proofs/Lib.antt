@@ -16,3 +16,4 @@ pub mod CommandExact
 pub mod EventExact
 pub mod SetupExact
 pub mod LineExact
+pub mod Said

@@ -97,3 +97,13 @@ pub only_of : {X : Type 0} (r read : Result X CommandFault) (x : X) → read ≡
 only_of (Ok y) read x h a = ok_same y x (sym a ∙ h)
 only_of (Err f) read x h (inl memory) = memory
 only_of {X} (Err f) read x h (inr fault) = absurd (let wrong : ◌≡◌ {A = Result X CommandFault} (Err f) (Ok x) = sym fault ∙ h in cc)
+
+-- a line is one thing at most
+pub one_command : (line : List ℕ) (a b : Command) → IsCommand line a → IsCommand line b → a ≡ b
+one_command line a b h k = ok_same a b (sym (command_again line a h) ∙ command_again line b k)
+
+pub one_event : (line : List ℕ) (a b : Event) → IsEvent line a → IsEvent line b → a ≡ b
+one_event line a b h k = ok_same a b (sym (event_again line a h) ∙ event_again line b k)
+
+pub one_setup : (line : List ℕ) (a b : SetupLine) → IsSetup line a → IsSetup line b → a ≡ b
+one_setup line a b h k = ok_same a b (sym (setup_again line a h) ∙ setup_again line b k)

@@ -10,3 +10,4 @@ pub mod Events
 pub mod Setup
 pub mod Answers
 pub mod Grammar
+pub mod Laws

@@ -26,6 +26,7 @@ use Rattle.lb_servers.specs.declared.pool.PoolName.TheVariants as pool_names
 use Rattle.lb_servers.specs.declared.server.Mode.{Mode}
 use Rattle.lb_servers.specs.declared.server.Mode.TheVariants.{Up, Down, Auto}
 use Rattle.lb_command.specs.Line.{is_word_byte}
+use Rattle.lb_command.specs.Answers.{kind_text, mode_text, policy_text}
 use Rattle.lb_command.specs.declared.fault.FaultKind.{FaultKind}
 use Rattle.lb_command.specs.declared.fault.FaultKind.TheVariants as kinds
 use Rattle.lb_command.specs.declared.setup.Protocol.{Protocol}
@@ -112,26 +113,21 @@ type_kind text = if begins_digit text then kinds.BadNumber else kinds.UnknownWor
 abbrev pub rcode_of : List ℕ → Option Rcode
 rcode_of text = rcode_of_name text
 
--- `up|down|auto`
-abbrev pub mode_words : List (Mode × List ℕ)
-mode_words = (Up, codes "up") ∷ (Down, codes "down") ∷ (Auto, codes "auto") ∷ []
+-- the first of these values that is written so
+abbrev pub spelled : {A : Type 0} → (A → List ℕ) → List A → List ℕ → Option A
+spelled written values text = find (λ x. bytes_eq (written x) text) values
 
+-- `up|down|auto`
 abbrev pub mode_of : List ℕ → Option Mode
-mode_of text = looked_up mode_words text
+mode_of text = spelled mode_text (Up ∷ Down ∷ Auto ∷ []) text
 
 -- `firstAvailable|leastOutstanding|roundrobin`
-abbrev pub policy_words : List (Policy × List ℕ)
-policy_words = (FirstAvailable, codes "firstAvailable") ∷ (LeastOutstanding, codes "leastOutstanding") ∷ (RoundRobin, codes "roundrobin") ∷ []
-
 abbrev pub policy_of : List ℕ → Option Policy
-policy_of text = looked_up policy_words text
+policy_of text = spelled policy_text (FirstAvailable ∷ LeastOutstanding ∷ RoundRobin ∷ []) text
 
 -- `udp|tcp`
-abbrev pub kind_words : List (Kind × List ℕ)
-kind_words = (Datagram, codes "udp") ∷ (Stream, codes "tcp") ∷ []
-
 abbrev pub kind_of : List ℕ → Option Kind
-kind_of text = looked_up kind_words text
+kind_of text = spelled kind_text (Datagram ∷ Stream ∷ []) text
 
 -- `ok|fail`: whether a probe was answered as it should be
 abbrev pub outcome_words : List (Bool × List ℕ)

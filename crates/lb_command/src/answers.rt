@@ -229,7 +229,7 @@ fn ignored_word(reason: IgnoreReason) -> &'static str
 }
 
 /// The word for a transport.
-fn kind_word(kind: Kind) -> &'static str
+pub(crate) fn kind_word(kind: Kind) -> &'static str
     ensures { result.now ≡ kind_text kind }
 {
     match kind {
@@ -251,7 +251,7 @@ fn kept_word(kept: Kept) -> &'static str
 }
 
 /// The word for a server's mode.
-fn mode_word(mode: Mode) -> &'static str
+pub(crate) fn mode_word(mode: Mode) -> &'static str
     ensures { result.now ≡ mode_text mode }
 {
     match mode {
@@ -262,7 +262,7 @@ fn mode_word(mode: Mode) -> &'static str
 }
 
 /// The word for a pool's policy.
-fn policy_word(policy: Policy) -> &'static str
+pub(crate) fn policy_word(policy: Policy) -> &'static str
     ensures { result.now ≡ policy_text policy }
 {
     match policy {

@@ -1,7 +1,7 @@
 //! Reading event lines.
 
-ghost use Rattle.std.specs.Prelude.{◌≡◌, ◌≤◌, IfOk};
-ghost use Rattle.lb_command.specs.Events.{behind_event_word, edit_at, event_at, event_of, event_table, event_whole, health_at, query_at, reply_at, tick_at};
+ghost use Rattle.std.specs.Prelude.{◌≡◌, IfOk};
+ghost use Rattle.lb_command.specs.Events.{edit_at, event_at, event_of, event_table, event_whole, health_at, query_at, reply_at, tick_at};
 ghost use Rattle.lb_command.specs.Reading.{Answers, Gives, Reads, ReadsAs};
 ghost use Rattle.lb_command.specs.Grammar.{IsEvent};
 ghost use Rattle.lb_core.specs.declared.event.Event.{Event};

@@ -1,10 +1,9 @@
 //! Reading the options of a new server.
 
-ghost use Rattle.std.specs.Prelude.{◌≡◌, ◌≤◌, ◌<◌, [], length};
-ghost use Rattle.lb_command.specs.declared.fault.FaultKind.TheVariants.{BadNumber};
+ghost use Rattle.std.specs.Prelude.{◌≡◌, ◌≤◌, length};
 ghost use Rattle.lb_command.specs.Commands.{behind_option, fall_at, nothing_stated, option_words, options_at, order_at, pool_option_at, rise_at};
-ghost use Rattle.lb_command.specs.Reading.{Reads, due};
-ghost use Rattle.lb_command.specs.Values.{in_range, looked_up};
+ghost use Rattle.lb_command.specs.Reading.{Reads};
+ghost use Rattle.lb_command.specs.Values.{looked_up};
 
 use crate::fault::{FaultKind, Unread};
 use crate::parts::{count, pool};

@@ -1,10 +1,10 @@
 //! Parts of a line that are one word.
 
-ghost use Rattle.std.specs.Prelude.{◌≡◌, ◌≤◌, IfOk, Some, None};
+ghost use Rattle.std.specs.Prelude.{◌≤◌, IfOk};
 ghost use Rattle.lb_command.specs.declared.fault.FaultKind.TheVariants.{BadAddress, BadHex, BadName, BadNumber, UnknownWord};
 ghost use Rattle.lb_command.specs.Reading.{Reads, due, optional};
 ghost use Rattle.lb_command.specs.Terms.{type_at};
-ghost use Rattle.lb_command.specs.Values.{addr_of, count_of, hex_of, ident_of, in_range, kind_of, mask_of, mode_of, name_of, number_of, outcome_of, policy_of, pool_of, protocol_of, rcode_of, type_of, word_number};
+ghost use Rattle.lb_command.specs.Values.{addr_of, count_of, hex_of, ident_of, in_range, kind_of, mask_of, mode_of, name_of, outcome_of, policy_of, pool_of, protocol_of, rcode_of, type_of};
 
 use crate::fault::{FaultKind, Unread};
 use crate::setup::Protocol;
@@ -28,10 +28,7 @@ pub(crate) fn ident(words: &mut Words<'_>) -> Result<Ident, Unread>
     ensures { Reads (λ name. name) result words.new (due BadName ident_of words.old) }
 {
     let token = words.next();
-    match ident_of(token.text) {
-        Some(name) => Ok(name),
-        None => Err(token.fault(FaultKind::BadName)),
-    }
+    ident_of(token.text).ok_or(token.fault(FaultKind::BadName))
 }
 
 /// Takes the name of a pool.
@@ -39,10 +36,7 @@ pub(crate) fn pool(words: &mut Words<'_>) -> Result<PoolName, Unread>
     ensures { Reads (λ name. name) result words.new (due BadName pool_of words.old) }
 {
     let token = words.next();
-    match pool_of(token.text) {
-        Some(name) => Ok(name),
-        None => Err(token.fault(FaultKind::BadName)),
-    }
+    pool_of(token.text).ok_or(token.fault(FaultKind::BadName))
 }
 
 /// Takes a domain name.
@@ -50,10 +44,7 @@ pub(crate) fn name(words: &mut Words<'_>) -> Result<Name, Unread>
     ensures { Reads (λ name. name) result words.new (due BadName name_of words.old) }
 {
     let token = words.next();
-    match name_of(token.text) {
-        Some(name) => Ok(name),
-        None => Err(token.fault(FaultKind::BadName)),
-    }
+    name_of(token.text).ok_or(token.fault(FaultKind::BadName))
 }
 
 /// Takes an address.
@@ -61,10 +52,7 @@ pub(crate) fn addr(words: &mut Words<'_>) -> Result<Addr, Unread>
     ensures { Reads (λ addr. addr) result words.new (due BadAddress addr_of words.old) }
 {
     let token = words.next();
-    match addr_of(token.text) {
-        Some(addr) => Ok(addr),
-        None => Err(token.fault(FaultKind::BadAddress)),
-    }
+    addr_of(token.text).ok_or(token.fault(FaultKind::BadAddress))
 }
 
 /// Takes a mask.
@@ -72,10 +60,7 @@ pub(crate) fn mask(words: &mut Words<'_>) -> Result<Mask, Unread>
     ensures { Reads (λ mask. mask) result words.new (due BadAddress mask_of words.old) }
 {
     let token = words.next();
-    match mask_of(token.text) {
-        Some(mask) => Ok(mask),
-        None => Err(token.fault(FaultKind::BadAddress)),
-    }
+    mask_of(token.text).ok_or(token.fault(FaultKind::BadAddress))
 }
 
 /// Takes a number that is within these bounds.
@@ -84,10 +69,7 @@ pub(crate) fn number_in(words: &mut Words<'_>, low: u32, high: u32) -> Result<u3
     ensures fits { IfOk result (λ n. n ≤ high) }
 {
     let token = words.next();
-    match in_range(token.text, low, high) {
-        Some(number) => Ok(number),
-        None => Err(token.fault(FaultKind::BadNumber)),
-    }
+    in_range(token.text, low, high).ok_or(token.fault(FaultKind::BadNumber))
 }
 
 /// Takes a number from 1 to 255.
@@ -95,10 +77,7 @@ pub(crate) fn count(words: &mut Words<'_>) -> Result<NonZeroU8, Unread>
     ensures { Reads (λ n. n) result words.new (due BadNumber count_of words.old) }
 {
     let token = words.next();
-    match count_of(token.text) {
-        Some(count) => Ok(count),
-        None => Err(token.fault(FaultKind::BadNumber)),
-    }
+    count_of(token.text).ok_or(token.fault(FaultKind::BadNumber))
 }
 
 /// Takes how many replies a cache keeps at most.
@@ -106,10 +85,7 @@ pub(crate) fn max_entries(words: &mut Words<'_>) -> Result<MaxEntries, Unread>
     ensures { Reads (λ max. max) result words.new (due BadNumber (in_range 1 1000000) words.old) }
 {
     let token = words.next();
-    match entries_of(token.text) {
-        Some(max) => Ok(max),
-        None => Err(token.fault(FaultKind::BadNumber)),
-    }
+    entries_of(token.text).ok_or(token.fault(FaultKind::BadNumber))
 }
 
 /// Takes over how many shards a cache spreads its replies.
@@ -117,10 +93,7 @@ pub(crate) fn shards(words: &mut Words<'_>) -> Result<Shards, Unread>
     ensures { Reads (λ shards. shards) result words.new (due BadNumber (in_range 1 64) words.old) }
 {
     let token = words.next();
-    match shards_of(token.text) {
-        Some(shards) => Ok(shards),
-        None => Err(token.fault(FaultKind::BadNumber)),
-    }
+    shards_of(token.text).ok_or(token.fault(FaultKind::BadNumber))
 }
 
 /// Takes the longest life of a reply in a cache.
@@ -128,10 +101,7 @@ pub(crate) fn max_ttl(words: &mut Words<'_>) -> Result<MaxTtl, Unread>
     ensures { Reads (λ max_ttl. max_ttl) result words.new (due BadNumber (in_range 1 604800) words.old) }
 {
     let token = words.next();
-    match max_ttl_of(token.text) {
-        Some(max_ttl) => Ok(max_ttl),
-        None => Err(token.fault(FaultKind::BadNumber)),
-    }
+    max_ttl_of(token.text).ok_or(token.fault(FaultKind::BadNumber))
 }
 
 /// Takes how long a query waits for its reply.
@@ -139,10 +109,7 @@ pub(crate) fn timeout(words: &mut Words<'_>) -> Result<Timeout, Unread>
     ensures { Reads (λ timeout. timeout) result words.new (due BadNumber (in_range 1 60000) words.old) }
 {
     let token = words.next();
-    match timeout_of(token.text) {
-        Some(timeout) => Ok(timeout),
-        None => Err(token.fault(FaultKind::BadNumber)),
-    }
+    timeout_of(token.text).ok_or(token.fault(FaultKind::BadNumber))
 }
 
 /// Takes a type.
@@ -150,10 +117,7 @@ pub(crate) fn record_type(words: &mut Words<'_>) -> Result<RecordType, Unread>
     ensures { Reads (λ qtype. qtype) result words.new (type_at words.old) }
 {
     let token = words.next();
-    match type_of(token.text) {
-        Some(qtype) => Ok(qtype),
-        None => Err(token.fault(type_kind(token.text))),
-    }
+    type_of(token.text).ok_or(token.fault(type_kind(token.text)))
 }
 
 /// Takes a type, where one comes.
@@ -172,10 +136,7 @@ pub(crate) fn rcode(words: &mut Words<'_>) -> Result<Rcode, Unread>
     ensures { Reads (λ rcode. rcode) result words.new (due UnknownWord rcode_of words.old) }
 {
     let token = words.next();
-    match Rcode::from_name(token.text) {
-        Some(rcode) => Ok(rcode),
-        None => Err(token.fault(FaultKind::UnknownWord)),
-    }
+    Rcode::from_name(token.text).ok_or(token.fault(FaultKind::UnknownWord))
 }
 
 /// Takes the mode of a server.
@@ -183,10 +144,7 @@ pub(crate) fn mode(words: &mut Words<'_>) -> Result<Mode, Unread>
     ensures { Reads (λ mode. mode) result words.new (due UnknownWord mode_of words.old) }
 {
     let token = words.next();
-    match mode_of(token.text) {
-        Some(mode) => Ok(mode),
-        None => Err(token.fault(FaultKind::UnknownWord)),
-    }
+    mode_of(token.text).ok_or(token.fault(FaultKind::UnknownWord))
 }
 
 /// Takes the policy of a pool.
@@ -194,10 +152,7 @@ pub(crate) fn policy(words: &mut Words<'_>) -> Result<Policy, Unread>
     ensures { Reads (λ policy. policy) result words.new (due UnknownWord policy_of words.old) }
 {
     let token = words.next();
-    match policy_of(token.text) {
-        Some(policy) => Ok(policy),
-        None => Err(token.fault(FaultKind::UnknownWord)),
-    }
+    policy_of(token.text).ok_or(token.fault(FaultKind::UnknownWord))
 }
 
 /// Takes a transport.
@@ -205,10 +160,7 @@ pub(crate) fn kind(words: &mut Words<'_>) -> Result<Kind, Unread>
     ensures { Reads (λ kind. kind) result words.new (due UnknownWord kind_of words.old) }
 {
     let token = words.next();
-    match kind_of(token.text) {
-        Some(kind) => Ok(kind),
-        None => Err(token.fault(FaultKind::UnknownWord)),
-    }
+    kind_of(token.text).ok_or(token.fault(FaultKind::UnknownWord))
 }
 
 /// Takes whether a probe was answered as it should be.
@@ -216,10 +168,7 @@ pub(crate) fn outcome(words: &mut Words<'_>) -> Result<bool, Unread>
     ensures { Reads (λ ok. ok) result words.new (due UnknownWord outcome_of words.old) }
 {
     let token = words.next();
-    match outcome_of(token.text) {
-        Some(ok) => Ok(ok),
-        None => Err(token.fault(FaultKind::UnknownWord)),
-    }
+    outcome_of(token.text).ok_or(token.fault(FaultKind::UnknownWord))
 }
 
 /// Takes what clients are listened to by.
@@ -227,10 +176,7 @@ pub(crate) fn protocol(words: &mut Words<'_>) -> Result<Protocol, Unread>
     ensures { Reads (λ protocol. protocol) result words.new (due UnknownWord protocol_of words.old) }
 {
     let token = words.next();
-    match protocol_of(token.text) {
-        Some(protocol) => Ok(protocol),
-        None => Err(token.fault(FaultKind::UnknownWord)),
-    }
+    protocol_of(token.text).ok_or(token.fault(FaultKind::UnknownWord))
 }
 
 /// Takes octets.
@@ -238,8 +184,5 @@ pub(crate) fn octets(alloc: Global, words: &mut Words<'_>) -> Result<Octets, Unr
     ensures { Reads (λ octets. octets) result words.new (due BadHex hex_of words.old) }
 {
     let token = words.next();
-    match hex_of(alloc, token.text)? {
-        Some(octets) => Ok(octets),
-        None => Err(token.fault(FaultKind::BadHex)),
-    }
+    hex_of(alloc, token.text)?.ok_or(token.fault(FaultKind::BadHex))
 }

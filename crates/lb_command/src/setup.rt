@@ -1,6 +1,6 @@
 //! Reading lines of a setup file.
 
-ghost use Rattle.std.specs.Prelude.{◌≡◌, ◌≤◌, IfOk};
+ghost use Rattle.std.specs.Prelude.{◌≡◌, IfOk};
 ghost use Rattle.lb_command.specs.Reading.{Answers, Gives, Reads, ReadsAs};
 ghost use Rattle.lb_command.specs.Grammar.{IsSetup};
 ghost use Rattle.lb_command.specs.declared.setup.SetupLine.{SetupLine};

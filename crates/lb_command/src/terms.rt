@@ -1,6 +1,6 @@
 //! Reading terms.
 
-ghost use Rattle.std.specs.Prelude.{◌≡◌, ◌≤◌, codes, map};
+ghost use Rattle.std.specs.Prelude.{◌≡◌, codes, map};
 ghost use Rattle.lb_terms.specs.Selector.{selector_of};
 ghost use Rattle.lb_command.specs.declared.fault.FaultKind.TheVariants.{BadAddress, BadName};
 ghost use Rattle.lb_command.specs.Reading.{Reads, due, listed, taken};

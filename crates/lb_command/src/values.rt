@@ -3,8 +3,9 @@
 ghost use Rattle.std.specs.Prelude.{◌≡◌, ◌≤◌, IfOk, IfSome, None, Some, if◌then◌else◌, map, option_map};
 ghost use Rattle.std.specs.List.{list_all};
 ghost use Rattle.lb_command.specs.Line.{is_word_byte};
-ghost use Rattle.lb_command.specs.Values.{addr_of, begins_digit, count_of, hex_of, ident_of, in_range, kind_of, looked_up, mask_of, mode_of, name_of, outcome_of, policy_of, pool_of, protocol_of, type_kind, type_of, worded};
+ghost use Rattle.lb_command.specs.Values.{addr_of, count_of, hex_of, ident_of, in_range, kind_of, looked_up, mask_of, mode_of, name_of, outcome_of, policy_of, pool_of, protocol_of, type_kind, type_of, worded};
 
+use crate::answers::{kind_word, mode_word, policy_word};
 use crate::fault::FaultKind;
 use crate::setup::Protocol;
 use crate::words::is_word_byte;
@@ -26,17 +27,17 @@ const MAX_MESSAGE: usize = 65_535;
 const MAX_NUMBER: u64 = 4_294_967_295;
 
 /// The modes of a server.
-const MODES: [(Mode, &str); 3] = [(Mode::Up, "up"), (Mode::Down, "down"), (Mode::Auto, "auto")];
+const MODES: [Mode; 3] = [Mode::Up, Mode::Down, Mode::Auto];
 
 /// The policies of a pool.
-const POLICIES: [(Policy, &str); 3] = [
-    (Policy::FirstAvailable, "firstAvailable"),
-    (Policy::LeastOutstanding, "leastOutstanding"),
-    (Policy::RoundRobin, "roundrobin"),
+const POLICIES: [Policy; 3] = [
+    Policy::FirstAvailable,
+    Policy::LeastOutstanding,
+    Policy::RoundRobin,
 ];
 
 /// The transports.
-const KINDS: [(Kind, &str); 2] = [(Kind::Datagram, "udp"), (Kind::Stream, "tcp")];
+const KINDS: [Kind; 2] = [Kind::Datagram, Kind::Stream];
 
 /// Whether a probe was answered as it should be.
 const OUTCOMES: [(bool, &str); 2] = [(true, "ok"), (false, "fail")];
@@ -65,21 +66,30 @@ pub(crate) fn look_up<T: Copy>(table: &[(T, &str)], text: &[u8]) -> Option<T>
 pub(crate) fn mode_of(text: &[u8]) -> Option<Mode>
     ensures { result ≡ mode_of text.now }
 {
-    look_up(&MODES, text)
+    MODES
+        .iter()
+        .find(|mode| mode_word(**mode).as_bytes() == text)
+        .copied()
 }
 
 /// The policy that a word names.
 pub(crate) fn policy_of(text: &[u8]) -> Option<Policy>
     ensures { result ≡ policy_of text.now }
 {
-    look_up(&POLICIES, text)
+    POLICIES
+        .iter()
+        .find(|policy| policy_word(**policy).as_bytes() == text)
+        .copied()
 }
 
 /// The transport that a word names.
 pub(crate) fn kind_of(text: &[u8]) -> Option<Kind>
     ensures { result ≡ kind_of text.now }
 {
-    look_up(&KINDS, text)
+    KINDS
+        .iter()
+        .find(|kind| kind_word(**kind).as_bytes() == text)
+        .copied()
 }
 
 /// Whether a word says that a probe was answered as it should be.

@@ -1,6 +1,6 @@
 //! Names of servers and pools.
 
-ghost use Rattle.std.specs.Prelude.{◌≡◌, Some, None, bytes_eq, if◌then◌else◌};
+ghost use Rattle.std.specs.Prelude.{◌≡◌, Some, None, true, bytes_eq, if◌then◌else◌};
 ghost use Rattle.std.specs.List.{list_all};
 ghost use Rattle.lb_servers.specs.Ident.{is_ident, is_ident_byte};
 
@@ -71,6 +71,14 @@ impl Ident {
         ensures { result.now ≡ self.now }
     {
         self.text.as_str()
+    }
+
+    /// The bytes of a name are a name: a law, whose call does nothing but bring it to the caller's proof.
+    pub fn law_of_idents(&self)
+        ensures { is_ident self.now ≡ true }
+    {
+        // Read, so that what the name keeps true is at hand.
+        let _ = self.text.len();
     }
 
     /// An equal name.
