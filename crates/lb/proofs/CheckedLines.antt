@@ -1,12 +1,20 @@
 -- The lines of a text, applied one after the other.
-use Rattle.std.proofs.Common.{◌≡◌, ℕ, ◌+◌, ◌<◌, false, List, [], ◌∷◌, ◌++◌, length, Result, Ok, Err, IfErr, OnOk, refl, sym, ◌∙◌, ap, arith}
+use Rattle.std.proofs.Common.{◌≡◌, ℕ, ◌+◌, ◌<◌, List, [], ◌∷◌, ◌++◌, length, Option, None, Some, Ok, Err, IfErr, OnOk, inl, refl, sym, ◌∙◌, ap, arith, subst}
 use Rattle.std.proofs.lemmas.List.Splits.{length-slice_split, slice_split_at, slice_split_none}
-use Rattle.std.specs.List.{All, slice_split}
+use Rattle.std.specs.List.{slice_split}
 use Rattle.std.specs.Str.Lines.{lines_of_parts, strip_carriage_return}
-use Rattle.lb_core.specs.Plain.{Plain}
-use Rattle.lb.specs.Checking.{Applies, CheckEnd, IsApplied, all_applied, told_before, told_from_number}
+use Rattle.std.specs.Io.KnownBytes.{Keeps}
+use Rattle.std.specs.Prelude.{codes}
+use Rattle.lb_core.specs.Plain.{Plain, empty}
+use Rattle.lb_core.specs.Step.{Answers}
+use Rattle.lb_core.specs.declared.answer.Answer.{Answer}
+use Rattle.lb_core.specs.declared.command.Command.TheVariants.{Show}
+use Rattle.lb_core.specs.declared.event.Event.TheVariants.{Edit}
+use Rattle.lb_command.specs.Answers.{line_of}
+use Rattle.lb.specs.Checking.{Applies, CheckEnd, Checks, Fails, IsApplied, Shows, all_applied, told_before, told_from_number, told_lines}
 use Rattle.lb.specs.Shown.{is_line_feed}
 use Rattle.lb.specs.declared.checking.Halt.{Halt}
+use Rattle.lb.specs.declared.checking.Halt.TheVariants.{BadLine, Refused, Device, NoMemory}
 use Rattle.lb.proofs.ToldLines.{last_part}
 use Rattle.lb.proofs.Turns.{NoFeed}
 
@@ -43,3 +51,27 @@ line_then n rest line more stripped is none same =
     ap (λ (text : List ℕ). told_from_number n (text_lines text)) is
     ∙ ap (told_from_number n) (line_first line more none)
     ∙ ap (λ (first : List ℕ). told_before n first (told_from_number (n + 1) (text_lines more))) (sym same)
+
+-- nothing was written
+pub keeps_same : (a : Option (List ℕ)) → Keeps a a
+keeps_same None = tt
+keeps_same (Some xs) = refl
+
+-- a check that ended before its last line
+pub stopped_check : (text : List ℕ) (old new : Option (List ℕ)) (halt : Halt) (start end : Plain) → Keeps old new → start ≡ empty → (IsApplied (Err halt) → Applies (told_lines text) 0 start (Err halt) end) → Checks text old new (Err halt)
+stopped_check text old new (BadLine number fault) start end kept begins applied = record { end = end; applied = subst (λ (p : Plain). Applies (told_lines text) 0 p (Err (BadLine number fault)) end) begins (applied tt); unwritten = kept }
+stopped_check text old new (Refused number fault) start end kept begins applied = record { end = end; applied = subst (λ (p : Plain). Applies (told_lines text) 0 p (Err (Refused number fault)) end) begins (applied tt); unwritten = kept }
+stopped_check text old new Device start end kept begins applied = inl kept
+stopped_check text old new NoMemory start end kept begins applied = inl kept
+
+-- a check that ended by a failure
+pub failed_check : (text : List ℕ) (old new : Option (List ℕ)) (halt : Halt) → (IsApplied (Err halt) → ⊥) → Fails text old new → Checks text old new (Err halt)
+failed_check text old new (BadLine number fault) failed fails = absurd (failed tt)
+failed_check text old new (Refused number fault) failed fails = absurd (failed tt)
+failed_check text old new Device failed fails = fails
+failed_check text old new NoMemory failed fails = fails
+
+-- all lines were applied, and a line shows it
+pub shows_all : (text line : List ℕ) (start end last : Plain) (answer : Answer) → start ≡ empty → Applies (told_lines text) 0 start all_applied end → Answers end (Edit 0 Show) answer last → line ≡ line_of answer ++ codes "\n" → Shows text line
+shows_all text line start end last answer begins applied shown is =
+    record { end = end; applied = subst (λ (p : Plain). Applies (told_lines text) 0 p all_applied end) begins applied; answer = answer; last = last; shown = shown; is = is }

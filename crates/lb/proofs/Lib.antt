@@ -1,3 +1,5 @@
+pub mod Outputs
+pub mod Asked
 pub mod Replays
 pub mod Takes
 pub mod ToldLines

@@ -1,7 +1,7 @@
 -- What the check of a setup file does.
 use Rattle.std.specs.Prelude.{if◌then◌else◌, ◌≡◌, ◌⊎◌, ℕ, ◌+◌, Bool, true, false, ◌&&◌, nat_le, length, List, [], ◌∷◌, ◌++◌, codes, ⊤, Option, Some, None, Result, Ok, Err}
 use Rattle.std.specs.Fmt.{decimal}
-use Rattle.std.specs.Io.KnownBytes.{Appends}
+use Rattle.std.specs.Io.KnownBytes.{Appends, Keeps}
 use Rattle.std.specs.Str.Lines.{lines}
 use Rattle.lb_core.specs.declared.answer.Answer.{Answer}
 use Rattle.lb_core.specs.declared.answer.Answer.TheVariants as answers
@@ -11,7 +11,6 @@ use Rattle.lb_core.specs.declared.event.Event.TheVariants as events
 use Rattle.lb_core.specs.Plain.{Plain, empty}
 use Rattle.lb_core.specs.Step.{Answers}
 use Rattle.lb_command.specs.Answers.{line_of}
-use Rattle.lb_command.specs.Fault.{fault_name, fault_number}
 use Rattle.lb_command.specs.Line.{spaces_of}
 use Rattle.lb_command.specs.Reading.{max_line}
 use Rattle.lb_command.specs.Setup.{begins_listen, setup_of}
@@ -21,6 +20,7 @@ use Rattle.lb_command.specs.declared.setup.SetupLine.{SetupLine}
 use Rattle.lb_command.specs.declared.setup.SetupLine.TheVariants as setups
 use Rattle.lb.specs.Faults.{bad_line_text}
 use Rattle.lb.specs.Input.{is_told}
+use Rattle.lb.specs.Output.{WritesFront}
 use Rattle.lb.specs.declared.checking.Halt.{Halt}
 use Rattle.lb.specs.declared.checking.Halt.TheVariants.{BadLine, Refused, Device, NoMemory}
 
@@ -104,20 +104,32 @@ IsApplied (Err (Refused number fault)) = ⊤
 IsApplied (Err Device) = ⊥
 IsApplied (Err NoMemory) = ⊥
 
--- all told lines of a text were applied to an empty balancer, and the output grew by the line that shows it
-pub record Checks (text : List ℕ) (old new : Option (List ℕ)) : Type 0 where
+-- all told lines of a text were applied to an empty balancer, which a line then shows
+pub record Shows (text line : List ℕ) : Type 0 where
   pub end : Plain
   pub applied : Applies (told_lines text) 0 empty all_applied end
   pub answer : Answer
   pub last : Plain
   pub shown : Answers end (events.Edit 0 Show) answer last
-  pub written : Appends old new (line_of answer ++ codes "\n")
+  pub is : line ≡ line_of answer ++ codes "\n"
 
--- the told lines of a text were applied up to one that is at fault
-pub record StopsBy (text : List ℕ) (halt : Halt) : Type 0 where
+-- the told lines of a text were applied to an empty balancer up to one that is at fault, and nothing was written
+pub record StopsBy (text : List ℕ) (halt : Halt) (old new : Option (List ℕ)) : Type 0 where
   pub end : Plain
   pub applied : Applies (told_lines text) 0 empty (Err halt) end
-  pub at_line : IsApplied (Err halt)
+  pub unwritten : Keeps old new
+
+-- nothing was written, or a front of the line that shows the balancer
+abbrev pub Fails : List ℕ → Option (List ℕ) → Option (List ℕ) → Type 0
+Fails text old new = Keeps old new ⊎ ((line : List ℕ) × Shows text line × WritesFront old new line)
+
+-- the check of a text ended so, and this is what was applied and written by then
+abbrev pub Checks : List ℕ → Option (List ℕ) → Option (List ℕ) → CheckEnd → Type 0
+Checks text old new (Ok done) = (line : List ℕ) × Shows text line × Appends old new line
+Checks text old new (Err (BadLine number fault)) = StopsBy text (BadLine number fault) old new
+Checks text old new (Err (Refused number fault)) = StopsBy text (Refused number fault) old new
+Checks text old new (Err Device) = Fails text old new
+Checks text old new (Err NoMemory) = Fails text old new
 
 -- the line that tells what ended a check early
 abbrev pub halt_text : Halt → List ℕ
@@ -132,3 +144,17 @@ halt_status (BadLine number fault) = 1
 halt_status (Refused number fault) = 1
 halt_status Device = 3
 halt_status NoMemory = 3
+
+-- the same of a check that ended so
+abbrev pub check_status : CheckEnd → ℕ
+check_status (Ok done) = 0
+check_status (Err halt) = halt_status halt
+
+-- what is told of it
+abbrev pub check_text : CheckEnd → List ℕ
+check_text (Ok done) = []
+check_text (Err halt) = halt_text halt
+
+-- a check ended in some way, with its status, what it applied and wrote, and what it told
+abbrev pub EndsCheck : List ℕ → Option (List ℕ) → Option (List ℕ) → Option (List ℕ) → Option (List ℕ) → ℕ → Type 0
+EndsCheck text old new told_old told_new status = (end : CheckEnd) × (status ≡ check_status end) × Checks text old new end × WritesFront told_old told_new (check_text end)

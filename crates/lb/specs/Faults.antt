@@ -16,6 +16,12 @@ stop_text (BadLine number fault) = bad_line_text number fault
 stop_text Device = codes "device fault\n"
 stop_text NoMemory = codes "no memory\n"
 
+-- a device failed, or memory was wanting
+abbrev pub IsFailure : Stop → Type 0
+IsFailure (BadLine number fault) = ⊥
+IsFailure Device = ⊤
+IsFailure NoMemory = ⊤
+
 -- the exit status
 abbrev pub stop_status : Stop → ℕ
 stop_status (BadLine number fault) = 1

@@ -2,9 +2,11 @@ pub use Rattle.lb_wire.specs.Query
 pub use Rattle.lb_core.specs.Plain
 pub use Rattle.lb_core.specs.Step
 pub use Rattle.lb_core.specs.Runs
+pub mod Output
 pub mod Faults
 pub mod Shown
 pub mod Line
 pub mod Input
 pub mod Replaying
 pub mod Checking
+pub mod Program

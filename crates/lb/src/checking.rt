@@ -1,6 +1,6 @@
 //! Checking a setup file: its commands are applied to an empty balancer.
 
-ghost use Rattle.std.specs.Prelude.{◌≡◌, ◌≢◌, ◌≤◌, ◌++◌, List, ℕ, Err, IfErr, IfOk, OnOk, codes, string_bytes};
+ghost use Rattle.std.specs.Prelude.{◌≡◌, ◌≢◌, ◌++◌, List, ℕ, Err, IfErr, IfOk, OnOk, codes, string_bytes};
 ghost use Rattle.std.specs.Io.KnownBytes.{Appends};
 ghost use Rattle.std.specs.Str.Lines.{strip_carriage_return};
 ghost use Rattle.lb_core.specs.Plain.{Plain};
@@ -10,12 +10,15 @@ ghost use Rattle.lb_core.specs.declared.command.Command.{Command};
 ghost use Rattle.lb_core.specs.declared.command.Command.TheVariants.{Show};
 ghost use Rattle.lb_command.specs.Answers.{line_of};
 ghost use Rattle.lb_core.specs.declared.event.Event.TheVariants.{Edit};
-ghost use Rattle.lb.specs.Checking.{Applies, CheckEnd, Checks, IsApplied, StopsBy, halt_status, edit_end, halt_text, ninth_listener, refusal_of, told_before, told_lines};
+ghost use Rattle.lb.specs.Checking.{Applies, CheckEnd, Checks, EndsCheck, IsApplied, edit_end, halt_status, halt_text, ninth_listener, refusal_of, told_before, told_lines};
+ghost use Rattle.lb.specs.Output.{WritesFront};
 ghost use Rattle.lb.specs.declared.checking.Halt.{Halt};
 
-use crate::faults::write_bad_line;
+use crate::faults::{MAX_TEXT, write_bad_line};
 use crate::line::{LineKind, kind_of};
+use crate::output::write_line;
 use crate::shown::line_feed;
+use arrayvec::ArrayVec;
 use lb_command::{
     CommandFault, FaultKind, MAX_LINE, SetupLine, answer_line, begins_listen, leading_spaces,
     read_setup_line,
@@ -69,7 +72,7 @@ impl From<io::Error> for Halt {
     ghost use Rattle.std.specs.declared.io.ErrorKind.TheVariants as error_kinds;
     ghost use Rattle.lb.specs.declared.checking.Halt.TheVariants as halts;
 
-    ghost from_gives = { λ error e. (error_kind error ≡ error_kinds.OutOfMemory → e ≡ halts.NoMemory) × (error_kind error ≢ error_kinds.OutOfMemory → e ≡ halts.Device) };
+    ghost from_gives = { λ error e. (error_kind error ≡ error_kinds.OutOfMemory → e ≡ halts.NoMemory) × (error_kind error ≢ error_kinds.OutOfMemory → e ≡ halts.Device) × (IsApplied (Err e) → ⊥) };
 
     fn from(error: io::Error) -> Halt {
         if error.kind() == ErrorKind::OutOfMemory {
@@ -90,11 +93,7 @@ pub fn check<A: AllocGlobal, W: Write, F: Write>(
     output: &mut W,
     faults: &mut F,
 ) -> u8
-    // each told line was applied
-    ensures passed { result ≡ 0 → Checks text.now (W.contents output.old) (W.contents output.new) }
-    // each told line was applied up to one that does not read, or whose edit is refused
-    ensures stopped { result ≡ 1 → (halt : Halt) × StopsBy text.now halt }
-    ensures status { (result ≤ 3) × (result ≢ 2) }
+    ensures { EndsCheck text.now (W.contents output.old) (W.contents output.new) (F.contents faults.old) (F.contents faults.new) result }
 {
     let alloc = rt.alloc();
     match check_lines(alloc, text, output) {
@@ -108,14 +107,13 @@ pub fn check<A: AllocGlobal, W: Write, F: Write>(
 
 /// Applies the lines of a text, and writes the line that shows how much there is.
 fn check_lines<W: Write>(alloc: Global, text: &str, output: &mut W) -> Result<(), Halt>
-    ensures passed { OnOk result (Checks text.now (W.contents output.old) (W.contents output.new)) }
-    ensures stopped { IfErr result (λ halt. IsApplied (Err halt) → StopsBy text.now halt) }
+    ensures { Checks text.now (W.contents output.old) (W.contents output.new) result }
 {
     let mut balancer = Balancer::new(alloc)?;
     apply(alloc, text, &mut balancer)?;
     let shown = show(&mut balancer);
     let line = whole_line(alloc, &shown)?;
-    print(output, line.as_str())?;
+    write_line(output, line.as_bytes())?;
     Ok(())
 }
 
@@ -136,14 +134,6 @@ fn whole_line(alloc: Global, answer: &Answer) -> Result<String, AllocError>
     let mut text = answer_line(alloc, answer)?;
     text.push('\n')?;
     Ok(text)
-}
-
-/// Writes a text out.
-fn print<W: Write>(output: &mut W, text: &str) -> io::Result<()>
-    ensures { OnOk result (Appends (W.contents output.old) (W.contents output.new) text.now) }
-{
-    output.write_all(text.as_bytes())?;
-    output.flush()
 }
 
 /// Applies the lines of a text to a balancer.
@@ -256,10 +246,12 @@ fn refusal(answer: &Answer) -> Option<EditFault>
 
 /// Tells in one line what ended a check.
 fn tell<F: Write>(alloc: Global, halt: Halt, faults: &mut F) -> io::Result<()>
-    ensures { OnOk result (Appends (F.contents faults.old) (F.contents faults.new) (halt_text halt)) }
+    ensures front { WritesFront (F.contents faults.old) (F.contents faults.new) (halt_text halt) }
+    ensures all { OnOk result (Appends (F.contents faults.old) (F.contents faults.new) (halt_text halt)) }
 {
-    write_halt(alloc, halt, faults)?;
-    faults.flush()
+    let mut line: ArrayVec<u8, MAX_TEXT> = ArrayVec::new();
+    write_halt(alloc, halt, &mut line)?;
+    write_line(faults, line.as_slice())
 }
 
 /// Writes the line that tells what ended a check.

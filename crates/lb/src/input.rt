@@ -1,8 +1,8 @@
 //! The lines of an input, one after the other.
 
-ghost use Rattle.std.specs.Prelude.{◌≡◌, ◌+◌, IfOk, IfSome, OnOk};
+ghost use Rattle.std.specs.Prelude.{◌≡◌, ◌≢◌, ◌+◌, ◌↔◌, [], IfOk, IfSome, IsTrue, OnOk};
 ghost use Rattle.std.specs.Io.KnownBytes.{Keeps};
-ghost use Rattle.std.specs.Io.Buffered.{reader_remaining};
+ghost use Rattle.std.specs.Io.Buffered.{reader_buffer, reader_inner, reader_remaining};
 ghost use Rattle.lb.specs.Line.{IsFresh, IsSound};
 ghost use Rattle.lb.specs.Input.{Judges, Turns, told_read};
 
@@ -50,13 +50,18 @@ impl<R: Read + Drop> Lines<R> {
     }
 
     /// Whether the next turn reads from the input, and so may wait for it.
-    pub(crate) fn may_wait(&self) -> bool {
+    pub(crate) fn may_wait(&self) -> bool
+        ensures { IsTrue result ↔ (reader_buffer self.now.input ≡ []) }
+    {
         self.input.buffer().is_empty()
     }
 
-    /// Takes what the input shows of a line. Where the line ends there, it is judged.
-    pub(crate) fn turn(&mut self, alloc: Global) -> Result<Turn, Stop>
-        ensures { IsSound self.old.line → IfSome (reader_remaining R.remaining self.old.input) (λ bytes. Turns self.old.ended self.old.line bytes result self.new.ended self.new.line (reader_remaining R.remaining self.new.input)) }
+    /// Takes what the input shows of a line. Where the line ends there, it is judged. Only where no byte of the input is at hand is it
+    /// read from, which may wait: then no answer may be held.
+    pub(crate) fn turn(&mut self, alloc: Global, _held: &[u8]) -> Result<Turn, Stop>
+        requires { reader_buffer self.old.input ≡ [] → _held.now ≡ [] }
+        ensures turns { IsSound self.old.line → IfSome (reader_remaining R.remaining self.old.input) (λ bytes. Turns self.old.ended self.old.line bytes result self.new.ended self.new.line (reader_remaining R.remaining self.new.input)) }
+        ensures unread { reader_buffer self.old.input ≢ [] → reader_inner self.new.input ≡ reader_inner self.old.input }
     {
         match self.line.read(&mut self.input)? {
             Shown::Piece => match self.line.shed() {

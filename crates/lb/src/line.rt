@@ -1,7 +1,7 @@
 //! A line as it is read.
 
-ghost use Rattle.std.specs.Prelude.{◌≡◌, ◌+◌, ◌-◌, ◌<◌, ◌≤◌, ◌++◌, [], Some, false, length, IfOk, IfSome, OnOk, IsTrue, ◌↔◌, slice_index};
-ghost use Rattle.std.specs.Io.Buffered.{reader_remaining};
+ghost use Rattle.std.specs.Prelude.{◌≡◌, ◌≢◌, ◌+◌, ◌-◌, ◌<◌, ◌≤◌, ◌++◌, [], Some, false, length, IfOk, IfSome, OnOk, IsTrue, ◌↔◌, slice_index};
+ghost use Rattle.std.specs.Io.Buffered.{reader_buffer, reader_inner, reader_remaining};
 ghost use Rattle.std.specs.Str.Lines.{strip_carriage_return};
 ghost use Rattle.lb.specs.Shown.{Takes};
 ghost use Rattle.lb.specs.Line.{IsFresh, Sheds, kind_with, kind_of as kind_of_bytes};
@@ -95,6 +95,7 @@ impl Line {
     pub(crate) fn read<R: Read>(&mut self, input: &mut BufReader<R>) -> io::Result<Shown>
         ensures shown { IfSome (reader_remaining R.remaining input.old) (λ bytes. IfOk result (λ shown. Takes self.old.bytes.items bytes shown self.new.bytes.items (reader_remaining R.remaining input.new))) }
         ensures kind { (self.new.kind ≡ self.old.kind) × (self.new.is_long ≡ self.old.is_long) }
+        ensures unread { reader_buffer input.old ≢ [] → reader_inner input.new ≡ reader_inner input.old }
     {
         match take_shown(input, &mut self.bytes) {
             Err(error) if error.kind() == ErrorKind::Interrupted => Ok(Shown::Piece),

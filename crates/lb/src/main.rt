@@ -1,11 +1,18 @@
-//! The program `lb`: it replays lines of events from standard input over one balancer, and writes one line for each
-//! answer to standard output.
+//! The program `lb`: it replays lines of events over one balancer, and checks setup files.
 #![tactic(auto)]
 
 mod checking;
+#[cfg(test)]
+mod examples;
 mod faults;
 mod input;
 mod line;
+#[cfg(test)]
+mod long_rows;
+mod output;
+mod program;
+#[cfg(test)]
+mod program_tests;
 mod replaying;
 #[cfg(test)]
 mod rows;
@@ -13,12 +20,30 @@ mod shown;
 #[cfg(test)]
 mod tests;
 
+use crate::faults::Stop;
+use crate::program::{fail, refuse_words};
 pub use checking::check;
+pub use program::{Mode, choose, run};
 pub use replaying::replay;
+use std::env::Env;
+use std::io::ErrorKind;
 use std::process::ExitCode;
+use std::{env, io};
 
 fn main(rt: HostRuntime) -> ExitCode {
     let mut output = rt.stdout();
     let mut faults = rt.stderr();
-    ExitCode::from(replay(&rt, rt.stdin(), &mut output, &mut faults))
+    let status = match words(&rt) {
+        Ok(words) => run(&rt, words.as_slice(), rt.stdin(), &mut output, &mut faults),
+        Err(error) if error.kind() == ErrorKind::InvalidData => refuse_words(&mut faults),
+        Err(error) => fail(Stop::from(error), &mut faults),
+    };
+    ExitCode::from(status)
+}
+
+/// The words of the command line behind the program's name. One that is not UTF-8 is the error `InvalidData`.
+fn words<T: Env + AllocGlobal>(rt: &T) -> io::Result<Vec<String>> {
+    let mut words = env::args(rt)?;
+    words.next();
+    Ok(words.collect(rt.alloc())?)
 }

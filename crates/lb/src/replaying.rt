@@ -1,18 +1,17 @@
 //! Replaying lines: each is an event of one balancer, and each answer becomes a line.
 
-ghost use Rattle.std.specs.Prelude.{◌≡◌, ◌≢◌, ◌≤◌, ◌++◌, [], List, ℕ, Option, codes, OnOk, IsTrue};
-ghost use Rattle.std.specs.Io.KnownBytes.{Appends};
+ghost use Rattle.std.specs.Prelude.{◌≡◌, ◌++◌, [], List, codes, OnErr, OnOk, IsTrue};
 ghost use Rattle.lb_core.specs.Plain.{Plain};
 ghost use Rattle.lb_core.specs.Step.{Answers};
 ghost use Rattle.lb_core.specs.declared.answer.Answer.{Answer};
 ghost use Rattle.lb_core.specs.declared.event.Event.{Event};
 ghost use Rattle.lb_command.specs.Answers.{line_of};
-ghost use Rattle.lb_command.specs.declared.fault.CommandFault.{CommandFault};
-ghost use Rattle.lb.specs.Faults.{stop_text, stop_status};
-ghost use Rattle.lb.specs.Replaying.{Answered, IsJudged, ReadUpTo, Replays, at_end, stopped_at};
+ghost use Rattle.lb.specs.Output.{Writes};
+ghost use Rattle.lb.specs.Replaying.{Answered, EndsReplay, ReadUpTo, Replays};
 
-use crate::faults::{Stop, write_bad_line};
+use crate::faults::{Stop, tell};
 use crate::input::{Lines, Turn};
+use crate::output::write_out;
 use lb_command::answer_line;
 use lb_core::{Balancer, Event};
 use std::alloc::{AllocError, Global};
@@ -30,11 +29,7 @@ pub fn replay<A: AllocGlobal, R: Read + Drop, W: Write, F: Write>(
     output: &mut W,
     faults: &mut F,
 ) -> u8
-    // each told line was an event
-    ensures ended { result ≡ 0 → Replays (R.remaining input) (W.contents output.old) (W.contents output.new) at_end }
-    // each told line was an event, up to the one with this number, which does not read
-    ensures stopped { result ≡ 1 → (number : ℕ) × (fault : CommandFault) × Replays (R.remaining input) (W.contents output.old) (W.contents output.new) (stopped_at number fault) }
-    ensures status { (result ≤ 3) × (result ≢ 2) }
+    ensures { EndsReplay (R.remaining input) (W.contents output.old) (W.contents output.new) (F.contents faults.old) (F.contents faults.new) result }
 {
     match replay_lines(rt.alloc(), input, output) {
         Ok(()) => 0,
@@ -51,7 +46,7 @@ fn replay_lines<R: Read + Drop, W: Write>(
     input: R,
     output: &mut W,
 ) -> Result<(), Stop>
-    ensures { IsJudged result → Replays (R.remaining input) (W.contents output.old) (W.contents output.new) result }
+    ensures { Replays (R.remaining input) (W.contents output.old) (W.contents output.new) result }
 {
     let mut held = Vec::new(alloc);
     let result = answer_lines(alloc, input, output, &mut held);
@@ -67,13 +62,13 @@ fn answer_lines<R: Read + Drop, W: Write>(
     held: &mut Vec<u8>,
 ) -> Result<(), Stop>
     requires { held.old.items ≡ [] }
-    ensures { IsJudged result → (end : Plain) × (events : List Event) × Answered (W.contents output.old) (W.contents output.new) held.new.items end events × ReadUpTo (R.remaining input) events result }
+    ensures { (end : Plain) × (events : List Event) × Answered (W.contents output.old) (W.contents output.new) held.new.items end events × ReadUpTo (R.remaining input) events result }
 {
     let mut balancer = Balancer::new(alloc)?;
     let mut lines = Lines::new(alloc, input)?;
     'turns: for _ in 0..u64::MAX {
         write_if(lines.may_wait(), output, held)?;
-        match lines.turn(alloc)? {
+        match lines.turn(alloc, held.as_slice())? {
             Turn::Nothing => {}
             Turn::Event(event) => answer(alloc, &mut balancer, held, event)?,
             Turn::End => return Ok(()),
@@ -82,14 +77,15 @@ fn answer_lines<R: Read + Drop, W: Write>(
     Err(Stop::Device)
 }
 
-/// Steps the balancer, and holds the answer's line. The one error is want of memory.
+/// Steps the balancer, and holds the answer's line. The one error is want of memory; then nothing more is held.
 fn answer(
     alloc: Global,
     balancer: &mut Balancer,
     held: &mut Vec<u8>,
     event: Event,
 ) -> Result<(), AllocError>
-    ensures { OnOk result ((answer : Answer) × Answers balancer.old event answer balancer.new × (held.new.items ≡ held.old.items ++ (line_of answer ++ codes "\n"))) }
+    ensures answered { OnOk result ((answer : Answer) × Answers balancer.old event answer balancer.new × (held.new.items ≡ held.old.items ++ (line_of answer ++ codes "\n"))) }
+    ensures same { OnErr result (held.new.items ≡ held.old.items) }
 {
     let answer = balancer.step(event);
     let mut text = answer_line(alloc, &answer)?;
@@ -97,46 +93,14 @@ fn answer(
     held.extend_from_slice(text.as_bytes())
 }
 
-/// Writes out what is held.
-fn write_out<W: Write>(output: &mut W, held: &mut Vec<u8>) -> io::Result<()>
-    ensures written { OnOk result (Appends (W.contents output.old) (W.contents output.new) held.old.items) }
-    ensures empty { OnOk result (held.new.items ≡ []) }
-{
-    if held.is_empty() {
-        return Ok(());
-    }
-    output.write_all(held.as_slice())?;
-    held.clear();
-    output.flush()
-}
-
 /// Writes out what is held, if the input may now be waited for.
 fn write_if<W: Write>(waits: bool, output: &mut W, held: &mut Vec<u8>) -> io::Result<()>
-    ensures kept { OnOk result ((first : Option (List ℕ)) (end : Plain) (events : List Event) → Answered first (W.contents output.old) held.old.items end events → Answered first (W.contents output.new) held.new.items end events) }
-    ensures written { OnOk result (IsTrue waits → held.new.items ≡ []) }
+    ensures front { Writes (W.contents output.old) (W.contents output.new) held.old.items held.new.items }
+    ensures all { OnOk result (IsTrue waits → held.new.items ≡ []) }
 {
     if waits {
         write_out(output, held)
     } else {
         Ok(())
-    }
-}
-
-/// Tells in one line what ended a replay.
-fn tell<F: Write>(stop: Stop, faults: &mut F) -> io::Result<()>
-    ensures { OnOk result (Appends (F.contents faults.old) (F.contents faults.new) (stop_text stop)) }
-{
-    write_stop(stop, faults)?;
-    faults.flush()
-}
-
-/// Writes the line that tells what ended a replay.
-fn write_stop<F: Write>(stop: Stop, faults: &mut F) -> io::Result<()>
-    ensures { OnOk result (Appends (F.contents faults.old) (F.contents faults.new) (stop_text stop)) }
-{
-    match stop {
-        Stop::BadLine { number, fault } => write_bad_line(number, fault, faults),
-        Stop::Device => faults.write_all(b"device fault\n"),
-        Stop::NoMemory => faults.write_all(b"no memory\n"),
     }
 }

@@ -1,8 +1,8 @@
 //! What an input shows of a line.
 
-ghost use Rattle.std.specs.Prelude.{◌≡◌, ℕ, ◌+◌, ◌<◌, ◌++◌, ◌∷◌, List, Some, false, take, drop, length, IfOk, IfSome, IfNone, OnErr};
+ghost use Rattle.std.specs.Prelude.{◌≡◌, ◌≢◌, [], ℕ, ◌+◌, ◌<◌, ◌++◌, ◌∷◌, List, Some, false, take, drop, length, IfOk, IfSome, IfNone, OnErr};
 ghost use Rattle.std.specs.List.{All};
-ghost use Rattle.std.specs.Io.Buffered.{reader_remaining};
+ghost use Rattle.std.specs.Io.Buffered.{reader_buffer, reader_inner, reader_remaining};
 ghost use Rattle.lb.specs.Shown.{Takes, is_line_feed};
 
 use std::io;
@@ -19,15 +19,20 @@ pub(crate) enum Shown {
     End,
 }
 
-/// Moves the rest of a line, as far as the input shows it, behind these bytes. After an error nothing is moved.
+/// Moves the rest of a line, as far as the input shows it, behind these bytes. After an error nothing is moved. Where bytes
+/// of the input are at hand, no more are read.
 pub(crate) fn take_shown<R: Read>(
     input: &mut BufReader<R>,
     bytes: &mut Vec<u8>,
 ) -> io::Result<Shown>
     ensures ok { IfSome (reader_remaining R.remaining input.old) (λ all. IfOk result (λ shown. Takes bytes.old.items all shown bytes.new.items (reader_remaining R.remaining input.new))) }
     ensures err { IfSome (reader_remaining R.remaining input.old) (λ all. OnErr result ((reader_remaining R.remaining input.new ≡ Some all) × (bytes.new.items ≡ bytes.old.items))) }
+    ensures unread { reader_buffer input.old ≢ [] → reader_inner input.new ≡ reader_inner input.old }
 {
-    let shown = input.fill_buf()?;
+    if input.buffer().is_empty() {
+        input.fill_buf()?;
+    }
+    let shown = input.buffer();
     if shown.is_empty() {
         return Ok(Shown::End);
     }

@@ -1,11 +1,14 @@
 //! Replays over readers and writers in memory.
 
+use crate::examples::REPLAYS as EXAMPLES;
+use crate::long_rows::{LongRow, addresses_4096, moves_200, rules_4097};
+use crate::replay;
 use crate::rows::{
     CACHES, KEPT, LINES_OF_REPLAYS, MESSAGES, MORE_CACHES, MORE_RULES, MORE_SERVERS,
     REFUSED_BY_TYPE, REPLIES, RULES, Row, SERVERS, TIMES,
 };
-use crate::{check, replay};
 use std::alloc::AllocError;
+use std::cell::Cell;
 use std::io;
 use std::io::{Cursor, ErrorKind, Read, Write};
 use std::process::Abort;
@@ -57,6 +60,77 @@ impl Write for Closing {
             }
             None => Err(io::Error::from(self.kind)),
         }
+    }
+
+    fn flush(&mut self) -> io::Result<()> {
+        Ok(())
+    }
+}
+
+/// Gives a line a read, and fails if the answers to the lines before are not flushed.
+#[derive(Drop)]
+struct Asking<'a> {
+    lines: &'a [&'a str],
+    asked: usize,
+    flushes: &'a Cell<usize>,
+}
+
+impl Read for Asking<'_> {
+    fn read(&mut self, buf: &mut [u8]) -> io::Result<usize> {
+        if self.flushes.get() != self.asked {
+            return Err(io::Error::from(ErrorKind::TimedOut));
+        }
+        let Some(line) = self.lines.get(self.asked) else {
+            return Ok(0);
+        };
+        self.asked += 1;
+        let mut line = line.as_bytes();
+        line.read(buf)
+    }
+}
+
+/// Counts the flushes of what was written.
+#[derive(Drop)]
+struct Flushing<'a> {
+    is_pending: bool,
+    flushes: &'a Cell<usize>,
+}
+
+impl Write for Flushing<'_> {
+    fn write(&mut self, buf: &[u8]) -> io::Result<usize> {
+        self.is_pending = true;
+        Ok(buf.len())
+    }
+
+    fn flush(&mut self) -> io::Result<()> {
+        if self.is_pending {
+            self.is_pending = false;
+            self.flushes.set(self.flushes.get().saturating_add(1));
+        }
+        Ok(())
+    }
+}
+
+/// Takes 25 bytes, fails once, and takes the others seven at a time.
+#[derive(Drop)]
+struct Stuttering {
+    written: Vec<u8>,
+    has_failed: bool,
+}
+
+impl Write for Stuttering {
+    fn write(&mut self, buf: &[u8]) -> io::Result<usize> {
+        let most = match (self.written.len(), self.has_failed) {
+            (25.., false) => {
+                self.has_failed = true;
+                return Err(io::Error::from(ErrorKind::WouldBlock));
+            }
+            (len, false) => 25 - len,
+            (_, true) => 7,
+        };
+        let (taken, _) = buf.split_at(buf.len().min(most));
+        self.written.extend_from_slice(taken)?;
+        Ok(taken.len())
     }
 
     fn flush(&mut self) -> io::Result<()> {
@@ -149,6 +223,28 @@ fn replies_are_kept(rt: HostRuntime) {
 #[test]
 fn replies_are_cut(rt: HostRuntime) {
     expect_rows(&rt, &REPLIES);
+}
+
+#[test]
+fn examples_are_replayed(rt: HostRuntime) {
+    expect_rows(&rt, &EXAMPLES);
+}
+
+#[test]
+fn rules_are_many(rt: HostRuntime) -> Result<(), Fail> {
+    let row = rules_4097(rt.alloc())?;
+    expect_long(&rt, "4,097 rules", &row);
+    let row = addresses_4096(rt.alloc())?;
+    expect_long(&rt, "4,096 addresses", &row);
+    let row = moves_200(rt.alloc())?;
+    expect_long(&rt, "200 moves", &row);
+    Ok(())
+}
+
+/// Replays a row that ends well.
+fn expect_long<T: Abort + AllocGlobal>(rt: &T, name: &str, row: &LongRow) {
+    let input = row.input.as_bytes();
+    expect(rt, name, input, 0, row.output.as_str(), "");
 }
 
 #[test]
@@ -491,6 +587,47 @@ fn devices_that_fail_are_told(rt: HostRuntime) {
     assert_eq!(rt; ended, 1);
 }
 
+#[test]
+fn answers_are_out_before_more_input_is_waited_for(rt: HostRuntime) {
+    let flushes = Cell::new(0);
+    let lines = [
+        "edit 0 rule add qtype(A) rcode(REFUSED)\n",
+        "edit 0 rule remove 1\n",
+        "edit 0 show\n",
+    ];
+    let asking = Asking {
+        lines: &lines,
+        asked: 0,
+        flushes: &flushes,
+    };
+    let mut output = Flushing {
+        is_pending: false,
+        flushes: &flushes,
+    };
+    let mut told: Vec<u8> = Vec::new(rt.alloc());
+    let ended = replay(&rt, asking, &mut output, &mut told);
+    assert_eq!(rt; ended, 0);
+    assert_eq!(rt; flushes.get(), 3);
+}
+
+#[test]
+fn nothing_is_written_twice(rt: HostRuntime) {
+    let mut output = Stuttering {
+        written: Vec::new(rt.alloc()),
+        has_failed: false,
+    };
+    let mut told: Vec<u8> = Vec::new(rt.alloc());
+    let ended = replay(
+        &rt,
+        REFUSED_BY_TYPE.input.as_bytes(),
+        &mut output,
+        &mut told,
+    );
+    assert_eq!(rt; ended, 3);
+    assert!(rt; told.as_slice() == b"device fault\n".as_slice());
+    assert!(rt; output.written.as_slice() == REFUSED_BY_TYPE.output.as_bytes());
+}
+
 /// Run it with `rt try --test --fail-alloc N`: where memory is wanting, that is what is said.
 #[test]
 fn wanting_memory_is_told(rt: HostRuntime) {
@@ -519,69 +656,4 @@ fn wanting_memory_is_told(rt: HostRuntime) {
         "status {ended} with {written} and {told} bytes"
     );
     let _ = rt.println(format_args!("status {ended}, {written} bytes written, {told} told"));
-}
-
-/// Setup files, with the status, the output and the faults of their check.
-const CHECKS: [(&str, u8, &str, &str); 8] = [
-    (
-        "rule add all drop\nserver add s1 127.0.0.1 5301\n",
-        0,
-        "edited rules 1 servers 1 pools 1 caches 0 outstanding 0 kept 0\n",
-        "",
-    ),
-    (
-        "listen udp 127.0.0.1 5300\nlisten udp 127.0.0.1 5300\nlisten udp 127.0.0.1 5300\nlisten udp 127.0.0.1 5300\nlisten udp 127.0.0.1 5300\nlisten udp 127.0.0.1 5300\nlisten udp 127.0.0.1 5300\nlisten udp 127.0.0.1 5300\nlog 5\nlog 6\n",
-        0,
-        "edited rules 0 servers 0 pools 1 caches 0 outstanding 0 kept 0\n",
-        "",
-    ),
-    ("show x\n", 1, "", "line 1: at 5: 3 Extra\n"),
-    (
-        "listen udp ::1 1\nlisten udp ::1 2\nlisten udp ::1 3\nlisten udp ::1 4\nlisten udp ::1 5\nlisten udp ::1 6\nlisten udp ::1 7\nlisten udp ::1 8\n  listen tls\n",
-        1,
-        "",
-        "line 9: at 2: 3 Extra\n",
-    ),
-    (
-        "\n# x\nshow\nrule add all drop\r\nrule remove 2",
-        1,
-        "",
-        "line 5: refused rules 1 NoSuchRule\n",
-    ),
-    (
-        "listen udp 127.0.0.1 5300\nlisten udp 127.0.0.1 5300\nlisten udp 127.0.0.1 5300\nlisten udp 127.0.0.1 5300\nlisten udp 127.0.0.1 5300\nlisten udp 127.0.0.1 5300\nlisten udp 127.0.0.1 5300\nlisten udp 127.0.0.1 5300\nlisten udp 127.0.0.1 5300\n",
-        1,
-        "",
-        "line 9: at 0: 3 Extra\n",
-    ),
-    (
-        "rule remove 9\n",
-        1,
-        "",
-        "line 1: refused rules 1 NoSuchRule\n",
-    ),
-    (
-        "show\r\nrule add all drop\r\nlog 7\r\n  listen doh ::1 443\r",
-        1,
-        "",
-        "line 4: at 20: 1 UnknownWord\n",
-    ),
-];
-
-#[test]
-fn setup_files_are_checked(rt: HostRuntime) {
-    for (text, status, output, faults) in &CHECKS {
-        let mut written: Vec<u8> = Vec::new(rt.alloc());
-        let mut told: Vec<u8> = Vec::new(rt.alloc());
-        let ended = check(&rt, text, &mut written, &mut told);
-        assert!(rt;
-            written.as_slice() == output.as_bytes(),
-            "the output of {text}"
-        );
-        assert!(rt;
-            told.as_slice() == faults.as_bytes(),
-            "the faults of {text}"
-        );
-        assert_eq!(rt; ended, *status, "the status of {text}");
-    }
 }

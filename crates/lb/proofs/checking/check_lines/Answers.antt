@@ -1,15 +1,20 @@
-use Rattle.std.proofs.Common.{List, ℕ, ◌∙◌, subst}
-use Rattle.std.specs.Io.KnownBytes.{Appends}
-use Rattle.lb_core.specs.Plain.{Plain}
-use Rattle.lb.specs.Checking.{Applies, all_applied, told_lines}
+use Rattle.std.proofs.Common.{inl, inr, ◌∙◌}
+use Rattle.std.proofs.lemmas.Result.{err_from_is_err_and}
+use Rattle.lb.proofs.CheckedLines.{failed_check, keeps_same, shows_all}
 use Rattle.lb.proofs.checking.check_lines.Goals as goal
 
-pub returns-clause-passed : goal.returns-clause-passed
-returns-clause-passed g c = record {
-  end = c.apply.new.balancer;
-  applied = subst (λ (p : Plain). Applies (told_lines c.args.text.now) 0 p all_applied c.apply.new.balancer) c.in_ok-balancer.ensures (c.in_ok-apply.ensures tt);
-  answer = c.show-shown.result;
-  last = c.show-shown.new.balancer;
-  shown = c.show-shown.ensures;
-  written = subst (λ (bytes : List ℕ). Appends (g.W.Write.contents c.args.output.now) (g.W.Write.contents c.print.new.output) bytes) (c.as_str.ensures.value ∙ c.in_ok-line.ensures) c.in_ok-print.ensures;
-}
+pub returns-in_err-line : goal.returns-in_err-line
+returns-in_err-line g c =
+    let p = err_from_is_err_and c.from_residual-in_err-line.result c.from_residual-in_err-line.ensures.1 in
+    rw (p.1, p.2) (inl (keeps_same (g.W.Write.contents c.args.output.now)))
+
+pub returns-in_err-write_line : goal.returns-in_err-write_line
+returns-in_err-write_line g c =
+    let p = err_from_is_err_and c.from_residual-in_err-write_line.result c.from_residual-in_err-write_line.ensures.1 in
+    let shows = shows_all c.args.text.now c.as_bytes.result.now _ c.apply.new.balancer _ _ c.in_ok-balancer.ensures (c.in_ok-apply.ensures tt) c.show-shown.ensures (c.as_bytes.ensures.value ∙ c.in_ok-line.ensures) in
+    rw p.1 (failed_check c.args.text.now _ _ p.0 p.2.2 (inr (c.as_bytes.result.now, shows, c.in_err-write_line.ensures.front)))
+
+pub returns : goal.returns
+returns g c =
+    let shows = shows_all c.args.text.now c.as_bytes.result.now _ c.apply.new.balancer _ _ c.in_ok-balancer.ensures (c.in_ok-apply.ensures tt) c.show-shown.ensures (c.as_bytes.ensures.value ∙ c.in_ok-line.ensures) in
+    (c.as_bytes.result.now, shows, c.in_ok-write_line.ensures.all)

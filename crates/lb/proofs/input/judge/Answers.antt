@@ -1,5 +1,5 @@
 use Rattle.std.proofs.Common.{◌≡◌, sym, ap, ◌∙◌, refl, List, ℕ, inr, true}
-use Rattle.lb.specs.Input.{reading_of, told_read, too_long}
+use Rattle.lb.specs.Input.{too_long}
 use Rattle.lb.specs.Line.{kind_with}
 use Rattle.lb.specs.declared.line.LineKind.TheVariants.{Told}
 use Rattle.lb.proofs.ToldLines.{told_when}
