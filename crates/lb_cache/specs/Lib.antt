@@ -1,3 +1,4 @@
+pub use Rattle.lb_wire.specs.Octets
 pub use Rattle.lb_wire.specs.Message
 pub use Rattle.lb_wire.specs.Aging
 pub use Rattle.lb_name.specs.Name

@@ -1,9 +1,10 @@
 //! The cache.
 
-ghost use Rattle.std.specs.Prelude.{◌≡◌, ◌<◌, ◌≤◌, true, false, not, [], length, None, Some, IfOk, IfErr, option_map, set, slice_get, vec_len};
+ghost use Rattle.std.specs.Prelude.{◌≡◌, ◌<◌, ◌≤◌, true, false, not, [], length, None, Some, IfOk, IfErr, IfSome, option_map, set, slice_get, vec_len};
 ghost use Rattle.std.specs.List.{count_by, filter, find, insert, list_any};
 ghost use Rattle.std.specs.List.Sorted.{IsPartitionPoint};
 ghost use Rattle.std.specs.Vec.{vec_capacity};
+ghost use Rattle.lb_wire.specs.Octets.{max_message};
 ghost use Rattle.lb_cache.specs.Cache.{Ascends, empty_cache, expunged, kept_for, kept_with, lacks, looked, placed, written};
 ghost use Rattle.lb_cache.specs.Question.{covers_all, covers_name, covers_suffix};
 ghost use Rattle.lb_cache.specs.Reply.{has_key, has_other, is_before, is_dead, lives, renewed};
@@ -76,7 +77,8 @@ fn any_dead(replies: &[CachedReply], now: u64) -> bool
 
 /// Puts new octets in the place of a kept reply's, under its own key.
 fn replace(replies: &mut Vec<CachedReply>, at: usize, bytes: &[u8], life: u32, now: u64) -> Kept
-    requires { at < vec_len replies.old }
+    requires there { at < vec_len replies.old }
+    requires short { length bytes.now ≤ max_message }
     ensures { (o : CachedReply) → slice_get replies.old.items at ≡ Some o → (replies.new.items, result) ≡ written (lacks result) replies.old.items (set replies.old.items at (renewed o bytes.now life now)) }
 {
     let Ok(bytes) = Vec::from_slice(*replies.allocator(), bytes) else {
@@ -95,7 +97,8 @@ fn add(
     life: u32,
     now: u64,
 ) -> Kept
-    requires { at ≤ vec_len replies.old }
+    requires within { at ≤ vec_len replies.old }
+    requires short { length bytes.now ≤ max_message }
     ensures { (replies.new.items, result) ≡ written (lacks result) replies.old.items (insert replies.old.items at (record { key = key; bytes = bytes.now; moment = now; life = life })) }
 {
     let Ok(bytes) = Vec::from_slice(*replies.allocator(), bytes) else {
@@ -125,6 +128,7 @@ fn purge(replies: &mut Vec<CachedReply>, now: u64)
 fn add_for_dead(replies: &mut Vec<CachedReply>, key: Key, bytes: &[u8], life: u32, now: u64) -> Kept
     requires order { Ascends replies.old.items }
     requires dead { list_any (is_dead now) replies.old.items ≡ true }
+    requires short { length bytes.now ≤ max_message }
     ensures { (replies.new.items, result) ≡ written (lacks result) replies.old.items (placed (record { key = key; bytes = bytes.now; moment = now; life = life }) (filter (lives now) replies.old.items)) }
 {
     let Ok(bytes) = Vec::from_slice(*replies.allocator(), bytes) else {
@@ -192,7 +196,8 @@ impl Cache {
     /// The octets that are kept under a key and live at a moment, in milliseconds, and how many whole seconds ago they came:
     /// 0 before that. It takes no memory.
     pub fn look(&self, key: &Key, now: u64) -> Option<Hit<'_>>
-        ensures { option_map (λ hit. (hit.bytes.now, hit.secs)) result ≡ looked self.now.replies key.now now }
+        ensures found { option_map (λ hit. (hit.bytes.now, hit.secs)) result ≡ looked self.now.replies key.now now }
+        ensures short { IfSome result (λ hit. length hit.bytes.now ≤ max_message) }
     {
         match place_of(self.replies.as_slice(), key) {
             Ok(at) => self.replies[at].hit(now),
@@ -203,6 +208,7 @@ impl Cache {
     /// Keeps a reply that came at a moment, in milliseconds, and lives so many seconds. One with its key is replaced. A full
     /// cache gives up its dead replies, and has no room where it has none. `NoMemory` comes last, and changes nothing.
     pub fn put(&mut self, key: Key, bytes: &[u8], life: u32, now: u64) -> Kept
+        requires { length bytes.now ≤ max_message }
         ensures { (self.new, result) ≡ kept_with (lacks result) self.old (record { key = key; bytes = bytes.now; moment = now; life = life }) now }
     {
         match place_of(self.replies.as_slice(), &key) {

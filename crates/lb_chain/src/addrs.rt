@@ -1,6 +1,6 @@
 //! The addresses of an answer that a rule states.
 
-ghost use Rattle.std.specs.Prelude.{◌≡◌, ◌<◌, ◌≤◌, IfSome, IfNone, length, nat_le, ◌&&◌, Some, None, if◌then◌else◌};
+ghost use Rattle.std.specs.Prelude.{◌≡◌, ◌<◌, ◌≤◌, IfSome, IfNone, IsTrue, length, nat_le, ◌&&◌, Some, None, if◌then◌else◌};
 
 use lb_wire::Addr;
 use std::marker::Model;
@@ -56,5 +56,13 @@ impl Addrs {
     {
         let (addrs, _) = self.items.split_at(self.count);
         addrs
+    }
+
+    /// Whether the addresses are equal, in order.
+    pub fn equals(&self, other: &Addrs) -> bool
+        ensures equal { IsTrue result → self.now ≡ other.now }
+        ensures found { self.now ≡ other.now → IsTrue result }
+    {
+        self.as_slice() == other.as_slice()
     }
 }

@@ -8,6 +8,7 @@ use Rattle.std.specs.Char.{is_ascii_digit}
 use Rattle.std.specs.declared.num.NonZeroU8.{NonZeroU8}
 use Rattle.hex.specs.Hex.{decode_of}
 use Rattle.lb_name.specs.Text.{name_of_text}
+use Rattle.lb_wire.specs.Octets.{max_message}
 use Rattle.lb_wire.specs.RecordType.{type_of_name}
 use Rattle.lb_wire.specs.Rcode.{rcode_of_name}
 use Rattle.lb_wire.specs.declared.addr.Addr.{Addr}
@@ -147,4 +148,4 @@ protocol_of text = looked_up protocol_words text
 abbrev pub hex_of : List ℕ → Option (List ℕ)
 hex_of text =
     if bytes_eq text (codes "-") then Some []
-    else (if length text == 0 || nat_lt (2 * 65535) (length text) then None else result_ok (decode_of text))
+    else (if length text == 0 || nat_lt (2 * max_message) (length text) then None else result_ok (decode_of text))

@@ -11,8 +11,6 @@ mod options;
 mod parts;
 mod setup;
 mod terms;
-#[cfg(test)]
-mod tests;
 mod values;
 mod words;
 

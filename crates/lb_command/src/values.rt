@@ -15,13 +15,10 @@ use lb_core::Timeout;
 use lb_masks::{Mask, decimal_up_to, parse_addr};
 use lb_name::Name;
 use lb_servers::{Ident, Mode, Policy, PoolName};
-use lb_wire::{Addr, Kind, Octets, RecordType};
+use lb_wire::{Addr, Kind, MAX_MESSAGE, Octets, RecordType};
 use std::alloc::{AllocError, Global};
 use std::num::NonZeroU8;
 use std::str::from_utf8;
-
-/// The most octets of a message.
-const MAX_MESSAGE: usize = 65_535;
 
 /// The greatest number that is looked at where a lesser one is due.
 const MAX_NUMBER: u64 = 4_294_967_295;

@@ -1,5 +1,6 @@
 -- shared by several files: Plain, Provenance, Reading, Routes, Snapshot, Step
 pub use Rattle.lb_name.specs.Name
+pub use Rattle.lb_wire.specs.Octets
 pub use Rattle.lb_wire.specs.BigEndian
 pub use Rattle.lb_wire.specs.Numbers
 pub use Rattle.lb_wire.specs.Flags

@@ -1,6 +1,7 @@
 //! What the balancer answers.
 
-ghost use Rattle.std.specs.Prelude.{◌≡◌, IfOk};
+ghost use Rattle.std.specs.Prelude.{◌≡◌, ◌≤◌, vec_len, vec_capacity, IfOk, IsTrue};
+ghost use Rattle.lb_wire.specs.Octets.{max_message};
 
 use crate::timeout::Timeout;
 use lb_chain::ChainFault;
@@ -55,6 +56,58 @@ impl Answer {
             Answer::Refused(fault) => Answer::Refused(*fault),
             Answer::NoMemory(bytes) => Answer::NoMemory(bytes.copy(alloc)?),
         })
+    }
+
+    /// An equal answer, with its octets in room that was taken before, of which the rest is given back. It takes no memory.
+    pub fn copy_into(&self, room: Vec<u8>) -> Answer
+        requires empty { vec_len room ≡ 0 }
+        requires wide { max_message ≤ vec_capacity room }
+        ensures { result ≡ self.now }
+    {
+        match self {
+            Answer::Dropped(why) => Answer::Dropped(*why),
+            Answer::Local(bytes, why) => Answer::Local(bytes.copy_into(room), *why),
+            Answer::Forward(server, lane, id, bytes) => {
+                Answer::Forward(*server, *lane, *id, bytes.copy_into(room))
+            }
+            Answer::Deliver(origin, bytes, kept) => {
+                Answer::Deliver(*origin, bytes.copy_into(room), *kept)
+            }
+            Answer::Expired(origin, bytes) => Answer::Expired(*origin, bytes.copy_into(room)),
+            Answer::Quiet => Answer::Quiet,
+            Answer::Ignored(why) => Answer::Ignored(*why),
+            Answer::Edited(note) => Answer::Edited(note.copy()),
+            Answer::Refused(fault) => Answer::Refused(*fault),
+            Answer::NoMemory(bytes) => Answer::NoMemory(bytes.copy_into(room)),
+        }
+    }
+
+    /// Whether two answers are equal.
+    pub fn equals(&self, other: &Answer) -> bool
+        ensures equal { IsTrue result → self.now ≡ other.now }
+        ensures found { self.now ≡ other.now → IsTrue result }
+    {
+        match (self, other) {
+            (Answer::Dropped(why), Answer::Dropped(other)) => why == other,
+            (Answer::Local(bytes, why), Answer::Local(others, other)) => {
+                bytes.equals(others) && why == other
+            }
+            (Answer::Forward(server, lane, id, bytes), Answer::Forward(to, by, under, others)) => {
+                server == to && lane == by && id == under && bytes.equals(others)
+            }
+            (Answer::Deliver(origin, bytes, kept), Answer::Deliver(to, others, other)) => {
+                origin == to && bytes.equals(others) && kept == other
+            }
+            (Answer::Expired(origin, bytes), Answer::Expired(to, others)) => {
+                origin == to && bytes.equals(others)
+            }
+            (Answer::Quiet, Answer::Quiet) => true,
+            (Answer::Ignored(why), Answer::Ignored(other)) => why == other,
+            (Answer::Edited(note), Answer::Edited(other)) => note.equals(other),
+            (Answer::Refused(fault), Answer::Refused(other)) => fault == other,
+            (Answer::NoMemory(bytes), Answer::NoMemory(others)) => bytes.equals(others),
+            _ => false,
+        }
     }
 }
 
@@ -157,6 +210,33 @@ impl Note {
             Note::Shown(totals) => Note::Shown(*totals),
             Note::ServerUp(id) => Note::ServerUp(*id),
             Note::ServerDown(id) => Note::ServerDown(*id),
+        }
+    }
+
+    /// Whether two notes are equal.
+    pub fn equals(&self, other: &Note) -> bool
+        ensures equal { IsTrue result → self.now ≡ other.now }
+        ensures found { self.now ≡ other.now → IsTrue result }
+    {
+        match (self, other) {
+            (Note::RuleAdded(id), Note::RuleAdded(other)) => id == other,
+            (Note::RuleRemoved(id), Note::RuleRemoved(other)) => id == other,
+            (Note::RuleMoved(id), Note::RuleMoved(other)) => id == other,
+            (Note::ServerAdded(id), Note::ServerAdded(other)) => id == other,
+            (Note::ServerRemoved(id), Note::ServerRemoved(other)) => id == other,
+            (Note::ServerMode(id, mode), Note::ServerMode(other, to)) => id == other && mode == to,
+            (Note::PoolAdded(name), Note::PoolAdded(other)) => name.equals(other),
+            (Note::PoolPolicy(name, policy), Note::PoolPolicy(other, to)) => {
+                name.equals(other) && policy == to
+            }
+            (Note::CacheAttached(id), Note::CacheAttached(other)) => id == other,
+            (Note::CacheDetached(id), Note::CacheDetached(other)) => id == other,
+            (Note::Expunged(count), Note::Expunged(other)) => count == other,
+            (Note::TimeoutSet(timeout), Note::TimeoutSet(other)) => timeout == other,
+            (Note::Shown(totals), Note::Shown(other)) => totals == other,
+            (Note::ServerUp(id), Note::ServerUp(other)) => id == other,
+            (Note::ServerDown(id), Note::ServerDown(other)) => id == other,
+            _ => false,
         }
     }
 }

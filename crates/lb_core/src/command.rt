@@ -1,6 +1,6 @@
 //! What an operator tells the balancer to do.
 
-ghost use Rattle.std.specs.Prelude.{◌≡◌, IfOk};
+ghost use Rattle.std.specs.Prelude.{◌≡◌, IfOk, IsTrue};
 
 use crate::check::CheckSpec;
 use crate::timeout::Timeout;
@@ -87,6 +87,44 @@ impl Command {
             Command::Show => Command::Show,
         })
     }
+
+    /// Whether two commands are equal.
+    pub fn equals(&self, other: &Command) -> bool
+        ensures equal { IsTrue result → self.now ≡ other.now }
+        ensures found { self.now ≡ other.now → IsTrue result }
+    {
+        match (self, other) {
+            (Command::RuleAdd(place, rule), Command::RuleAdd(at, other)) => {
+                place == at && rule.equals(other)
+            }
+            (Command::RuleRemove(id), Command::RuleRemove(other)) => id == other,
+            (Command::RuleMove(id, place), Command::RuleMove(other, at)) => {
+                id == other && place == at
+            }
+            (Command::ServerAdd(spec, check), Command::ServerAdd(other, by)) => {
+                spec.equals(other) && check == by
+            }
+            (Command::ServerRemove(name), Command::ServerRemove(other)) => name.equals(other),
+            (Command::ServerMode(name, mode), Command::ServerMode(other, to)) => {
+                name.equals(other) && mode == to
+            }
+            (Command::PoolAdd(name), Command::PoolAdd(other)) => name.equals(other),
+            (Command::PoolPolicy(name, policy), Command::PoolPolicy(other, to)) => {
+                name.equals(other) && policy == to
+            }
+            (
+                Command::CacheAttach(name, max, shards, max_ttl),
+                Command::CacheAttach(other, entries, number, longest),
+            ) => name.equals(other) && max == entries && shards == number && max_ttl == longest,
+            (Command::CacheDetach(name), Command::CacheDetach(other)) => name.equals(other),
+            (Command::Expunge(name, covered), Command::Expunge(other, others)) => {
+                name.equals(other) && covered.equals(others)
+            }
+            (Command::SetTimeout(timeout), Command::SetTimeout(other)) => timeout == other,
+            (Command::Show, Command::Show) => true,
+            _ => false,
+        }
+    }
 }
 
 impl StatedRule {
@@ -98,6 +136,14 @@ impl StatedRule {
             term: self.term.copy(alloc)?,
             action: self.action.copy(),
         })
+    }
+
+    /// Whether two rules are equal.
+    pub fn equals(&self, other: &StatedRule) -> bool
+        ensures equal { IsTrue result → self.now ≡ other.now }
+        ensures found { self.now ≡ other.now → IsTrue result }
+    {
+        self.term.equals(&other.term) && self.action.equals(&other.action)
     }
 }
 
@@ -116,6 +162,25 @@ impl StatedAction {
             StatedAction::None => StatedAction::None,
             StatedAction::NoRecurse => StatedAction::NoRecurse,
             StatedAction::SkipCache => StatedAction::SkipCache,
+        }
+    }
+
+    /// Whether two actions are equal.
+    pub fn equals(&self, other: &StatedAction) -> bool
+        ensures equal { IsTrue result → self.now ≡ other.now }
+        ensures found { self.now ≡ other.now → IsTrue result }
+    {
+        match (self, other) {
+            (StatedAction::Allow, StatedAction::Allow)
+            | (StatedAction::Drop, StatedAction::Drop)
+            | (StatedAction::Tc, StatedAction::Tc)
+            | (StatedAction::None, StatedAction::None)
+            | (StatedAction::NoRecurse, StatedAction::NoRecurse)
+            | (StatedAction::SkipCache, StatedAction::SkipCache) => true,
+            (StatedAction::Rcode(rcode), StatedAction::Rcode(other)) => rcode == other,
+            (StatedAction::Pool(name), StatedAction::Pool(other)) => name.equals(other),
+            (StatedAction::Spoof(addrs), StatedAction::Spoof(others)) => addrs.equals(others),
+            _ => false,
         }
     }
 }

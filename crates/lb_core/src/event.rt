@@ -1,6 +1,6 @@
 //! What the balancer is told.
 
-ghost use Rattle.std.specs.Prelude.{◌≡◌, IfOk};
+ghost use Rattle.std.specs.Prelude.{◌≡◌, IfOk, IsTrue};
 ghost use Rattle.lb_core.specs.Reading.{moment_of};
 
 use crate::command::Command;
@@ -100,5 +100,63 @@ impl Event {
                 command: command.copy(alloc)?,
             },
         })
+    }
+
+    /// Whether two events are equal.
+    pub fn equals(&self, other: &Event) -> bool
+        ensures equal { IsTrue result → self.now ≡ other.now }
+        ensures found { self.now ≡ other.now → IsTrue result }
+    {
+        match (self, other) {
+            (
+                Event::Query {
+                    now,
+                    origin,
+                    kind,
+                    word,
+                    bytes,
+                },
+                Event::Query {
+                    now: then,
+                    origin: from,
+                    kind: by,
+                    word: other,
+                    bytes: others,
+                },
+            ) => {
+                now == then && origin == from && kind == by && word == other && bytes.equals(others)
+            }
+            (
+                Event::Reply {
+                    now,
+                    server,
+                    lane,
+                    bytes,
+                },
+                Event::Reply {
+                    now: then,
+                    server: from,
+                    lane: by,
+                    bytes: others,
+                },
+            ) => now == then && server == from && lane == by && bytes.equals(others),
+            (Event::Tick { now }, Event::Tick { now: then }) => now == then,
+            (
+                Event::HealthResult { now, server, ok },
+                Event::HealthResult {
+                    now: then,
+                    server: from,
+                    ok: other,
+                },
+            ) => now == then && server == from && ok == other,
+            (
+                Event::Edit { now, command },
+                Event::Edit {
+                    now: then,
+                    command: other,
+                },
+            ) => now == then && command.equals(other),
+            _ => false,
+        }
     }
 }

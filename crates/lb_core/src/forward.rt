@@ -1,10 +1,11 @@
 //! Forwarding: a server is picked for a query, and the query is sent to it under an ID that is free there.
 
-ghost use Rattle.std.specs.Prelude.{◌≡◌, ◌≤◌, IfOk, IfErr, IfSome, OnErr, OnOk, length, List, ℕ, Result};
+ghost use Rattle.std.specs.Prelude.{◌≡◌, ◌≤◌, IfOk, IfErr, IfSome, OnErr, OnOk, length, vec_len, List, ℕ, Result};
 ghost use Rattle.lb_name.specs.Name.{lower_name};
 ghost use Rattle.lb_wire.specs.Message.{Message, Lays};
 ghost use Rattle.lb_wire.specs.Numbers.{rcode_number};
 ghost use Rattle.lb_wire.specs.Answer.{refusal_of};
+ghost use Rattle.lb_wire.specs.Octets.{max_message};
 ghost use Rattle.lb_wire.specs.Query.{IsQuery, view_of};
 ghost use Rattle.lb_cache.specs.Caches.{name_of_key};
 ghost use Rattle.lb_core.specs.Forward.{entry_of as entry_of_spec, Forwards, lane_of as lane_of_spec, sent_of, with_id};
@@ -32,6 +33,7 @@ pub(crate) fn forward(
     ask: Option<(CacheId, Key)>,
 ) -> Result<Answer, Vec<u8>>
     requires view { (m : Message) × Lays bytes.items m × IsQuery m × (view.now ≡ view_of m) }
+    requires short { vec_len bytes ≤ max_message }
     requires key { IfSome ask (λ ask. name_of_key ask.1 ≡ lower_name view.now.name) }
     ensures forwards { IfOk result (λ answer. Forwards upstream.old asked.now bytes.items view.now routed.now ask answer upstream.new) }
     ensures back { IfErr result (λ back. back.items ≡ bytes.items) }
@@ -76,6 +78,7 @@ fn entry_of(
     view: &QueryView,
     ask: Option<(CacheId, Key)>,
 ) -> Result<Entry, AllocError>
+    requires { length bytes.now ≤ max_message }
     ensures { IfOk result (λ entry. (ups : Upstreams) → ups.timeout ≡ timeout → entry ≡ entry_of_spec ups asked.now bytes.now view.now ask) }
 {
     Ok(Entry {
@@ -92,7 +95,8 @@ fn entry_of(
 
 /// The message to be sent, in the query's own bytes: with this ID, and with RD 0 where a rule says so.
 fn message(mut bytes: Vec<u8>, no_recurse: bool, id: u16) -> Octets
-    requires { 12 ≤ length bytes.items }
+    requires header { 12 ≤ length bytes.items }
+    requires short { vec_len bytes ≤ max_message }
     ensures { result ≡ with_id id (sent_of no_recurse bytes.items) }
 {
     if no_recurse {
@@ -109,7 +113,8 @@ pub(crate) fn refused(
     rcode: Rcode,
     why: LocalReason,
 ) -> Answer
-    requires { (m : Message) × Lays bytes.items m × IsQuery m × (view.now ≡ view_of m) }
+    requires view { (m : Message) × Lays bytes.items m × IsQuery m × (view.now ≡ view_of m) }
+    requires short { vec_len bytes ≤ max_message }
     ensures { result ≡ Local (refusal_of view.now (rcode_number rcode)) why }
 {
     answer_in_place(&mut bytes, view, rcode);

@@ -19,8 +19,6 @@ mod plain;
 mod query;
 mod reply;
 mod runs;
-#[cfg(test)]
-mod tests;
 mod timeout;
 mod upstream;
 

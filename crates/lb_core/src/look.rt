@@ -1,12 +1,13 @@
 //! Look-up: a query is answered by a reply that its pool's cache keeps, where one lives.
 
-ghost use Rattle.std.specs.Prelude.{◌≡◌, ◌&&◌, ◌==◌, not, IfOk, IfErr, OnErr, List, ℕ};
+ghost use Rattle.std.specs.Prelude.{◌≡◌, ◌≤◌, ◌&&◌, ◌==◌, not, IfOk, IfErr, OnErr, length, vec_len, List, ℕ};
 ghost use Rattle.std.specs.List.{AllByRecursion};
 ghost use Rattle.lb_name.specs.Name.{lower_name, IsSame};
 ghost use Rattle.lb_wire.specs.Aging.{Outlives};
 ghost use Rattle.lb_wire.specs.Flags.{opcode_of};
 ghost use Rattle.lb_wire.specs.Key.{key_with_name};
 ghost use Rattle.lb_wire.specs.Message.{Message, Lays};
+ghost use Rattle.lb_wire.specs.Octets.{max_message};
 ghost use Rattle.lb_wire.specs.Query.{without_recursion, IsQuery, view_of};
 ghost use Rattle.lb_cache.specs.Caches.{name_of_key, IsKeepable};
 ghost use Rattle.lb_core.specs.Forward.{sent_of};
@@ -36,6 +37,7 @@ pub(crate) fn answer_by_pool(
     routed: Routed,
 ) -> Result<Answer, Vec<u8>>
     requires view { (m : Message) × Lays bytes.items m × IsQuery m × (view.now ≡ view_of m) }
+    requires short { vec_len bytes ≤ max_message }
     ensures answers { IfOk result (λ answer. PoolAnswers upstream.old asked.now bytes.items view.now routed answer upstream.new) }
     ensures back { IfErr result (λ back. back.items ≡ bytes.items) }
     ensures unchanged { OnErr result (upstream.new ≡ upstream.old) }
@@ -83,6 +85,7 @@ fn key_to_send(
     no_recurse: bool,
 ) -> Result<Key, AllocError>
     requires view { (m : Message) × Lays bytes.old.items m × (view.now ≡ view_of m) }
+    requires short { vec_len bytes.old ≤ max_message }
     ensures key { IfOk result (λ key. key ≡ key_with_name kind view.now.name (sent_of no_recurse bytes.old.items)) }
     ensures name { IfOk result (λ key. name_of_key key ≡ lower_name view.now.name) }
     ensures unchanged { bytes.new.items ≡ bytes.old.items }
@@ -103,6 +106,7 @@ fn key_without_rd(
     kind: Kind,
 ) -> Result<Key, AllocError>
     requires view { (m : Message) × Lays bytes.old m × (view.now ≡ view_of m) }
+    requires short { length bytes.old ≤ max_message }
     ensures key { IfOk result (λ key. key ≡ key_with_name kind view.now.name (without_recursion bytes.old)) }
     ensures name { IfOk result (λ key. name_of_key key ≡ lower_name view.now.name) }
     ensures unchanged { bytes.new ≡ bytes.old }
@@ -126,6 +130,7 @@ fn hit_answer(
 ) -> Result<Answer, AllocError>
     requires keepable { IsKeepable key.now hit.now.bytes.now hit.now.secs }
     requires name { name_of_key key.now ≡ lower_name view.now.name }
+    requires short { length hit.now.bytes.now ≤ max_message }
     ensures { IfOk result (λ answer. (octets : List ℕ) × Hits view.now hit.now.bytes.now hit.now.secs octets × (answer ≡ Local octets locals.Hit)) }
 {
     let mut bytes = Vec::from_slice(alloc, hit.bytes)?;

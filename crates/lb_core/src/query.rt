@@ -1,8 +1,9 @@
 //! The life of a query.
 
-ghost use Rattle.std.specs.Prelude.{◌≡◌, ◌≤◌, true, IsTrue, IfOk, IfErr, OnErr, List, ℕ, Result, None};
+ghost use Rattle.std.specs.Prelude.{◌≡◌, ◌≤◌, true, IsTrue, IfOk, IfErr, OnErr, vec_len, List, ℕ, Result, None};
 ghost use Rattle.lb_wire.specs.Answer.{truncated_of, spoofed_of};
 ghost use Rattle.lb_wire.specs.Message.{Message, Lays};
+ghost use Rattle.lb_wire.specs.Octets.{max_message};
 ghost use Rattle.lb_wire.specs.Query.{Reads, IsQuery, view_of};
 ghost use Rattle.lb_wire.specs.declared.query.QueryView.{QueryView};
 ghost use Rattle.lb_wire.specs.declared.query.QueryFault.{QueryFault};
@@ -73,6 +74,7 @@ fn answer_by_rules(
     view: &QueryView,
 ) -> Answer
     requires view { (m : Message) × Lays bytes.items m × IsQuery m × (view.now ≡ view_of m) }
+    requires short { vec_len bytes ≤ max_message }
     requires moment { chain.old.moment ≤ asked.now.moment }
     ensures moment { chain.new.moment ≤ asked.now.moment }
     ensures step { WalkedSteps (marked result) (plain_of asked.now.moment chain.old upstream.old) asked.now bytes.items view.now (walked_of (plain_of asked.now.moment chain.old upstream.old) asked.now view.now) result (plain_of asked.now.moment chain.new upstream.new) }
@@ -109,6 +111,7 @@ fn decide(
     walked: &Walked,
 ) -> Result<Answer, Vec<u8>>
     requires view { (m : Message) × Lays bytes.items m × IsQuery m × (view.now ≡ view_of m) }
+    requires short { vec_len bytes ≤ max_message }
     requires allow { walked.now.rule ≡ None → walked.now.verdict ≡ Allow }
     ensures decides { IfOk result (λ answer. Decides upstream.old asked.now bytes.items view.now walked.now answer upstream.new) }
     ensures back { IfErr result (λ back. back.items ≡ bytes.items) }
@@ -148,7 +151,8 @@ fn to_pool(walked: &Walked, pool: PoolId) -> Routed
 
 /// The truncated answer, in the query's own bytes.
 fn truncated(mut bytes: Vec<u8>, view: &QueryView, rule: RuleId) -> Answer
-    requires { (m : Message) × Lays bytes.items m × IsQuery m × (view.now ≡ view_of m) }
+    requires view { (m : Message) × Lays bytes.items m × IsQuery m × (view.now ≡ view_of m) }
+    requires short { vec_len bytes ≤ max_message }
     ensures { result ≡ Local (truncated_of view.now) (locals.Rule rule) }
 {
     truncated_in_place(&mut bytes, view);
@@ -175,7 +179,8 @@ fn spoof(
 
 /// The answer where memory was wanting: ServFail, in the query's own bytes.
 fn no_memory(mut bytes: Vec<u8>, view: &QueryView) -> Answer
-    requires { (m : Message) × Lays bytes.items m × IsQuery m × (view.now ≡ view_of m) }
+    requires view { (m : Message) × Lays bytes.items m × IsQuery m × (view.now ≡ view_of m) }
+    requires short { vec_len bytes ≤ max_message }
     ensures { result ≡ NoMemory (failure_of view.now) }
 {
     answer_in_place(&mut bytes, view, Rcode::ServFail);

@@ -1,7 +1,8 @@
 //! The life of a reply.
 
-ghost use Rattle.std.specs.Prelude.{◌≡◌, ◌≤◌, ◌==◌, IsTrue, IfSome, length, List, ℕ, Result};
+ghost use Rattle.std.specs.Prelude.{◌≡◌, ◌≤◌, ◌==◌, IsTrue, IfSome, length, vec_len, List, ℕ, Result};
 ghost use Rattle.lb_wire.specs.BigEndian.{number_at};
+ghost use Rattle.lb_wire.specs.Octets.{max_message};
 ghost use Rattle.lb_wire.specs.Belongs.{AsksSame};
 ghost use Rattle.lb_wire.specs.Reply.{ReadsReply, Replies};
 ghost use Rattle.lb_wire.specs.declared.reply.ReplyView.{ReplyView};
@@ -67,6 +68,7 @@ fn keep_and_deliver(
     entry: Entry,
 ) -> Answer
     requires reads { Replies bytes.items view.now }
+    requires short { vec_len bytes ≤ max_message }
     requires asked { IsAsked entry }
     requires same { view.now.questions ≡ 1 → AsksSame view.now.question entry.name }
     ensures { (told : KeptValue) × (list : List KeptReply) × Keeps (marked result) upstream.old moment bytes.items view.now entry.cache told list × (upstream.new ≡ record upstream.old { kept = list }) × (result ≡ Deliver entry.origin (delivered_octets view.now entry bytes.items) told) }
@@ -94,6 +96,7 @@ fn keep(
     ask: Option<(CacheId, Key)>,
 ) -> Kept
     requires reads { Replies bytes.now view.now }
+    requires short { length bytes.now ≤ max_message }
     requires key { IfSome ask (λ ask. (m : Message) → Lays bytes.now m → lower_name m.name ≡ name_of_key ask.1) }
     ensures kept { Keeps (lacks result) upstream.old moment bytes.now view.now ask result upstream.new.kept }
     ensures others { upstream.new ≡ record upstream.old { kept = upstream.new.kept } }
@@ -117,6 +120,7 @@ fn keep(
 /// The reply as the client of a query gets it, in the reply's own bytes.
 fn delivered(mut bytes: Vec<u8>, view: &ReplyView, name: &Name, id: u16) -> Octets
     requires reads { Replies bytes.items view.now }
+    requires short { vec_len bytes ≤ max_message }
     requires same { view.now.questions ≡ 1 → AsksSame view.now.question name.now }
     ensures { result ≡ with_id id (spelled_for (view.now.questions == 1) name.now bytes.items) }
 {

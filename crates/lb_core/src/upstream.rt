@@ -1,8 +1,9 @@
 //! Servers with their health, pools with their caches, and outstanding queries, kept together: each server's count is the
 //! number of its outstanding queries, and its mark is what its health says.
 
-ghost use Rattle.std.specs.Prelude.{◌≡◌, ◌<◌, ℕ, IfOk, IfSome, Some, length, map, not, option_map};
+ghost use Rattle.std.specs.Prelude.{◌≡◌, ◌<◌, ◌≤◌, ℕ, IfOk, IfSome, Some, length, map, not, option_map};
 ghost use Rattle.std.specs.List.{filter, position};
+ghost use Rattle.lb_wire.specs.Octets.{max_message};
 ghost use Rattle.lb_servers.specs.Park.{added_pool, changed_pool, changed_server, lacks};
 ghost use Rattle.lb_cache.specs.Cache.{lacks as lacks_kept};
 ghost use Rattle.lb_servers.specs.Pool.{cache_at, pool_named, with_policy, change_at};
@@ -257,6 +258,7 @@ impl Upstream {
     pub(crate) fn look(&self, id: CacheId, key: &Key, now: u64) -> Option<Hit<'_>>
         ensures found { option_map (λ hit. (hit.bytes.now, hit.secs)) result ≡ looked_in self.now.kept id key.now now }
         ensures keepable { IfSome result (λ hit. IsKeepable key.now hit.bytes.now hit.secs) }
+        ensures short { IfSome result (λ hit. length hit.bytes.now ≤ max_message) }
     {
         self.caches.look(id, key, now)
     }
@@ -272,6 +274,7 @@ impl Upstream {
     ) -> Kept
         requires attached { cache_with cache.now.id self.old.caches ≡ Some cache.now }
         requires keepable { IsKeepable key bytes.now life }
+        requires short { length bytes.now ≤ max_message }
         ensures kept { (self.new.kept, result) ≡ kept_in (lacks_kept result) cache.now.max self.old.kept (record { cache = cache.now.id; reply = record { key = key; bytes = bytes.now; moment = now; life = life } }) now }
         ensures others { self.new ≡ record self.old { kept = self.new.kept } }
     {

@@ -72,6 +72,14 @@ impl Group {
             masks: Vec::from_slice(alloc, self.masks.as_slice())?,
         })
     }
+
+    /// Whether two groups are equal: the same masks in the same order.
+    pub fn equals(&self, other: &Group) -> bool
+        ensures equal { IsTrue result → self.now ≡ other.now }
+        ensures found { self.now ≡ other.now → IsTrue result }
+    {
+        self.as_slice() == other.as_slice()
+    }
 }
 
 #[cfg(test)]

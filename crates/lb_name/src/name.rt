@@ -190,6 +190,15 @@ impl Name {
         }
     }
 
+    /// Whether the names are equal octet by octet, in the same case.
+    pub fn equals(&self, other: &Name) -> bool
+        ensures equal { IsTrue result → self.now ≡ other.now }
+        ensures found { self.now ≡ other.now → IsTrue result }
+    {
+        let (ours, others) = (self.wire.as_slice(), other.wire.as_slice());
+        ours == others
+    }
+
     /// The name in lower case: ASCII letters alone change (RFC 1035 section 2.3.3).
     pub fn lower(&self) -> Name
         ensures { result ≡ lower_name self.now }

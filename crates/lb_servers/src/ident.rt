@@ -1,6 +1,6 @@
 //! Names of servers and pools.
 
-ghost use Rattle.std.specs.Prelude.{◌≡◌, Some, None, true, bytes_eq, if◌then◌else◌};
+ghost use Rattle.std.specs.Prelude.{◌≡◌, IsTrue, Some, None, true, bytes_eq, if◌then◌else◌};
 ghost use Rattle.std.specs.List.{list_all};
 ghost use Rattle.lb_servers.specs.Ident.{is_ident, is_ident_byte};
 
@@ -88,9 +88,11 @@ impl Ident {
         Ident { text: self.text }
     }
 
-    /// Whether two names are the same.
-    pub(crate) fn is(&self, other: &Ident) -> bool
-        ensures { result ≡ bytes_eq self.now other.now }
+    /// Whether two names are equal.
+    pub fn equals(&self, other: &Ident) -> bool
+        ensures value { result ≡ bytes_eq self.now other.now }
+        ensures equal { IsTrue result → self.now ≡ other.now }
+        ensures found { self.now ≡ other.now → IsTrue result }
     {
         self.as_str() == other.as_str()
     }

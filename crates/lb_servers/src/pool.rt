@@ -1,6 +1,6 @@
 //! Pools of servers.
 
-ghost use Rattle.std.specs.Prelude.{◌≡◌, ◌<◌, ◌≤◌, IfOk, IfSome, is_some, length, slice_get};
+ghost use Rattle.std.specs.Prelude.{◌≡◌, ◌<◌, ◌≤◌, IfOk, IfSome, IsTrue, is_some, length, slice_get};
 ghost use Rattle.std.specs.List.{list_any, position};
 ghost use Rattle.lb_servers.specs.Pool.{change_at, is_named, new_pool, pool_named as number_named, same_name, turned, with_cache, with_policy, cache_at as cache_at_of};
 
@@ -29,13 +29,15 @@ impl PoolName {
         }
     }
 
-    /// Whether two names are the same.
-    pub(crate) fn is(&self, other: &PoolName) -> bool
-        ensures { result ≡ same_name self.now other.now }
+    /// Whether two names are equal.
+    pub fn equals(&self, other: &PoolName) -> bool
+        ensures value { result ≡ same_name self.now other.now }
+        ensures equal { IsTrue result → self.now ≡ other.now }
+        ensures found { self.now ≡ other.now → IsTrue result }
     {
         match (self, other) {
             (PoolName::Default, PoolName::Default) => true,
-            (PoolName::Named(a), PoolName::Named(b)) => a.is(b),
+            (PoolName::Named(a), PoolName::Named(b)) => a.equals(b),
             _ => false,
         }
     }
@@ -115,7 +117,7 @@ fn place_named(pools: &[Pool], name: &PoolName) -> Option<usize>
     ensures place { result ≡ position (is_named name.now) pools.now }
     ensures within { IfSome result (λ at. at < length pools.now) }
 {
-    pools.iter().position(|pool| pool.name.is(name))
+    pools.iter().position(|pool| pool.name.equals(name))
 }
 
 /// The number of the pool with a name: its place among the pools.
@@ -138,7 +140,7 @@ pub(crate) fn has_pool(pools: &[Pool], name: &PoolName) -> bool
 pub(crate) fn is_taken(pools: &[Pool], name: &PoolName) -> bool
     ensures { result ≡ list_any (is_named name.now) pools.now }
 {
-    pools.iter().any(|pool| pool.name.is(name))
+    pools.iter().any(|pool| pool.name.equals(name))
 }
 
 /// Whether a pool stands at a place.

@@ -224,7 +224,7 @@ pub(crate) fn server_named(servers: &[Loaded], name: &Ident) -> Option<ServerId>
 {
     servers
         .iter()
-        .find(|l| l.server.name.is(name))
+        .find(|l| l.server.name.equals(name))
         .map(|l| l.server.id)
 }
 

@@ -1,6 +1,6 @@
 //! What an operator states of a new server.
 
-ghost use Rattle.std.specs.Prelude.{◌≡◌, ◌≤◌, [], nat_le, length, IfOk, Some, None, if◌then◌else◌};
+ghost use Rattle.std.specs.Prelude.{◌≡◌, ◌≤◌, [], nat_le, length, IfOk, IsTrue, Some, None, if◌then◌else◌};
 ghost use Rattle.lb_servers.specs.Spec.{lacks_pool as lacks, new_server as server_of, pools_named as numbers_named, stated_pools as stated};
 
 use crate::ident::Ident;
@@ -62,6 +62,14 @@ impl PoolNames {
             items: copied(alloc, self.items.as_slice())?,
         })
     }
+
+    /// Whether two lists are equal: the same names in the same order.
+    pub fn equals(&self, other: &PoolNames) -> bool
+        ensures equal { IsTrue result → self.now ≡ other.now }
+        ensures found { self.now ≡ other.now → IsTrue result }
+    {
+        are_equal(self.items.as_slice(), other.items.as_slice())
+    }
 }
 
 /// Copies of the names, in order.
@@ -73,6 +81,18 @@ fn copied(alloc: Global, names: &[PoolName]) -> Result<Vec<PoolName>, AllocError
         copies.push(name.copy())?;
     }
     Ok(copies)
+}
+
+/// Whether the names are equal, in order.
+fn are_equal(names: &[PoolName], others: &[PoolName]) -> bool
+    ensures equal { IsTrue result → names.now ≡ others.now }
+    ensures found { names.now ≡ others.now → IsTrue result }
+{
+    names.len() == others.len()
+        && names
+            .iter()
+            .zip(others)
+            .all(|(name, other)| name.equals(other))
 }
 
 /// What an operator states of a new server.
@@ -113,6 +133,18 @@ impl ServerSpec {
             order: self.order,
             pools: self.pools.copy(alloc)?,
         })
+    }
+
+    /// Whether two values are equal.
+    pub fn equals(&self, other: &ServerSpec) -> bool
+        ensures equal { IsTrue result → self.now ≡ other.now }
+        ensures found { self.now ≡ other.now → IsTrue result }
+    {
+        self.name.equals(&other.name)
+            && self.addr == other.addr
+            && self.port == other.port
+            && self.order == other.order
+            && self.pools.equals(&other.pools)
     }
 }
 

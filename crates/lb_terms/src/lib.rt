@@ -3,6 +3,7 @@
 
 mod check;
 mod copy;
+mod equality;
 mod fault;
 mod laws;
 mod limiters;

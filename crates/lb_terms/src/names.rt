@@ -1,6 +1,6 @@
 //! Sets of names.
 
-ghost use Rattle.std.specs.Prelude.{◌≡◌, IfOk, length};
+ghost use Rattle.std.specs.Prelude.{◌≡◌, IfOk, IsTrue, length};
 ghost use Rattle.lb_terms.specs.Sets.{is_under, in_suffixes};
 
 use lb_name::Name;
@@ -34,6 +34,18 @@ fn any_over(suffixes: &[Name], name: &Name) -> bool
     ensures { result ≡ in_suffixes suffixes.now name.now }
 {
     suffixes.iter().any(|suffix| is_under(name, suffix))
+}
+
+/// Whether the names are equal, in order.
+fn are_equal(names: &[Name], others: &[Name]) -> bool
+    ensures equal { IsTrue result → names.now ≡ others.now }
+    ensures found { names.now ≡ others.now → IsTrue result }
+{
+    names.len() == others.len()
+        && names
+            .iter()
+            .zip(others)
+            .all(|(name, other)| name.equals(other))
 }
 
 impl Names {
@@ -74,5 +86,13 @@ impl Names {
             items.push(name.copy())?;
         }
         Ok(Names { items })
+    }
+
+    /// Whether two lists are equal: the same names in the same order.
+    pub fn equals(&self, other: &Names) -> bool
+        ensures equal { IsTrue result → self.now ≡ other.now }
+        ensures found { self.now ≡ other.now → IsTrue result }
+    {
+        are_equal(self.items.as_slice(), other.items.as_slice())
     }
 }

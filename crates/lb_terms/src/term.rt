@@ -1,11 +1,12 @@
 //! Terms.
 
-ghost use Rattle.std.specs.Prelude.{◌≡◌, IfOk};
+ghost use Rattle.std.specs.Prelude.{◌≡◌, IfOk, IsTrue};
 ghost use Rattle.lb_terms.specs.Selector.{selector_of};
 ghost use Rattle.lb_terms.specs.Check.{IsChecked, checked_of};
 
 use crate::check::{has_members, has_rates, has_small_sets, is_within, nodes_left};
 use crate::copy::copied;
+use crate::equality::is_equal;
 use crate::fault::TermFault;
 use crate::names::Names;
 use lb_masks::Group;
@@ -102,5 +103,13 @@ impl CheckedTerm {
         Ok(CheckedTerm {
             term: copied(alloc, &self.term)?,
         })
+    }
+
+    /// Whether two terms are equal: the same members in the same order.
+    pub fn equals(&self, other: &CheckedTerm) -> bool
+        ensures equal { IsTrue result → self.now ≡ other.now }
+        ensures found { self.now ≡ other.now → IsTrue result }
+    {
+        is_equal(&self.term, &other.term)
     }
 }

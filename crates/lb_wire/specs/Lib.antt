@@ -1,6 +1,7 @@
 -- shared by several files: Message, Numbers
 pub use Rattle.lb_name.specs.Name
 pub use Rattle.lb_name.specs.Reading
+pub mod Octets
 pub mod BigEndian
 pub mod Numbers
 pub mod Rcode

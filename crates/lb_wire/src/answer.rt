@@ -20,6 +20,7 @@ pub fn answer_in_place(bytes: &mut Vec<u8>, view: &QueryView, rcode: Rcode)
     requires { (m : Message) × Lays bytes.old.items m × IsQuery m × (view.now ≡ view_of m) }
     ensures octets { bytes.new.items ≡ refusal_of view.now (rcode_number rcode) }
     ensures room { vec_capacity bytes.new ≡ vec_capacity bytes.old }
+    ensures short { vec_len bytes.new ≤ vec_len bytes.old }
 {
     make_in_place(bytes, view, view.flags.answer(false, rcode));
 }
@@ -30,6 +31,7 @@ pub fn truncated_in_place(bytes: &mut Vec<u8>, view: &QueryView)
     requires { (m : Message) × Lays bytes.old.items m × IsQuery m × (view.now ≡ view_of m) }
     ensures octets { bytes.new.items ≡ truncated_of view.now }
     ensures room { vec_capacity bytes.new ≡ vec_capacity bytes.old }
+    ensures short { vec_len bytes.new ≤ vec_len bytes.old }
 {
     make_in_place(bytes, view, view.flags.answer(true, Rcode::NoError));
 }
@@ -40,6 +42,7 @@ pub fn formerr_in_place(bytes: &mut Vec<u8>)
     requires { 12 ≤ vec_len bytes.old }
     ensures octets { bytes.new.items ≡ formerr_of bytes.old.items }
     ensures room { vec_capacity bytes.new ≡ vec_capacity bytes.old }
+    ensures short { vec_len bytes.new ≤ vec_len bytes.old }
 {
     let id = read_u16(bytes.as_slice(), 0);
     let flags = Flags(read_u16(bytes.as_slice(), 2));
@@ -56,6 +59,7 @@ fn make_in_place(bytes: &mut Vec<u8>, view: &QueryView, flags: Flags)
     requires { (m : Message) × Lays bytes.old.items m × IsQuery m × (view.now ≡ view_of m) }
     ensures octets { bytes.new.items ≡ made_of view.now flags.0 }
     ensures room { vec_capacity bytes.new ≡ vec_capacity bytes.old }
+    ensures short { vec_len bytes.new ≤ vec_len bytes.old }
 {
     match view.opt {
         Some(opt) => {
@@ -74,6 +78,7 @@ fn put_and_cut(bytes: &mut Vec<u8>, at: usize, piece: &[u8])
     requires { at + length piece.now ≤ vec_len bytes.old }
     ensures octets { bytes.new.items ≡ take at bytes.old.items ++ piece.now }
     ensures room { vec_capacity bytes.new ≡ vec_capacity bytes.old }
+    ensures short { vec_len bytes.new ≤ vec_len bytes.old }
 {
     overwrite(bytes.as_mut_slice(), at, piece);
     bytes.truncate(at + piece.len());

@@ -66,6 +66,7 @@ pub(crate) fn put_header(bytes: &mut Vec<u8>, header: Header)
     requires { 12 ≤ vec_len bytes.old }
     ensures octets { bytes.new.items ≡ header_octets header ++ drop 12 bytes.old.items }
     ensures room { vec_capacity bytes.new ≡ vec_capacity bytes.old }
+    ensures len { vec_len bytes.new ≡ vec_len bytes.old }
 {
     let id = header.id.to_be_bytes();
     let flags = header.flags.0.to_be_bytes();

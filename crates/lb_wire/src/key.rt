@@ -1,8 +1,9 @@
 //! The key by which the packet cache knows a query.
 
-ghost use Rattle.std.specs.Prelude.{◌≡◌, IfOk};
+ghost use Rattle.std.specs.Prelude.{◌≡◌, ◌≤◌, length, IfOk};
 ghost use Rattle.lb_wire.specs.Message.{Message, Lays};
 ghost use Rattle.lb_wire.specs.Key.{key_octets, key_with_name};
+ghost use Rattle.lb_wire.specs.Octets.{max_message};
 
 use crate::laws::one_message;
 use crate::octets::Octets;
@@ -37,7 +38,8 @@ const NAME_AT: usize = 10;
 /// The key of a message, from which the view was read; RD alone may have been cleared since. The one error is want of
 /// memory.
 pub fn key_of(alloc: Global, bytes: &[u8], view: &QueryView, kind: Kind) -> Result<Key, AllocError>
-    requires { (m : Message) × Lays bytes.now m × (view.now.name ≡ m.name) }
+    requires view { (m : Message) × Lays bytes.now m × (view.now.name ≡ m.name) }
+    requires short { length bytes.now ≤ max_message }
     ensures kind { IfOk result (λ key. key.kind ≡ kind) }
     ensures octets { IfOk result (λ key. (m : Message) → Lays bytes.now m → key.octets ≡ key_octets m) }
     ensures key { IfOk result (λ key. key ≡ key_with_name kind view.now.name bytes.now) }
@@ -54,13 +56,14 @@ pub fn key_of(alloc: Global, bytes: &[u8], view: &QueryView, kind: Kind) -> Resu
     })
 }
 
-ghost use Rattle.std.specs.Prelude.{◌+◌, ◌≤◌, ◌++◌, take, drop, map, vec_len};
+ghost use Rattle.std.specs.Prelude.{◌+◌, ◌++◌, take, drop, map, vec_len};
 ghost use Rattle.std.specs.Char.{to_ascii_lowercase};
 
 /// Lowers so many octets from a place on.
 fn lower_in_place(octets: &mut Vec<u8>, at: usize, len: usize)
     requires { at + len ≤ vec_len octets.old }
-    ensures { octets.new.items ≡ take at octets.old.items ++ map to_ascii_lowercase (take len (drop at octets.old.items)) ++ drop (at + len) octets.old.items }
+    ensures octets { octets.new.items ≡ take at octets.old.items ++ map to_ascii_lowercase (take len (drop at octets.old.items)) ++ drop (at + len) octets.old.items }
+    ensures len { vec_len octets.new ≡ vec_len octets.old }
 {
     octets[at..at + len].make_ascii_lowercase();
 }

@@ -43,7 +43,7 @@ pub use laws::{
     cleared_is_laid, key_has_name, least_is_outlived, none_is_outlived, one_message, one_reading,
     one_reply_reading, one_survey,
 };
-pub use octets::Octets;
+pub use octets::{MAX_MESSAGE, Octets};
 pub use opcode::Opcode;
 pub use opt::Opt;
 pub use query::{QueryFault, QueryView, read_query};

@@ -1,12 +1,13 @@
 //! Answers with addresses that a rule states.
 
-ghost use Rattle.std.specs.Prelude.{◌≡◌, ◌<◌, ◌≤◌, ◌++◌, length, IfOk, OnOk};
+ghost use Rattle.std.specs.Prelude.{◌≡◌, ◌+◌, ◌*◌, ◌<◌, ◌≤◌, ◌++◌, length, vec_len, IfOk, OnOk};
 ghost use Rattle.std.specs.List.{flat_map};
 ghost use Rattle.lb_wire.specs.BigEndian.{two_octets, four_octets};
 ghost use Rattle.lb_wire.specs.Record.{owner_octets, record_octets};
 ghost use Rattle.lb_wire.specs.Opt.{opt_octets, opt_number};
 ghost use Rattle.lb_wire.specs.Message.{Message, Lays};
 ghost use Rattle.lb_wire.specs.Query.{IsQuery, view_of};
+ghost use Rattle.lb_wire.specs.Octets.{max_message};
 ghost use Rattle.lb_wire.specs.Answer.{asked_owner, in_class, address_ttl, address_record, fits_type as fits_type_of, spoof_records, spoofed_of};
 
 use crate::addr::Addr;
@@ -36,7 +37,8 @@ pub fn spoofed(
     requires view { (m : Message) × Lays bytes.now m × IsQuery m × (view.now ≡ view_of m) }
     requires some { 0 < length addrs.now }
     requires few { length addrs.now ≤ 8 }
-    ensures { IfOk result (λ answer. answer.items ≡ spoofed_of view.now addrs.now) }
+    ensures octets { IfOk result (λ answer. answer.items ≡ spoofed_of view.now addrs.now) }
+    ensures short { IfOk result (λ answer. vec_len answer ≤ max_message) }
 {
     let mut answer = Vec::with_capacity(alloc, MAX_SPOOFED)?;
     let (front, _) = bytes.split_at(view.question_end);
@@ -60,6 +62,7 @@ fn push_addresses(
     requires { length addrs.now ≤ 8 }
     ensures octets { OnOk result (answer.new.items ≡ answer.old.items ++ flat_map record_octets (spoof_records qtype.0 addrs.now)) }
     ensures number { IfOk result (λ n. n ≡ length (spoof_records qtype.0 addrs.now)) }
+    ensures short { OnOk result (vec_len answer.new ≤ vec_len answer.old + 28 * length addrs.now) }
 {
     let mut number = 0u16;
     for addr in addrs {
@@ -83,7 +86,8 @@ pub fn fits_type(qtype: RecordType, addr: &Addr) -> bool
 
 /// Appends the record of an address: a pointer to the question name, type A or AAAA, class IN, TTL 60.
 fn push_address(answer: &mut Vec<u8>, addr: &Addr) -> Result<(), AllocError>
-    ensures { OnOk result (answer.new.items ≡ answer.old.items ++ record_octets (address_record addr.now)) }
+    ensures octets { OnOk result (answer.new.items ≡ answer.old.items ++ record_octets (address_record addr.now)) }
+    ensures short { OnOk result (vec_len answer.new ≤ vec_len answer.old + 28) }
 {
     match addr {
         Addr::V4(octets) => {
@@ -125,6 +129,7 @@ fn address_front(rtype: RecordType, len: u8) -> [u8; 12]
 fn push_opt(answer: &mut Vec<u8>, opt: Option<Opt>) -> Result<u16, AllocError>
     ensures octets { OnOk result (answer.new.items ≡ answer.old.items ++ opt_octets opt) }
     ensures number { IfOk result (λ n. n ≡ opt_number opt) }
+    ensures short { OnOk result (vec_len answer.new ≤ vec_len answer.old + 11) }
 {
     match opt {
         Some(opt) => {

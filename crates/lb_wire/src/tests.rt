@@ -4,9 +4,10 @@
 use crate::captured::{CAPTURED, Captured};
 use crate::header::read_header;
 use crate::{
-    Addr, Class, Key, Kind, Octets, Opcode, Opt, PoolId, QueryFault, Rcode, RecordType, ReplyFault,
-    Survey, age, answer_in_place, clear_rd, fits_type, formerr_in_place, key_of, least_is_outlived,
-    read_query, read_reply, respell, restore_id, spoofed, survey, truncated_in_place,
+    Addr, Class, Key, Kind, MAX_MESSAGE, Octets, Opcode, Opt, PoolId, QueryFault, Rcode,
+    RecordType, ReplyFault, Survey, age, answer_in_place, clear_rd, fits_type, formerr_in_place,
+    key_of, least_is_outlived, read_query, read_reply, respell, restore_id, spoofed, survey,
+    truncated_in_place,
 };
 use lb_name::Name;
 use std::test::Fail;
@@ -159,6 +160,7 @@ fn keys(rt: HostRuntime) -> Result<(), Fail> {
     for (text, kind, key) in cases {
         let bytes = hex::decode(alloc, text)?;
         let view = read_query(bytes.as_slice())?;
+        assert!(rt; bytes.len() <= MAX_MESSAGE);
         let made = key_of(alloc, bytes.as_slice(), &view, kind)?;
         assert_eq!(rt; made.kind, kind);
         let copy = made.copy(alloc)?;
@@ -166,6 +168,22 @@ fn keys(rt: HostRuntime) -> Result<(), Fail> {
         assert_eq!(rt; hex::encode(alloc, copy.octets.as_slice())?.as_str(), key);
         assert_eq!(rt; made.octets.into_vec().as_slice(), copy.octets.as_slice());
     }
+    Ok(())
+}
+
+// room that was taken before has the longest message, and keeps no more than a message has
+#[test]
+fn octets_in_room_taken_before(rt: HostRuntime) -> Result<(), Fail> {
+    let alloc = rt.alloc();
+    let longest = Octets::from_vec(Vec::from_elem(alloc, 7, MAX_MESSAGE)?);
+    let copy = longest.copy_into(Vec::with_capacity(alloc, MAX_MESSAGE)?);
+    assert!(rt; copy.as_slice() == longest.as_slice());
+    let short = Octets::from_vec(Vec::from_slice(alloc, &[1, 2, 3])?);
+    let copy = short
+        .copy_into(Vec::with_capacity(alloc, MAX_MESSAGE)?)
+        .into_vec();
+    assert_eq!(rt; copy.as_slice(), [1, 2, 3].as_slice());
+    assert_eq!(rt; copy.capacity(), 3);
     Ok(())
 }
 

@@ -2,14 +2,14 @@
 
 use super::messages::Message;
 use super::wanted::UDP;
-use crate::{CheckSpec, Command, Event, StatedAction, StatedRule, Timeout};
 use lb_cache::{Covered, MaxEntries, MaxTtl, Shards};
 use lb_chain::Addrs;
+use lb_core::{CheckSpec, Command, Event, StatedAction, StatedRule, Timeout};
 use lb_masks::{Group, Mask};
 use lb_name::Name;
 use lb_servers::{Ident, Mode, Policy, PoolName, PoolNames, ServerSpec};
 use lb_terms::{Names, Term};
-use lb_wire::{Addr, Kind, Lane, Octets, Origin, Rcode, RecordType, RuleId, ServerId};
+use lb_wire::{Addr, Kind, Lane, MAX_MESSAGE, Octets, Origin, Rcode, RecordType, RuleId, ServerId};
 use std::alloc::{AllocError, Global};
 use std::num::NonZeroU8;
 use std::test::Fail;
@@ -188,8 +188,12 @@ pub(super) fn origin(slot: u64, source: Addr) -> Origin {
     }
 }
 
-fn octets(alloc: Global, message: Message) -> Result<Octets, AllocError> {
-    Ok(Octets::from_vec(Vec::from_slice(alloc, message.octets())?))
+fn octets(alloc: Global, message: Message) -> Result<Octets, Fail> {
+    let octets = message.octets();
+    if octets.len() > MAX_MESSAGE {
+        return Err(Fail::from("too long a message"));
+    }
+    Ok(Octets::from_vec(Vec::from_slice(alloc, octets)?))
 }
 
 fn reply(

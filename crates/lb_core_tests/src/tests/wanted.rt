@@ -2,8 +2,8 @@
 
 use super::messages::Message;
 use super::told::{ONE, origin};
-use crate::{Answer, DropReason, EditFault, IgnoreReason, LocalReason, Note, Totals};
 use lb_chain::ChainFault;
+use lb_core::{Answer, DropReason, EditFault, IgnoreReason, LocalReason, Note, Totals};
 use lb_servers::{Mode, ParkFault, Policy, PoolName};
 use lb_wire::{Kept, Kind, Lane, Octets, Origin, RuleId};
 

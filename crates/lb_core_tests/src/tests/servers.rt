@@ -4,7 +4,6 @@ use super::messages::Message;
 use super::told::{Action, PLAIN, Query, STREAM, Selector, Told};
 use super::wanted::{NO_SERVER, TCP, UDP, Wanted};
 use super::{Line, play, play_line, play_on};
-use crate::{Balancer, IgnoreReason};
 use IgnoreReason::{Mismatch, NotReply, Short, Unknown};
 use Selector::{All, MaxQps, Qtype};
 use Told::{
@@ -15,6 +14,7 @@ use Wanted::{
     Delivered, DroppedBy, Ignored, ModeSet, PolicySet, PoolAdded, RuleAdded, Sent, ServerAdded,
     ServerRemoved, ServersRefuse,
 };
+use lb_core::{Balancer, IgnoreReason};
 use lb_servers::{Mode, ParkFault, Policy};
 use lb_wire::RecordType;
 use std::process::Abort;

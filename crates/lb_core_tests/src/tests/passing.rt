@@ -4,7 +4,6 @@ use super::messages::Message;
 use super::told::{Action, PLAIN, Query, STREAM, Selector, Told};
 use super::wanted::{NO_SERVER, TCP, UDP, Wanted};
 use super::{Line, play, play_on};
-use crate::{Balancer, IgnoreReason};
 use Selector::All;
 use Told::{
     Ask, AskAt, AskBy, Health, Reply, Rule, Server, ServerChecked, ServerMode, ServerRemove, Tick,
@@ -14,6 +13,7 @@ use Wanted::{
     Expired, Ignored, ModeSet, Quiet, RuleAdded, Sent, ServerAdded, ServerDown, ServerRemoved,
     ServerUp, TimeoutSet,
 };
+use lb_core::{Balancer, IgnoreReason};
 use lb_servers::Mode;
 use std::test::Fail;
 

@@ -1,6 +1,6 @@
 //! Lines that read and lines that do not, and the lines of answers.
 
-use crate::{answer_line, note_text, read_command, read_event_line, read_setup_line};
+use lb_command::{answer_line, note_text, read_command, read_event_line, read_setup_line};
 use lb_core::{Answer, EditFault, IgnoreReason, LocalReason, Note, Timeout, Totals};
 use lb_servers::{Ident, Mode, ParkFault, Policy, PoolName};
 use lb_wire::{Addr, CacheId, Kept, Kind, Lane, Octets, Origin, ServerId};

@@ -4,7 +4,6 @@ use super::messages::Message;
 use super::told::{Action, PLAIN, Query, STREAM, Selector, Told};
 use super::wanted::{NO_SERVER, TCP, UDP, Wanted};
 use super::{Line, play, play_on, step};
-use crate::{Balancer, IgnoreReason, Totals};
 use Selector::All;
 use Told::{
     Ask, AskAt, AskOfAt, CacheAttach, CacheDetach, ExpungeAll, ExpungeName, ExpungeSuffix, ReplyAt,
@@ -14,7 +13,8 @@ use Wanted::{
     CacheAttached, CacheDetached, Delivered, Expunged, Hit, Ignored, Kept, NoCache, NoRoom,
     RuleAdded, Sent, ServerAdded, Shown,
 };
-use lb_wire::RecordType;
+use lb_core::{Balancer, IgnoreReason, Totals};
+use lb_wire::{MAX_MESSAGE, RecordType};
 use std::test::Fail;
 
 const SENT: Wanted = Sent(1, UDP, 16, Message::Sent16);
@@ -321,7 +321,7 @@ fn snapshot(rt: HostRuntime) -> Result<(), Fail> {
     Ok(())
 }
 
-/// An event and an answer are copied.
+/// An event and an answer are copied, and an answer into room that was taken before.
 #[test]
 fn copies(rt: HostRuntime) -> Result<(), Fail> {
     let mut balancer = Balancer::new(rt.alloc())?;
@@ -329,6 +329,7 @@ fn copies(rt: HostRuntime) -> Result<(), Fail> {
     let answer = step(&mut balancer, event.copy(rt.alloc())?);
     let again = step(&mut balancer, event);
     let copy = answer.copy(rt.alloc())?;
-    assert!(rt; NO_SERVER.is(&copy) && NO_SERVER.is(&again));
+    let same = answer.copy_into(Vec::with_capacity(rt.alloc(), MAX_MESSAGE)?);
+    assert!(rt; NO_SERVER.is(&copy) && NO_SERVER.is(&same) && NO_SERVER.is(&again));
     Ok(())
 }

@@ -9,6 +9,7 @@
 //! is gone, and the next one is forwarded.
 
 mod caches;
+mod equal;
 mod messages;
 mod passing;
 mod rules;
@@ -16,8 +17,8 @@ mod servers;
 mod told;
 mod wanted;
 
-use crate::{Answer, Balancer, EditFault, Event, IgnoreReason};
 use lb_chain::ChainFault;
+use lb_core::{Answer, Balancer, EditFault, Event, IgnoreReason};
 use lb_servers::ParkFault;
 use lb_wire::Kept;
 use messages::Message;

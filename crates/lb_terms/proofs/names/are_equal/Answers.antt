@@ -1,0 +1,6 @@
+use Rattle.std.proofs.Common.{rules, tests}
+use Rattle.std.proofs.lemmas.Iterator.{YieldsList-from_slice, YieldsList-from_zip, same_from_all}
+use Rattle.lb_terms.proofs.names.are_equal.Goals as goal
+
+pub returns-then-names-others-clause-equal : goal.returns-then-names-others-clause-equal
+returns-then-names-others-clause-equal c = (same_from_all c.all.new.self _ _ _ _ c.all.ensures.ran (YieldsList-from_zip (YieldsList-from_slice c.args.names.now cc) (YieldsList-from_slice c.args.others.now cc)) (search rules) (λ x q k. search (rules, tests)) (λ x q k. search (rules, tests))).0
