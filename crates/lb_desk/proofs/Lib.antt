@@ -1,0 +1,4 @@
+pub mod Numbers
+pub mod Receipts
+pub mod Runs
+pub mod Whole

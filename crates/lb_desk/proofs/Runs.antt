@@ -1,0 +1,75 @@
+-- One call more, at the end of a log.
+use Rattle.std.proofs.Common.{All, ℕ, List, [], ap, rules, arith, refl, subst, sym, ◌++◌, ◌+◌, ◌<◌, ◌∙◌, ◌∷◌, ◌≡◌, ◌≤◌}
+use Rattle.std.proofs.lemmas.List.{map-append}
+use Rattle.std.proofs.lemmas.List.Elements.{All-append}
+use Rattle.lb_core.specs.declared.answer.Answer.{Answer}
+use Rattle.lb_core.specs.declared.event.Event.{Event}
+use Rattle.lb_core.specs.Plain.{Plain}
+use Rattle.lb_core.specs.Runs.{CachedAnswersAreKeptReplies, IsRun}
+use Rattle.lb_core.specs.Snapshot.{IsShown, Snapshot, snapshot_of}
+use Rattle.lb_core.specs.Step.{Answers}
+use Rattle.lb_desk.specs.declared.entry.Entry.{Entry}
+use Rattle.lb_desk.specs.declared.entry.SeatId.{SeatId}
+use Rattle.lb_desk.specs.Book.{Keeps}
+use Rattle.lb_desk.specs.Entry.{Tells, TellsCaches, answers_of, entry, events_of}
+
+-- one event more
+run_grown : (old mid new : Plain) (es : List Event) (answers : List Answer) (e : Event) (a : Answer) → IsRun old es answers mid → Answers mid e a new → IsRun old (es ++ e ∷ []) (answers ++ a ∷ []) new
+run_grown old mid new [] [] e a is step = (new, subst (λ m. Answers m e a new) is step, refl)
+run_grown old mid new (x ∷ es) (y ∷ answers) e a run step = (run.0, run.1, run_grown run.0 mid new es answers e a run.2 step)
+run_grown old mid new [] (y ∷ answers) e a none step = absurd none
+run_grown old mid new (x ∷ es) [] e a none step = absurd none
+
+-- a log with one entry more tells of the run with one event more
+tells_grown : (opening : Snapshot) (log : List Entry) (mid new : Plain) (seat : SeatId) (event : Event) (answer : Answer) → Tells opening log mid → Answers mid event answer new
+    → Tells opening (log ++ entry seat event answer ∷ []) new
+tells_grown opening log mid new seat event answer tells step = record {
+  start = tells.start;
+  shown = tells.shown;
+  opens = tells.opens;
+  run =
+      subst (λ es. IsRun tells.start es (answers_of (log ++ entry seat event answer ∷ [])) new) (sym (map-append (λ (e : Entry). e.event) log (entry seat event answer ∷ [])))
+      (subst (λ l. IsRun tells.start (events_of log ++ event ∷ []) l new) (sym (map-append (λ (e : Entry). e.answer) log (entry seat event answer ∷ [])))
+      (run_grown tells.start mid new (events_of log) (answers_of log) event answer tells.run step));
+}
+
+-- a call that the log has
+pub keeps_grown : (opening : Snapshot) (limit count : ℕ) (log : List Entry) (old new : Plain) (seat : SeatId) (event : Event) (answer : Answer) → count < limit → Answers old event answer new
+    → Keeps opening limit count log old → Keeps opening limit (count + 1) (log ++ entry seat event answer ∷ []) new
+keeps_grown opening limit count log old new seat event answer within step keeps =
+    let is : old ≡ keeps.end = keeps.current (omega arith) in record {
+      end = new;
+      tells = tells_grown opening log keeps.end new seat event answer keeps.tells (subst (λ p. Answers p event answer new) is step);
+      current = λ _. refl;
+    }
+
+-- a call past the limit
+pub keeps_past : (opening : Snapshot) (limit count : ℕ) (log : List Entry) (old new : Plain) → limit ≤ count → Keeps opening limit count log old → Keeps opening limit (count + 1) log new
+keeps_past opening limit count log old new past keeps = record { end = keeps.end; tells = keeps.tells; current = λ within. absurd (omega arith) }
+
+-- a book without calls
+pub keeps_new : (opening : Snapshot) (limit : ℕ) (log : List Entry) (balancer : Plain) → IsShown balancer → opening ≡ snapshot_of balancer → log ≡ [] → ∥ Keeps opening limit 0 log balancer ∥₁
+keeps_new opening limit log balancer shown opens none =
+    let keeps : Keeps opening limit 0 [] balancer = record {
+      end = balancer;
+      tells = record { start = balancer; shown = shown; opens = sym opens; run = refl };
+      current = λ _. refl;
+    } in
+    subst (λ l. ∥ Keeps opening limit 0 l balancer ∥₁) (sym none) ∣ keeps ∣₁
+
+-- the seats of a log with one entry more
+pub seated_grown : (seats : ℕ) (log new : List Entry) (e : Entry) → All (λ (x : Entry). x.seat.0 < seats) log → e.seat.0 < seats → new ≡ log ++ e ∷ [] → All (λ (x : Entry). x.seat.0 < seats) new
+seated_grown seats log new e each last is = subst (λ l. All (λ (x : Entry). x.seat.0 < seats) l) (sym is) (All-append (λ (x : Entry). x.seat.0 < seats) log (e ∷ []) each (search rules))
+
+-- a log that tells of a run from a state without outstanding queries and kept replies tells where its cached answers come from
+pub caches_told : CachedAnswersAreKeptReplies → (opening : Snapshot) (limit count : ℕ) (log : List Entry) (balancer : Plain) → opening.outstanding ≡ [] → opening.kept ≡ []
+    → Keeps opening limit count log balancer → TellsCaches opening log
+caches_told law opening limit count log balancer none_outstanding none_kept keeps =
+    let tells = keeps.tells in record {
+      start = tells.start;
+      shown = tells.shown;
+      opens = tells.opens;
+      provenance =
+          law tells.start keeps.end (events_of log) (answers_of log) (ap (λ (s : Snapshot). s.outstanding) tells.opens ∙ none_outstanding)
+          (ap (λ (s : Snapshot). s.kept) tells.opens ∙ none_kept) tells.run;
+    }

@@ -1,0 +1,21 @@
+use Rattle.std.proofs.Common.{arith, subst, sym, ◌≤◌}
+use Rattle.std.proofs.Math.Logic.{∥∥₁_map}
+use Rattle.lb_desk.specs.Book.{Keeps}
+use Rattle.lb_desk.proofs.Runs.{keeps_past}
+use Rattle.lb_desk.proofs.book.Book.take_past.Goals as goal
+
+pub invariant_of-self-inside : goal.invariant_of-self-inside
+invariant_of-self-inside g c =
+    let b = c.self.inside in
+    let past : b.limit ≤ b.count = subst (λ v. v.limit ≤ v.count) (sym c.self.view_is) c.requires.past in
+    let filled = b.filled in
+    let so_far = b.counted in
+    let raised = c.counted.ensures.count in
+    let total = c.counted.ensures.total in
+    let told =
+    subst (λ n. ∥ Keeps g.J.Naming.opening b.limit n b.log.items c.counted.new.balancer ∥₁) (sym raised)
+    (∥∥₁_map b.told (keeps_past g.J.Naming.opening b.limit b.count b.log.items b.balancer c.counted.new.balancer past))
+    in (
+      omega arith,
+      (b.limited, (omega arith, (b.seated, (b.roomy, (told, tt))))),
+    )

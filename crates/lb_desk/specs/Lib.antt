@@ -1,0 +1,12 @@
+pub use Rattle.lb_core.specs.Answer
+pub use Rattle.lb_core.specs.Plain
+pub use Rattle.lb_core.specs.Provenance
+pub use Rattle.lb_core.specs.Reading
+pub use Rattle.lb_core.specs.Routes
+pub use Rattle.lb_core.specs.Runs
+pub use Rattle.lb_core.specs.Snapshot
+pub use Rattle.lb_core.specs.Step
+pub mod Fault
+pub mod Entry
+pub mod Seat
+pub mod Book

@@ -1,0 +1,59 @@
+//! Whether the receipts of seats are the log's entries.
+
+ghost use Rattle.std.specs.Prelude.{All, IfSome, IsTrue, length, take, ◌++◌, ◌<◌, ◌^◌, ◌≡◌, ◌≤◌};
+ghost use Rattle.lb_desk.specs.Entry.{receipt, receipt_at, receipts_of};
+
+use crate::entry::{Entry, Receipt, SeatId};
+use crate::naming::Naming;
+use crate::seat::Seat;
+
+/// Whether the receipts of each seat are its entries of the log.
+pub(crate) fn all_agree<J: Naming>(log: &[Entry], seats: &[Seat<J>]) -> bool
+    requires { length log.now < 2 ^ 63 }
+    ensures { IsTrue result → All (λ s. s.receipts ≡ receipts_of s.number log.now) seats.now }
+{
+    for seat in seats {
+        if !agrees(log, seat.number(), seat.receipts()) {
+            return false;
+        }
+    }
+    true
+}
+
+/// Whether the receipts are the entries of a seat, in order.
+fn agrees(log: &[Entry], seat: SeatId, receipts: &[Receipt]) -> bool
+    requires { length log.now < 2 ^ 63 }
+    ensures { IsTrue result → receipts.now ≡ receipts_of seat log.now }
+{
+    let mut next = 0;
+    for place in 0..log.len() {
+        match past(&log[place], place as u64, seat, receipts, next) {
+            Some(after) => next = after,
+            None => return false,
+        }
+    }
+    next == receipts.len()
+}
+
+/// The place behind the receipt of an entry; the same place where the entry is of another seat. None where the receipts do not
+/// have it next.
+fn past(entry: &Entry, place: u64, seat: SeatId, receipts: &[Receipt], next: usize) -> Option<usize>
+    requires { next ≤ length receipts.now }
+    ensures within { IfSome result (λ after. after ≤ length receipts.now) }
+    ensures found { IfSome result (λ after. take after receipts.now ≡ take next receipts.now ++ receipt_at seat place entry.now) }
+{
+    if entry.seat != seat {
+        return Some(next);
+    }
+    if next < receipts.len() && is_receipt(&receipts[next], place, entry) {
+        return Some(next + 1);
+    }
+    None
+}
+
+/// Whether a receipt is that of the entry at a place.
+fn is_receipt(kept: &Receipt, place: u64, entry: &Entry) -> bool
+    ensures { IsTrue result → kept.now ≡ receipt place entry.now.event entry.now.answer }
+{
+    kept.place == place && kept.event.equals(&entry.event) && kept.answer.equals(&entry.answer)
+}

@@ -1,0 +1,14 @@
+//! What a closed desk leaves.
+
+use crate::entry::Entry;
+use lb_core::Balancer;
+
+/// What a closed desk leaves.
+#[derive(Drop)]
+pub struct Audit {
+    /// How many calls were answered.
+    pub count: u64,
+    /// The first of them, as many as the desk's limit allowed.
+    pub log: Vec<Entry>,
+    pub balancer: Balancer,
+}

@@ -1,0 +1,264 @@
+//! What lies under the lock of a desk: the balancer, and a log of which each moment shows that it is true.
+
+ghost use Rattle.std.specs.Prelude.{All, IfOk, IsErrAnd, None, OnOk, Some, min, vec_capacity, vec_len, ◌++◌, ◌+◌, ◌-◌, ◌<◌, ◌^◌, ◌↔◌, ◌∷◌, ◌≡◌, ◌≤◌, []};
+ghost use Rattle.std.specs.Option.{ForSome};
+ghost use Rattle.lb_core.specs.Snapshot.{IsShown, snapshot_of};
+ghost use Rattle.lb_core.specs.Step.{Answers};
+ghost use Rattle.lb_desk.specs.Book.{Booked, IsReadyFor, Keeps};
+ghost use Rattle.lb_desk.specs.Entry.{entry};
+ghost use Rattle.lb_desk.specs.declared.fault.DeskFault.TheVariants.{CountFull, NoMemory};
+
+use crate::audit::Audit;
+use crate::entry::{Entry, SeatId};
+use crate::fault::DeskFault;
+use crate::naming::Naming;
+use crate::spare::{Room, Spare};
+use lb_core::{Answer, Balancer, Event};
+use std::alloc::{AllocError, Global};
+use std::marker::Model;
+use std::sync::ledger;
+use std::sync::ledger::Share;
+
+/// What lies under the lock of a desk: its balancer, and the log of the first calls. A contract sees how many calls were answered and
+/// how many the log has at most, the log, and for which event room is taken.
+#[derive(Drop)]
+pub struct Book<J: Naming> {
+    alloc: Global,
+    balancer: Balancer,
+    limit: u64,
+    count: u64,
+    log: Vec<Entry>,
+    spare: Option<Spare>,
+    calls: ledger::Book<J>,
+    ghost counted: { count ≡ calls.total },
+    ghost limited: { limit ≡ J.limit },
+    ghost filled: { vec_len log ≡ min count limit },
+    ghost seated: { All (λ e. e.seat.0 < J.seats) log.items },
+    ghost roomy: { ForSome spare (λ _. vec_len log < vec_capacity log) },
+    ghost told: { ∥ Keeps J.opening limit count log.items balancer ∥₁ },
+}
+
+impl<J: Naming> Model for Book<J> {
+    ghost use Rattle.std.specs.Prelude.{option_map};
+    ghost use Rattle.lb_desk.specs.Book.{Booked};
+
+    ghost Value = { Booked };
+
+    ghost use Rattle.lb_terms.specs.contracts.term.CheckedTerm as contract;
+    ghost use Rattle.std.specs.Coded.{codes};
+
+    ghost coded = { Prim.hlevel (codes, contract.the_row.coded) };
+
+    ghost view = { λ b. record { balancer = b.balancer; count = b.count; limit = b.limit; log = b.log.items; ready = option_map (λ s. s.event) b.spare } };
+}
+
+impl<J: Naming> Book<J> {
+    /// A book without calls.
+    pub(crate) fn new(
+        alloc: Global,
+        balancer: Balancer,
+        limit: u64,
+        calls: ledger::Book<J>,
+    ) -> Book<J>
+        requires new { calls.total ≡ 0 }
+        requires limit { J.limit ≡ limit }
+        requires opening { J.opening ≡ snapshot_of balancer }
+        requires shown { IsShown balancer }
+        ensures { result ≡ record { balancer = balancer; count = 0; limit = limit; log = []; ready = None } }
+    {
+        Book {
+            alloc,
+            balancer,
+            limit,
+            count: 0,
+            log: Vec::new(alloc),
+            spare: None,
+            calls,
+        }
+    }
+}
+
+impl<J: Naming> Book<J> {
+    /// Takes room for the entry of a call of this event, where the log has room for it by its limit. Nothing else changes.
+    pub fn ready(&mut self, event: &Event) -> Result<(), DeskFault>
+        ensures full { IsErrAnd result (λ fault. fault ≡ CountFull) ↔ (self.old.count ≡ 2 ^ 64 - 1) }
+        ensures memory { IsErrAnd result (λ fault. fault ≡ NoMemory) → self.old.count < self.old.limit }
+        ensures ready { OnOk result (IsReadyFor event.now self.new) }
+        ensures same { self.new ≡ record self.old { ready = self.new.ready } }
+    {
+        if self.count == u64::MAX {
+            return Err(DeskFault::CountFull);
+        }
+        if self.count >= self.limit {
+            return Ok(());
+        }
+        match room_for(self.alloc, &mut self.log, event) {
+            Ok(spare) => {
+                self.spare = Some(spare);
+                Ok(())
+            }
+            Err(_) => Err(DeskFault::NoMemory),
+        }
+    }
+
+    /// Answers an event by one step of the balancer. The call is counted, in the book and in the caller's share, and the log has it,
+    /// under the seat's number, where its limit allows. The place is how many calls there were before.
+    pub fn take(&mut self, share: &mut Share<J>, seat: SeatId, event: Event) -> (Answer, u64)
+        requires part { 0 < share.old.parts }
+        requires seat { seat.0 < J.seats }
+        requires room { self.old.count < 2 ^ 64 - 1 }
+        requires ready { IsReadyFor event self.old }
+        ensures step { Answers self.old.balancer event result.0 self.new.balancer }
+        ensures place { result.1 ≡ self.old.count }
+        ensures count { self.new.count ≡ self.old.count + 1 }
+        ensures log { self.old.count < self.old.limit → self.new.log ≡ self.old.log ++ entry seat event result.0 ∷ [] }
+        ensures past { self.old.limit ≤ self.old.count → self.new.log ≡ self.old.log }
+        ensures limit { self.new.limit ≡ self.old.limit }
+        ensures share { share.new.amount ≡ share.old.amount + 1 }
+        ensures parts { share.new.parts ≡ share.old.parts }
+    {
+        let place = self.count;
+        if place >= self.limit {
+            return (self.take_past(share, event), place);
+        }
+        (self.take_logged(share, seat, event), place)
+    }
+}
+
+impl<J: Naming> Book<J> {
+    /// A call that the log has.
+    fn take_logged(&mut self, share: &mut Share<J>, seat: SeatId, event: Event) -> Answer
+        requires part { 0 < share.old.parts }
+        requires seat { seat.0 < J.seats }
+        requires logs { self.old.count < self.old.limit }
+        requires ready { self.old.ready ≡ Some event }
+        ensures step { Answers self.old.balancer event result self.new.balancer }
+        ensures count { self.new.count ≡ self.old.count + 1 }
+        ensures log { self.new.log ≡ self.old.log ++ entry seat event result ∷ [] }
+        ensures limit { self.new.limit ≡ self.old.limit }
+        ensures share { share.new.amount ≡ share.old.amount + 1 }
+        ensures parts { share.new.parts ≡ share.old.parts }
+    {
+        let Book {
+            balancer,
+            count,
+            log,
+            spare,
+            calls,
+            ..
+        } = self;
+        let Some(Spare { event: copy, room }) = spare.take() else {
+            unreachable!()
+        };
+        let answer = counted(balancer, count, calls, share, event);
+        log.push_reserved(Entry {
+            seat,
+            event: copy,
+            answer: room.filled(&answer),
+        });
+        answer
+    }
+
+    /// A call past the log's limit.
+    fn take_past(&mut self, share: &mut Share<J>, event: Event) -> Answer
+        requires part { 0 < share.old.parts }
+        requires past { self.old.limit ≤ self.old.count }
+        requires room { self.old.count < 2 ^ 64 - 1 }
+        ensures step { Answers self.old.balancer event result self.new.balancer }
+        ensures count { self.new.count ≡ self.old.count + 1 }
+        ensures log { self.new.log ≡ self.old.log }
+        ensures limit { self.new.limit ≡ self.old.limit }
+        ensures share { share.new.amount ≡ share.old.amount + 1 }
+        ensures parts { share.new.parts ≡ share.old.parts }
+    {
+        let Book {
+            balancer,
+            count,
+            calls,
+            ..
+        } = self;
+        counted(balancer, count, calls, share, event)
+    }
+}
+
+impl<J: Naming> Book<J> {
+    /// The log.
+    pub(crate) fn log(&self) -> &[Entry]
+        ensures { result.now ≡ self.now.log }
+    {
+        self.log.as_slice()
+    }
+
+    /// How many calls were answered.
+    pub(crate) fn count(&self) -> u64
+        ensures { result ≡ self.now.count }
+    {
+        self.count
+    }
+
+    /// How many calls the log has at most.
+    pub(crate) fn limit(&self) -> u64
+        ensures limit { result ≡ self.now.limit }
+        ensures named { result ≡ J.limit }
+    {
+        self.limit
+    }
+
+    /// What the book leaves, once all shares of its calls are in one.
+    pub(crate) fn closed(self, mut all: Share<J>) -> Audit
+        requires parts { all.parts ≡ J.parts }
+        ensures count { result.count ≡ all.amount }
+        ensures log { result.log.items ≡ self.log }
+        ensures filled { vec_len result.log ≡ min result.count J.limit }
+        ensures seated { All (λ e. e.seat.0 < J.seats) result.log.items }
+        ensures told { ∥ Keeps J.opening J.limit result.count result.log.items result.balancer ∥₁ }
+    {
+        let Book {
+            balancer,
+            count,
+            log,
+            mut calls,
+            ..
+        } = self;
+        calls.audit(&mut all);
+        Audit {
+            count,
+            log,
+            balancer,
+        }
+    }
+}
+
+/// One step of the balancer, which the book and the share count.
+fn counted<J: Naming>(
+    balancer: &mut Balancer,
+    count: &mut u64,
+    calls: &mut ledger::Book<J>,
+    share: &mut Share<J>,
+    event: Event,
+) -> Answer
+    requires part { 0 < share.old.parts }
+    requires room { count.old < 2 ^ 64 - 1 }
+    ensures step { Answers balancer.old event result balancer.new }
+    ensures count { count.new ≡ count.old + 1 }
+    ensures total { calls.new.total ≡ calls.old.total + 1 }
+    ensures share { share.new.amount ≡ share.old.amount + 1 }
+    ensures parts { share.new.parts ≡ share.old.parts }
+{
+    let answer = balancer.step(event);
+    calls.add(share, 1);
+    *count += 1;
+    answer
+}
+
+/// Room for one more entry of a log.
+fn room_for(alloc: Global, log: &mut Vec<Entry>, event: &Event) -> Result<Spare, AllocError>
+    ensures spare { IfOk result (λ spare. spare.event ≡ event.now) }
+    ensures room { OnOk result (vec_len log.new < vec_capacity log.new) }
+    ensures items { log.new.items ≡ log.old.items }
+    ensures len { vec_len log.new ≡ vec_len log.old }
+    ensures capacity { vec_capacity log.old ≤ vec_capacity log.new }
+{
+    log.reserve(1)?;
+    Spare::take(alloc, event)
+}

@@ -1,0 +1,20 @@
+//! The desk: one balancer under one lock, called from many threads, with a log of which it is proved that it is true.
+#![tactic(auto)]
+
+mod agree;
+mod audit;
+mod book;
+mod desk;
+mod entry;
+mod fault;
+mod naming;
+mod seat;
+mod spare;
+
+pub use audit::Audit;
+pub use book::Book;
+pub use desk::Desk;
+pub use entry::{Entry, Receipt, SeatId};
+pub use fault::{CloseFault, DeskFault};
+pub use naming::Naming;
+pub use seat::Seat;

@@ -1,0 +1,128 @@
+//! Seats: the right of one caller to call a desk, with the receipts of its calls.
+
+ghost use Rattle.std.specs.Prelude.{IfOk, IsSome, OnOk, length, vec_capacity, vec_len, ◌++◌, ◌+◌, ◌<◌, ◌∷◌, ◌≡◌, ◌≤◌, []};
+ghost use Rattle.std.specs.Option.{ForSome};
+ghost use Rattle.lb_desk.specs.Entry.{receipt};
+
+use crate::entry::{Receipt, SeatId};
+use crate::naming::Naming;
+use crate::spare::Room;
+use lb_core::{Answer, Event};
+use std::alloc::{AllocError, Global};
+use std::marker::Model;
+use std::sync::ledger::Share;
+
+/// The right of one caller to call a desk. A contract sees its number at the desk, how many of its calls were answered, and its
+/// receipts: those of its calls that the log has, in order.
+#[derive(Drop)]
+pub struct Seat<J: Naming> {
+    pub(crate) number: SeatId,
+    pub(crate) share: Share<J>,
+    pub(crate) calls: u64,
+    pub(crate) receipts: Receipts,
+    ghost part: { share.parts ≡ 1 },
+    ghost counted: { share.amount ≡ calls },
+    ghost seated: { number.0 < J.seats },
+    ghost fewer: { vec_len receipts.kept ≤ calls },
+}
+
+impl<J: Naming> Model for Seat<J> {
+    ghost use Rattle.lb_desk.specs.Seat.{Seated};
+
+    ghost Value = { Seated };
+
+    ghost use Rattle.lb_terms.specs.contracts.term.CheckedTerm as contract;
+    ghost use Rattle.std.specs.Coded.{codes};
+
+    ghost coded = { Prim.hlevel (codes, contract.the_row.coded) };
+
+    ghost view = { λ s. record { number = s.number; calls = s.calls; receipts = s.receipts.kept.items } };
+}
+
+impl<J: Naming> Seat<J> {
+    /// A seat without calls.
+    pub(crate) fn new(alloc: Global, number: SeatId, share: Share<J>) -> Seat<J>
+        requires share { (share.parts ≡ 1) × (share.amount ≡ 0) }
+        requires seat { number.0 < J.seats }
+        ensures { result ≡ record { number = number; calls = 0; receipts = [] } }
+    {
+        Seat {
+            number,
+            share,
+            calls: 0,
+            receipts: Receipts {
+                kept: Vec::new(alloc),
+                room: None,
+            },
+        }
+    }
+
+    /// A law: it has no more receipts than calls. It does nothing.
+    pub fn law_of_receipts(&self)
+        ensures { length self.now.receipts ≤ self.now.calls }
+    {
+        // Read, so that what the seat keeps true is at hand.
+        let _ = self.receipts.kept.len();
+    }
+
+    /// Its number at the desk.
+    pub fn number(&self) -> SeatId
+        ensures { result ≡ self.now.number }
+    {
+        self.number
+    }
+
+    /// How many of its calls were answered.
+    pub fn calls(&self) -> u64
+        ensures { result ≡ self.now.calls }
+    {
+        self.calls
+    }
+
+    /// The receipts of those that the log has, in order.
+    pub fn receipts(&self) -> &[Receipt]
+        ensures { result.now ≡ self.now.receipts }
+    {
+        self.receipts.kept.as_slice()
+    }
+}
+
+/// The receipts of a seat, and room for one more.
+#[derive(Drop)]
+pub(crate) struct Receipts {
+    pub(crate) kept: Vec<Receipt>,
+    pub(crate) room: Option<Room>,
+    ghost roomy: { ForSome room (λ _. vec_len kept < vec_capacity kept) },
+}
+
+impl Receipts {
+    /// Takes room for one more receipt, where none is there, and a copy of its event. The one error is want of memory.
+    pub(crate) fn prepare(&mut self, alloc: Global, event: &Event) -> Result<Event, AllocError>
+        ensures copy { IfOk result (λ copy. copy ≡ event.now) }
+        ensures room { OnOk result (IsSome self.new.room) }
+        ensures same { self.new.kept.items ≡ self.old.kept.items }
+        ensures len { vec_len self.new.kept ≡ vec_len self.old.kept }
+    {
+        if self.room.is_none() {
+            self.kept.reserve(1)?;
+            self.room = Some(Room::take(alloc)?);
+        }
+        event.copy(alloc)
+    }
+
+    /// Keeps a receipt, in the room that was taken for it.
+    pub(crate) fn keep(&mut self, place: u64, event: Event, answer: &Answer)
+        requires { IsSome self.old.room }
+        ensures kept { self.new.kept.items ≡ self.old.kept.items ++ receipt place event answer.now ∷ [] }
+        ensures len { vec_len self.new.kept ≡ vec_len self.old.kept + 1 }
+    {
+        let Some(room) = self.room.take() else {
+            unreachable!()
+        };
+        self.kept.push_reserved(Receipt {
+            place,
+            event,
+            answer: room.filled(answer),
+        });
+    }
+}

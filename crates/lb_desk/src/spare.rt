@@ -1,0 +1,52 @@
+//! Room for the copies of a call, taken before it.
+
+ghost use Rattle.std.specs.Prelude.{IfOk, vec_capacity, vec_len, ◌≡◌, ◌≤◌};
+ghost use Rattle.lb_wire.specs.Octets.{max_message};
+
+use lb_core::{Answer, Event};
+use lb_wire::MAX_MESSAGE;
+use std::alloc::{AllocError, Global};
+
+/// Room for the octets of any answer.
+#[derive(Debug, Drop)]
+pub(crate) struct Room {
+    octets: Vec<u8>,
+    ghost empty: { vec_len octets ≡ 0 },
+    ghost enough: { max_message ≤ vec_capacity octets },
+}
+
+impl Room {
+    /// Takes the room. The one error is want of memory.
+    pub(crate) fn take(alloc: Global) -> Result<Room, AllocError> {
+        Ok(Room {
+            octets: Vec::with_capacity(alloc, MAX_MESSAGE)?,
+        })
+    }
+
+    /// A copy of the answer in this room. What is left of it is given back.
+    pub(crate) fn filled(self, answer: &Answer) -> Answer
+        ensures { result ≡ answer.now }
+    {
+        let Room { octets } = self;
+        answer.copy_into(octets)
+    }
+}
+
+/// A copy of an event, and room for a copy of its answer.
+#[derive(Debug, Drop)]
+pub(crate) struct Spare {
+    pub(crate) event: Event,
+    pub(crate) room: Room,
+}
+
+impl Spare {
+    /// Takes the room of a call. The one error is want of memory.
+    pub(crate) fn take(alloc: Global, event: &Event) -> Result<Spare, AllocError>
+        ensures { IfOk result (λ spare. spare.event ≡ event.now) }
+    {
+        Ok(Spare {
+            event: event.copy(alloc)?,
+            room: Room::take(alloc)?,
+        })
+    }
+}
