@@ -1,3 +1,4 @@
+pub mod Crosses
 pub mod Numbers
 pub mod Receipts
 pub mod Runs
