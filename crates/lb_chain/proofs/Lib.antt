@@ -11,3 +11,4 @@ pub mod IsAddrs
 pub mod Counted
 pub mod CountedFrom
 pub mod Listings
+pub mod Crosses

@@ -1,3 +1,4 @@
 pub mod Sets
 pub mod Counts
 pub mod Selectors
+pub mod Crosses
