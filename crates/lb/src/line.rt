@@ -1,6 +1,6 @@
 //! A line as it is read.
 
-ghost use Rattle.std.specs.Prelude.{◌≡◌, ◌≢◌, ◌+◌, ◌-◌, ◌<◌, ◌≤◌, ◌++◌, [], Some, false, length, IfOk, IfSome, OnOk, IsTrue, ◌↔◌, slice_index};
+ghost use Rattle.std.specs.Prelude.{◌≡◌, ◌≢◌, ◌+◌, ◌-◌, ◌<◌, ◌≤◌, ◌++◌, [], Some, false, length, IfOk, IfSome, OnOk, IsTrue, ◌↔◌, slice_index, vec_len};
 ghost use Rattle.std.specs.Io.Buffered.{reader_buffer, reader_inner, reader_remaining};
 ghost use Rattle.std.specs.Str.Lines.{strip_carriage_return};
 ghost use Rattle.lb.specs.Shown.{Takes};
@@ -106,7 +106,8 @@ impl Line {
     /// Lets go of the bytes of a line that is too long, all but a carriage return or the beginning of a character at
     /// their end.
     pub(crate) fn shed(&mut self) -> Result<(), NotUtf8>
-        ensures { OnOk result (Sheds self.old self.new) }
+        ensures sheds { OnOk result (Sheds self.old self.new) }
+        ensures few { OnOk result (vec_len self.new.bytes ≤ 300001) }
     {
         if self.bytes.len() <= MAX_LINE + 1 {
             return Ok(());
@@ -159,6 +160,7 @@ impl Line {
 /// not whole.
 fn tail_len(bytes: &[u8]) -> Result<usize, NotUtf8>
     ensures within { IfOk result (λ len. len ≤ length bytes.now) }
+    ensures few { IfOk result (λ len. len < 4) }
     ensures held { IfOk result (λ len. len ≡ 0 → slice_index bytes.now (length bytes.now - 1) ≡ 13 → ⊥) }
 {
     match from_utf8(bytes) {

@@ -15,8 +15,14 @@ const ROUNDS: u32 = 200_000;
 /// The ID that they are sent with.
 const WORD: u16 = 60_000;
 
+/// The socket that they are sent by.
+const LANE: Lane = Lane {
+    kind: Kind::Datagram,
+    number: 0,
+};
+
 /// The number in the name of which no reply is kept at first.
-const OTHER: u16 = 5_000;
+pub(crate) const OTHER: u16 = 5_000;
 
 /// A week, in seconds: longer than a run takes.
 const WEEK: u32 = 604_800;
@@ -62,7 +68,7 @@ fn time_events(rt: &HostRuntime) -> io::Result<()> {
     let query_nanos = start.elapsed(rt)?.as_nanos() / u128::from(ROUNDS);
     let start = Instant::now(rt)?;
     for _ in 0..ROUNDS {
-        if let Event::Reply { now, .. } = reply(alloc, 1_000, OTHER, 1)? {
+        if let Event::Reply { now, .. } = reply(alloc, LANE, WORD, 1_000, OTHER, 1)? {
             sum = sum.wrapping_add(now);
         }
     }
@@ -105,7 +111,7 @@ fn time_forwards(
     for round in 0..ROUNDS {
         let now = u64::from(round).wrapping_mul(2_000);
         let forwarded = balancer.step(query(alloc, now, OTHER)?);
-        let delivered = balancer.step(reply(alloc, now, OTHER, ttl)?);
+        let delivered = balancer.step(reply(alloc, LANE, WORD, now, OTHER, ttl)?);
         if matches!(forwarded, Answer::Forward(..)) {
             sent = sent.wrapping_add(1);
         }
@@ -118,14 +124,14 @@ fn time_forwards(
 }
 
 /// A balancer with one server, whose default pool keeps so many replies, which came at moment 0.
-fn keeping(alloc: Global, kept: u16) -> Result<Balancer, AllocError> {
+pub(crate) fn keeping(alloc: Global, kept: u16) -> Result<Balancer, AllocError> {
     let mut balancer = with_server(alloc)?;
     if !is_attached(&mut balancer) {
         return Err(AllocError);
     }
     for number in 0..kept {
         balancer.step(query(alloc, 0, number)?);
-        let answer = balancer.step(reply(alloc, 0, number, WEEK)?);
+        let answer = balancer.step(reply(alloc, LANE, WORD, 0, number, WEEK)?);
         if !matches!(answer, Answer::Deliver(_, _, Kept::Yes)) {
             return Err(AllocError);
         }
@@ -161,7 +167,7 @@ fn write_number(bytes: &mut [u8], number: u16) {
 }
 
 /// The query for the name with this number, at a moment.
-fn query(alloc: Global, now: u64, number: u16) -> Result<Event, AllocError> {
+pub(crate) fn query(alloc: Global, now: u64, number: u16) -> Result<Event, AllocError> {
     let mut bytes = Vec::from_slice(alloc, QUERY.as_slice())?;
     write_number(&mut bytes, number);
     Ok(Event::Query {
@@ -178,18 +184,23 @@ fn query(alloc: Global, now: u64, number: u16) -> Result<Event, AllocError> {
     })
 }
 
-/// The reply of server 1 to it, to live so many seconds.
-fn reply(alloc: Global, now: u64, number: u16, ttl: u32) -> Result<Event, AllocError> {
+/// The reply of server 1 to it, where it was sent by this socket with this ID; to live so many seconds.
+pub(crate) fn reply(
+    alloc: Global,
+    lane: Lane,
+    id: u16,
+    now: u64,
+    number: u16,
+    ttl: u32,
+) -> Result<Event, AllocError> {
     let mut bytes = Vec::from_slice(alloc, REPLY.as_slice())?;
+    bytes[..2].copy_from_slice(&id.to_be_bytes());
     write_number(&mut bytes, number);
     bytes[35..39].copy_from_slice(&ttl.to_be_bytes());
     Ok(Event::Reply {
         now,
         server: ServerId(1),
-        lane: Lane {
-            kind: Kind::Datagram,
-            number: 0,
-        },
+        lane,
         bytes: Octets::from_vec(bytes),
     })
 }

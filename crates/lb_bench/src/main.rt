@@ -1,16 +1,20 @@
 //! The program `lb_bench`: it measures, and writes nanoseconds a call to standard error. With the argument `messages`
 //! it reads queries, makes their answers and surveys replies; with `rules` it asks balancers with many rules and with a
 //! limiter; with `limits` it gives a limiter fresh addresses; with `forwards` it sends queries to a server and delivers their
-//! replies; with `cache` it asks a balancer that keeps replies; with no argument it does nothing.
+//! replies; with `cache` it asks a balancer that keeps replies; with `desk` it calls desks from one thread and from several; with
+//! `full-desk` it fills the log of a desk, and with `empty-desk` it makes the same calls of one without a log, so that their memory
+//! can be compared; with no argument it does nothing.
 #![tactic(auto)]
 
 mod cache;
+mod desk;
 mod forwards;
 mod limits;
 mod messages;
 mod rules;
 
 use cache::time_cache;
+use desk::{LIMIT, fill_desk, time_desk};
 use forwards::time_forwards;
 use limits::time_fresh;
 use messages::{time_answers, time_surveys};
@@ -36,6 +40,15 @@ fn main(rt: HostRuntime) -> io::Result<()> {
         }
         if word.as_str() == "cache" {
             time_cache(&rt)?;
+        }
+        if word.as_str() == "desk" {
+            time_desk(&rt, &rt)?;
+        }
+        if word.as_str() == "full-desk" {
+            fill_desk(&rt, &rt, LIMIT)?;
+        }
+        if word.as_str() == "empty-desk" {
+            fill_desk(&rt, &rt, 0)?;
         }
     }
     Ok(())

@@ -309,8 +309,12 @@ fn called_by_four<J: Naming + Send + Sync, R: Threads + Wait + Sync>(
     let (desk, mut seats) = Desk::<J>::made(alloc, blank, balancer, 100, 4).ok()?;
     let (fourth, third) = (seats.pop()?, seats.pop()?);
     let (second, first) = (seats.pop()?, seats.pop()?);
-    let ((first, second), (third, fourth)) =
-        call_often_all(rt, &desk, (first, second), (third, fourth))?;
+    let ((first, second), (third, fourth)) = call_often_all(
+        rt,
+        &desk,
+        (first, second),
+        (third, fourth),
+    )?;
     for seat in [first, second, third, fourth] {
         seats.push(seat).ok()?;
     }

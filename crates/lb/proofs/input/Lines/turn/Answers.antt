@@ -6,7 +6,7 @@ use Rattle.lb.proofs.input.Lines.turn.Goals as goal
 pub returns-in-Ok-clause-turns : goal.returns-in-Ok-clause-turns
 returns-in-Ok-clause-turns g c =
     let takes = rw c.in-Piece.is at c.in_ok-read.ensures.shown in
-    λ sound. turn_piece _ _ _ c.args.self.now.line c.read.new.self c.shed.new.self takes c.in_ok-read.ensures.kind c.in-Ok.ensures sound
+    λ sound. turn_piece _ _ _ c.args.self.now.line c.read.new.self c.shed.new.self takes c.in_ok-read.ensures.kind c.in-Ok.ensures.sheds sound
 
 pub returns-in-LineFeed-clause-turns : goal.returns-in-LineFeed-clause-turns
 returns-in-LineFeed-clause-turns g c =
