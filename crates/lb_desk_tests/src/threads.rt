@@ -3,11 +3,11 @@
 ghost use Rattle.std.specs.Prelude.{◌≡◌};
 ghost use Rattle.lb_core.specs.Snapshot.{snapshot_of};
 
-use lb_core::{Answer, Balancer, Command, DropReason, Event, Note, StatedAction, StatedRule};
+use crate::events::{query, rule_for_all};
+use lb_core::{Answer, Balancer, DropReason, Event, Note, StatedAction};
 use lb_desk::{Desk, Naming, Seat};
-use lb_terms::Term;
-use lb_wire::{Addr, Kind, Octets, Origin, RuleId};
-use std::alloc::{AllocError, Global};
+use lb_wire::RuleId;
+use std::alloc::Global;
 use std::marker::Brand;
 use std::process::Abort;
 use std::sync::Wait;
@@ -19,35 +19,6 @@ use std::time::{Clock, Duration};
 
 /// The seats of two threads.
 type Pair<J> = (Seat<J>, Seat<J>);
-
-/// example.com A IN, with RD.
-const QUERY: &[u8] =
-    b"\x12\x34\x01\x00\x00\x01\x00\x00\x00\x00\x00\x00\x07example\x03com\x00\x00\x01\x00\x01";
-
-/// The query at a moment.
-fn query(alloc: Global, now: u64) -> Result<Event, AllocError> {
-    Ok(Event::Query {
-        now,
-        origin: Origin {
-            front: 0,
-            slot: 7,
-            source: Addr::V4([192, 0, 2, 1]),
-            port: 5353,
-        },
-        kind: Kind::Datagram,
-        word: 16,
-        bytes: Octets::from_vec(Vec::from_slice(alloc, QUERY)?),
-    })
-}
-
-/// The edit that adds a rule for every query.
-fn rule_for_all(now: u64, action: StatedAction) -> Option<Event> {
-    let term = Term::All.checked().ok()?;
-    Some(Event::Edit {
-        now,
-        command: Command::RuleAdd(None, StatedRule { term, action }),
-    })
-}
 
 /// A hundred queries, from a thread.
 fn ask<J: Naming, R: Wait>(
