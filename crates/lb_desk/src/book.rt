@@ -150,7 +150,8 @@ impl<J: Naming> Book<J> {
         let Some(Spare { event: copy, room }) = spare.take() else {
             unreachable!()
         };
-        let answer = counted(balancer, count, calls, share, event);
+        let answer = balancer.step(event);
+        count_call(count, calls, share);
         log.push_reserved(Entry {
             seat,
             event: copy,
@@ -177,7 +178,8 @@ impl<J: Naming> Book<J> {
             calls,
             ..
         } = self;
-        counted(balancer, count, calls, share, event)
+        count_call(count, calls, share);
+        balancer.step(event)
     }
 }
 
@@ -229,26 +231,17 @@ impl<J: Naming> Book<J> {
     }
 }
 
-/// One step of the balancer, which the book and the share count.
-fn counted<J: Naming>(
-    balancer: &mut Balancer,
-    count: &mut u64,
-    calls: &mut ledger::Book<J>,
-    share: &mut Share<J>,
-    event: Event,
-) -> Answer
+/// Counts a call, in the book and in the share.
+fn count_call<J: Naming>(count: &mut u64, calls: &mut ledger::Book<J>, share: &mut Share<J>)
     requires part { 0 < share.old.parts }
     requires room { count.old < 2 ^ 64 - 1 }
-    ensures step { Answers balancer.old event result balancer.new }
     ensures count { count.new ≡ count.old + 1 }
     ensures total { calls.new.total ≡ calls.old.total + 1 }
     ensures share { share.new.amount ≡ share.old.amount + 1 }
     ensures parts { share.new.parts ≡ share.old.parts }
 {
-    let answer = balancer.step(event);
     calls.add(share, 1);
     *count += 1;
-    answer
 }
 
 /// Room for one more entry of a log.

@@ -1,6 +1,6 @@
 //! The desk: one balancer that many threads call.
 
-ghost use Rattle.std.specs.Prelude.{All, IfErr, IfOk, IfSome, IsErrAnd, IsSome, IsTrue, OnErr, OnOk, OnSome, length, map, min, sum_by, vec_len, ◌++◌, ◌+◌, ◌<◌, ◌⊎◌, ◌∷◌, ◌≡◌, ◌≢◌, ◌↔◌, ◌≤◌, ℕ, []};
+ghost use Rattle.std.specs.Prelude.{All, IfErr, IfOk, IfSome, IsErrAnd, IsSome, IsTrue, OnErr, OnOk, OnSome, length, map, min, sum_by, vec_len, ◌++◌, ◌+◌, ◌-◌, ◌<◌, ◌^◌, ◌⊎◌, ◌∷◌, ◌≡◌, ◌≢◌, ◌↔◌, ◌≤◌, ℕ, []};
 ghost use Rattle.std.specs.List.{range_with_len};
 ghost use Rattle.lb_core.specs.Snapshot.{snapshot_of};
 ghost use Rattle.lb_desk.specs.Book.{Keeps};
@@ -92,36 +92,66 @@ impl<J: Naming> Desk<J> {
         ensures back { IfErr result (λ fault. fault.1 ≡ event) }
         ensures same { OnErr result (seat.new ≡ seat.old) }
     {
+        if seat.calls == u64::MAX {
+            return Err((DeskFault::CountFull, event));
+        }
+        if self.is_full.load(Ordering::SeqCst) {
+            self.call_past(rt, seat, event)
+        } else {
+            self.call_logged(rt, seat, event)
+        }
+    }
+
+    /// A call that the log has no room for by its limit.
+    fn call_past<R: Wait>(
+        &self,
+        rt: &R,
+        seat: &mut Seat<J>,
+        event: Event,
+    ) -> Result<Answer, (DeskFault, Event)>
+        requires { seat.old.calls < 2 ^ 64 - 1 }
+        ensures done { OnOk result (seat.new ≡ record seat.old { calls = seat.old.calls + 1 }) }
+        ensures back { IfErr result (λ fault. fault.1 ≡ event) }
+        ensures same { OnErr result (seat.new ≡ seat.old) }
+    {
+        let Seat {
+            number,
+            share,
+            calls,
+            ..
+        } = seat;
+        let (answer, _) = self.answered(rt, share, *number, event, false)?;
+        *calls += 1;
+        Ok(answer)
+    }
+
+    /// A call that the log may have room for.
+    fn call_logged<R: Wait>(
+        &self,
+        rt: &R,
+        seat: &mut Seat<J>,
+        event: Event,
+    ) -> Result<Answer, (DeskFault, Event)>
+        requires { seat.old.calls < 2 ^ 64 - 1 }
+        ensures number { seat.new.number ≡ seat.old.number }
+        ensures calls { OnOk result (seat.new.calls ≡ seat.old.calls + 1) }
+        ensures receipts { IfOk result (λ answer. (seat.new.receipts ≡ seat.old.receipts) ⊎ ((place : ℕ) × (place < J.limit) × (seat.new.receipts ≡ seat.old.receipts ++ receipt place event answer ∷ []))) }
+        ensures back { IfErr result (λ fault. fault.1 ≡ event) }
+        ensures same { OnErr result (seat.new ≡ seat.old) }
+    {
         let Seat {
             number,
             share,
             calls,
             receipts,
         } = seat;
-        if *calls == u64::MAX {
-            return Err((DeskFault::CountFull, event));
-        }
-        let copy = self.copy_for(receipts, &event);
+        let copy = receipts.prepare(self.alloc, &event).ok();
         let (answer, place) = self.answered(rt, share, *number, event, copy.is_some())?;
         *calls += 1;
         if let (Some(copy), Some(place)) = (copy, place) {
             receipts.keep(place, copy, &answer);
         }
         Ok(answer)
-    }
-
-    /// A copy of the event of a call, for its receipt, with room for the receipt itself. None where the log is full already, and
-    /// where memory is wanting.
-    fn copy_for(&self, receipts: &mut Receipts, event: &Event) -> Option<Event>
-        ensures copy { IfSome result (λ copy. copy ≡ event.now) }
-        ensures room { OnSome result (IsSome receipts.new.room) }
-        ensures same { receipts.new.kept.items ≡ receipts.old.kept.items }
-        ensures len { vec_len receipts.new.kept ≡ vec_len receipts.old.kept }
-    {
-        if self.is_full.load(Ordering::SeqCst) {
-            return None;
-        }
-        receipts.prepare(self.alloc, event).ok()
     }
 
     /// What a call does under the lock. The place is that of its entry in the log, where the log has it; then room for the receipt is

@@ -15,19 +15,19 @@ invariant_of-self-inside g c =
     let spare : b.spare ≡ Some c.in-Some.field-0 = sym c.take.ensures.value ∙ c.in-Some.is in
     let told : Some c.in-Some.field-0.event ≡ Some c.args.event = ap (option_map (λ (s : Spare). s.event)) (sym spare) ∙ ready in
     let event : c.in-Some.field-0.event ≡ c.args.event = search rules in
-    let log : c.push_reserved.new.self.items ≡ b.log.items ++ entry c.args.seat c.args.event c.counted-answer.result ∷ [] =
+    let log : c.push_reserved.new.self.items ≡ b.log.items ++ entry c.args.seat c.args.event c.step-answer.result ∷ [] =
     c.push_reserved.ensures.items ∙ ap (λ e. b.log.items ++ e ∷ []) (ap (λ x. entry c.args.seat x c.filled.result) event ∙ ap (entry c.args.seat c.args.event) c.filled.ensures)
     in
     let filled = b.filled in
     let so_far = b.counted in
-    let raised = c.counted-answer.ensures.count in
-    let total = c.counted-answer.ensures.total in
+    let raised = c.count_call.ensures.count in
+    let total = c.count_call.ensures.total in
     let len = c.push_reserved.ensures.len in
-    let grown : ∥ Keeps g.J.Naming.opening b.limit (b.count + 1) c.push_reserved.new.self.items c.counted-answer.new.balancer ∥₁ =
-    subst (λ (l : List Entry). ∥ Keeps g.J.Naming.opening b.limit (b.count + 1) l c.counted-answer.new.balancer ∥₁) (sym log)
+    let grown : ∥ Keeps g.J.Naming.opening b.limit (b.count + 1) c.push_reserved.new.self.items c.step-answer.new.self ∥₁ =
+    subst (λ (l : List Entry). ∥ Keeps g.J.Naming.opening b.limit (b.count + 1) l c.step-answer.new.self ∥₁) (sym log)
     (∥∥₁_map b.told
-    (keeps_grown g.J.Naming.opening b.limit b.count b.log.items b.balancer c.counted-answer.new.balancer c.args.seat c.args.event c.counted-answer.result within c.counted-answer.ensures.step))
+    (keeps_grown g.J.Naming.opening b.limit b.count b.log.items b.balancer c.step-answer.new.self c.args.seat c.args.event c.step-answer.result within c.step-answer.ensures))
     in
-    let kept = subst (λ n. ∥ Keeps g.J.Naming.opening b.limit n c.push_reserved.new.self.items c.counted-answer.new.balancer ∥₁) (sym raised) grown in
+    let kept = subst (λ n. ∥ Keeps g.J.Naming.opening b.limit n c.push_reserved.new.self.items c.step-answer.new.self ∥₁) (sym raised) grown in
     let seats = seated_grown _ _ _ _ b.seated c.requires.seat c.push_reserved.ensures.items in
     (omega arith, (b.limited, (omega arith, (seats, (search rules, (kept, tt))))))

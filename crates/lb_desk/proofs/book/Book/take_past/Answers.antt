@@ -10,11 +10,11 @@ invariant_of-self-inside g c =
     let past : b.limit ≤ b.count = subst (λ v. v.limit ≤ v.count) (sym c.self.view_is) c.requires.past in
     let filled = b.filled in
     let so_far = b.counted in
-    let raised = c.counted.ensures.count in
-    let total = c.counted.ensures.total in
+    let raised = c.count_call.ensures.count in
+    let total = c.count_call.ensures.total in
     let told =
-    subst (λ n. ∥ Keeps g.J.Naming.opening b.limit n b.log.items c.counted.new.balancer ∥₁) (sym raised)
-    (∥∥₁_map b.told (keeps_past g.J.Naming.opening b.limit b.count b.log.items b.balancer c.counted.new.balancer past))
+    subst (λ n. ∥ Keeps g.J.Naming.opening b.limit n b.log.items c.step.new.self ∥₁) (sym raised)
+    (∥∥₁_map b.told (keeps_past g.J.Naming.opening b.limit b.count b.log.items b.balancer c.step.new.self past))
     in (
       omega arith,
       (b.limited, (omega arith, (b.seated, (b.roomy, (told, tt))))),
