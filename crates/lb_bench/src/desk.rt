@@ -5,7 +5,7 @@ ghost use Rattle.lb_core.specs.Snapshot.{snapshot_of};
 
 use crate::cache::{OTHER, keeping, query, reply};
 use lb_core::{Answer, Balancer, Event, LocalReason};
-use lb_desk::{Desk, Naming, Seat};
+use lb_desk::{Desk, Naming, Seat, desks_cross_threads};
 use std::alloc::{AllocError, Global};
 use std::io;
 use std::marker::Brand;
@@ -152,6 +152,8 @@ fn go_round_all<J: Naming + Send + Sync, R: Threads + Wait + Sync>(
     (third, fourth): Pair<J>,
     rounds: Rounds,
 ) -> Result<u32, AllocError> {
+    // A law, which does nothing.
+    desks_cross_threads::<J>();
     let (some, others) = join(
         rt,
         move || go_round_both(rt, alloc, desk, first, second, rounds),
@@ -169,6 +171,8 @@ fn go_round_both<J: Naming + Send + Sync, R: Threads + Wait + Sync>(
     second: Seat<J>,
     rounds: Rounds,
 ) -> Result<u32, AllocError> {
+    // A law, which does nothing.
+    desks_cross_threads::<J>();
     let (one, other) = join(
         rt,
         move || go_round(rt, alloc, desk, first, rounds),

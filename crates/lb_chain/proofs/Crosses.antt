@@ -3,16 +3,16 @@
 use denote.Param.Send.{IsSend, IsSync, sendable}
 use Rattle.std.proofs.Crossing.{crosses}
 use Rattle.lb_limits.proofs.limiter.Limiter.TheSendSync.{the_send as limiter_send}
-use Rattle.lb_terms.proofs.Crosses.{checked_send, checked_sync}
 use Rattle.lb_chain.specs.contracts.chain.Chain as Chain
 use Rattle.lb_chain.specs.contracts.limiters.Limiters as Limiters
 use Rattle.lb_chain.specs.contracts.listed.Listed as Listed
+use Rattle.lb_terms.specs.contracts.term.CheckedTerm as CheckedTerm
 
 limiters_send : IsSend Limiters.the_row
 limiters_send = search (limiter_send, sendable, crosses) depth 40 fits 10000
 
-pub chain_send : IsSend Chain.the_row
-chain_send = search (checked_send, limiters_send, sendable, crosses) depth 40 fits 10000
+pub chain_send : IsSend CheckedTerm.the_row → IsSend Chain.the_row
+chain_send checked_send = search (limiters_send, sendable, crosses) depth 40 fits 10000
 
-pub listed_sync : IsSync Listed.the_row
-listed_sync = search (checked_sync, sendable, crosses) depth 40 fits 10000
+pub listed_sync : IsSync CheckedTerm.the_row → IsSync Listed.the_row
+listed_sync checked_sync = search (sendable, crosses) depth 40 fits 10000

@@ -1,10 +1,14 @@
-//! What holds of every walk, and of rules as they are listed and seen at a moment.
+//! What holds of every walk, and of rules as they are listed and seen at a moment, and that chains may cross threads.
 
+ghost use Rattle.std.specs.Thread.{IsSend, IsSync};
 ghost use Rattle.lb_chain.specs.Seen.{SeenWalks, SeenTwice};
 ghost use Rattle.lb_chain.specs.Listed.{ListedAlikeSeenAlike, SeenHaveOwnLimiters};
 ghost use Rattle.lb_chain.specs.Walk.{AllowedWhereNoneEnds, FirstToEndDecides, NoRuleAllows};
+ghost use Rattle.lb_chain.specs.contracts.chain.Chain as chain;
+ghost use Rattle.lb_chain.specs.contracts.listed.Listed as listed;
 
 use lb_limits::recent_twice;
+use lb_terms::terms_cross_threads;
 
 /// Passes that no longer count at a moment have no part in a walk then or later; nor has what is reserved.
 pub fn seen_walks()
@@ -38,3 +42,12 @@ pub fn first_to_end_decides()
     ensures allows { AllowedWhereNoneEnds }
     ensures none { NoRuleAllows }
 {}
+
+/// A chain may go to another thread, and its listed rules may be shared with one.
+pub fn chains_cross_threads()
+    ensures chain { IsSend chain.the_row }
+    ensures listed { IsSync listed.the_row }
+{
+    // A law, which does nothing.
+    terms_cross_threads();
+}

@@ -7,7 +7,8 @@ use Rattle.lb_cache.proofs.cached.KeptReply.TheSendSync.{the_sync as kept_sync}
 use Rattle.lb_cache.proofs.limits.MaxEntries.TheSendSync.{the_send as max_entries_send}
 use Rattle.lb_cache.proofs.limits.MaxTtl.TheSendSync.{the_send as max_ttl_send}
 use Rattle.lb_cache.proofs.limits.Shards.TheSendSync.{the_send as shards_send}
-use Rattle.lb_chain.proofs.Crosses.{chain_send, listed_sync}
+use Rattle.lb_chain.specs.contracts.chain.Chain as Chain
+use Rattle.lb_chain.specs.contracts.listed.Listed as Listed
 use Rattle.lb_core.proofs.check.Check.TheSendSync.{the_sync as check_sync}
 use Rattle.lb_core.proofs.check.CheckSpec.TheSendSync.{the_field_send as check_spec_send}
 use Rattle.lb_core.proofs.timeout.Timeout.TheSendSync.{the_send as timeout_send}
@@ -24,22 +25,23 @@ use Rattle.lb_servers.proofs.pool.PoolName.TheSendSync.{the_send as pool_name_se
 use Rattle.lb_servers.proofs.server.Mode.TheSendSync.{the_field_send as mode_send}
 use Rattle.lb_servers.proofs.server.Server.TheSendSync.{the_sync as server_sync}
 use Rattle.lb_table.proofs.entry.Waiting.TheSendSync.{the_sync as waiting_sync}
-use Rattle.lb_terms.proofs.Crosses.{checked_send}
+use Rattle.lb_terms.specs.contracts.term.CheckedTerm as CheckedTerm
 use Rattle.lb_wire.proofs.addr.Origin.TheSendSync.{the_field_send as origin_send}
 use Rattle.lb_wire.proofs.octets.Octets.TheSendSync.{the_send as octets_send}
 use Rattle.lb_wire.proofs.transport.Lane.TheSendSync.{the_field_send as lane_send}
 
-stated_rule_send : IsSend (StatedRule.the_field).row
-stated_rule_send = search (checked_send, sendable, crosses) depth 40 fits 10000
+stated_rule_send : IsSend CheckedTerm.the_row → IsSend (StatedRule.the_field).row
+stated_rule_send checked_send = search (sendable, crosses) depth 40 fits 10000
 
-command_send : IsSend (Command.the_field).row
-command_send = search (stated_rule_send, check_spec_send, timeout_send, covered_send, max_entries_send, max_ttl_send, shards_send, ident_send, pool_name_send, policy_send, mode_send, sendable, crosses) depth 40 fits 10000
+command_send : IsSend CheckedTerm.the_row → IsSend (Command.the_field).row
+command_send checked_send =
+    search (stated_rule_send, check_spec_send, timeout_send, covered_send, max_entries_send, max_ttl_send, shards_send, ident_send, pool_name_send, policy_send, mode_send, sendable, crosses) depth 40 fits 10000
 
-pub event_send : IsSend (Event.the_field).row
-event_send = search (command_send, origin_send, octets_send, lane_send, sendable, crosses) depth 40 fits 10000
+pub event_send : IsSend CheckedTerm.the_row → IsSend (Event.the_field).row
+event_send checked_send = search (command_send, origin_send, octets_send, lane_send, sendable, crosses) depth 40 fits 10000
 
-pub balancer_send : IsSend Balancer.the_row
-balancer_send = search (chain_send, upstream_send, sendable, crosses) depth 40 fits 10000
+pub balancer_send : IsSend Chain.the_row → IsSend Balancer.the_row
+balancer_send chain_send = search (upstream_send, sendable, crosses) depth 40 fits 10000
 
-pub plain_sync : IsSync Plain.the_row
-plain_sync = search (listed_sync, attached_sync, kept_sync, pool_sync, server_sync, check_sync, waiting_sync, sendable, crosses) depth 40 fits 10000
+pub plain_sync : IsSync Listed.the_row → IsSync Plain.the_row
+plain_sync listed_sync = search (attached_sync, kept_sync, pool_sync, server_sync, check_sync, waiting_sync, sendable, crosses) depth 40 fits 10000

@@ -1,11 +1,16 @@
 //! What holds of every step and of every run. Each function is a law: its contract is the statement, and a call does
 //! nothing but bring it to the caller's proof.
 
+ghost use Rattle.std.specs.Thread.{IsSend, IsSync};
 ghost use Rattle.lb_core.specs.Runs.{CachedAnswersAreKeptReplies, HitsComeFromReplies, OneRunPerMarks, TicksEndTheDue};
 ghost use Rattle.lb_core.specs.Snapshot.{EqualSnapshotsEqualRuns, EqualSnapshotsEqualStates};
 ghost use Rattle.lb_core.specs.Step.{RefusalsChangeNothing, RoutesFollow};
+ghost use Rattle.lb_core.specs.contracts.balancer.Balancer as balancer;
+ghost use Rattle.lb_core.specs.contracts.event.Event as event;
+ghost use Rattle.lb_core.specs.contracts.plain.Plain as plain;
 
-use lb_chain::{listed_alike_seen_alike, seen_twice};
+use lb_chain::{chains_cross_threads, listed_alike_seen_alike, seen_twice};
+use lb_terms::terms_cross_threads;
 use lb_wire::{one_message, one_reading, one_reply_reading, one_survey};
 
 /// Where memory was wanting at the same events, a run has one list of answers and one end.
@@ -70,4 +75,14 @@ pub fn equal_snapshots_have_equal_runs()
     ensures { EqualSnapshotsEqualRuns }
 {
     equal_snapshots_are_of_equal_states();
+}
+
+/// A balancer and an event may go to another thread, and a snapshot may be shared with one.
+pub fn balancers_cross_threads()
+    ensures balancer { IsSend balancer.the_row }
+    ensures event { IsSend event.the_field.row }
+    ensures snapshot { IsSync plain.the_row }
+{
+    terms_cross_threads();
+    chains_cross_threads();
 }

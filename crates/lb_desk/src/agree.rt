@@ -1,6 +1,7 @@
 //! Whether the receipts of seats are the log's entries.
 
-ghost use Rattle.std.specs.Prelude.{All, IfSome, IsTrue, length, take, ◌++◌, ◌<◌, ◌^◌, ◌≡◌, ◌≤◌};
+ghost use Rattle.std.specs.Prelude.{All, IfSome, IsNone, IsTrue, List, length, take, ◌++◌, ◌<◌, ◌^◌, ◌≡◌, ◌≢◌, ◌≤◌};
+ghost use Rattle.lb_desk.specs.declared.entry.Receipt.{Receipt};
 ghost use Rattle.lb_desk.specs.Entry.{receipt, receipt_at, receipts_of};
 
 use crate::entry::{Entry, Receipt, SeatId};
@@ -10,7 +11,8 @@ use crate::seat::Seat;
 /// Whether the receipts of each seat are its entries of the log.
 pub(crate) fn all_agree<J: Naming>(log: &[Entry], seats: &[Seat<J>]) -> bool
     requires { length log.now < 2 ^ 63 }
-    ensures { IsTrue result → All (λ s. s.receipts ≡ receipts_of s.number log.now) seats.now }
+    ensures equal { IsTrue result → All (λ s. s.receipts ≡ receipts_of s.number log.now) seats.now }
+    ensures found { All (λ s. s.receipts ≡ receipts_of s.number log.now) seats.now → IsTrue result }
 {
     for seat in seats {
         if !agrees(log, seat.number(), seat.receipts()) {
@@ -23,7 +25,8 @@ pub(crate) fn all_agree<J: Naming>(log: &[Entry], seats: &[Seat<J>]) -> bool
 /// Whether the receipts are the entries of a seat, in order.
 fn agrees(log: &[Entry], seat: SeatId, receipts: &[Receipt]) -> bool
     requires { length log.now < 2 ^ 63 }
-    ensures { IsTrue result → receipts.now ≡ receipts_of seat log.now }
+    ensures equal { IsTrue result → receipts.now ≡ receipts_of seat log.now }
+    ensures found { receipts.now ≡ receipts_of seat log.now → IsTrue result }
 {
     let mut next = 0;
     for place in 0..log.len() {
@@ -41,6 +44,7 @@ fn past(entry: &Entry, place: u64, seat: SeatId, receipts: &[Receipt], next: usi
     requires { next ≤ length receipts.now }
     ensures within { IfSome result (λ after. after ≤ length receipts.now) }
     ensures found { IfSome result (λ after. take after receipts.now ≡ take next receipts.now ++ receipt_at seat place entry.now) }
+    ensures lost { IsNone result → (rest : List Receipt) → receipts.now ≢ take next receipts.now ++ receipt_at seat place entry.now ++ rest }
 {
     if entry.seat != seat {
         return Some(next);
@@ -53,7 +57,8 @@ fn past(entry: &Entry, place: u64, seat: SeatId, receipts: &[Receipt], next: usi
 
 /// Whether a receipt is that of the entry at a place.
 fn is_receipt(kept: &Receipt, place: u64, entry: &Entry) -> bool
-    ensures { IsTrue result → kept.now ≡ receipt place entry.now.event entry.now.answer }
+    ensures equal { IsTrue result → kept.now ≡ receipt place entry.now.event entry.now.answer }
+    ensures found { kept.now ≡ receipt place entry.now.event entry.now.answer → IsTrue result }
 {
     kept.place == place && kept.event.equals(&entry.event) && kept.answer.equals(&entry.answer)
 }

@@ -80,6 +80,7 @@ impl<J: Naming> Book<J> {
 
 impl<J: Naming> Book<J> {
     /// Takes room for the entry of a call of this event, where the log has room for it by its limit. Nothing else changes.
+    #[inline(always)]
     pub fn ready(&mut self, event: &Event) -> Result<(), DeskFault>
         ensures full { IsErrAnd result (λ fault. fault ≡ CountFull) ↔ (self.old.count ≡ 2 ^ 64 - 1) }
         ensures memory { IsErrAnd result (λ fault. fault ≡ NoMemory) → self.old.count < self.old.limit }
@@ -103,6 +104,7 @@ impl<J: Naming> Book<J> {
 
     /// Answers an event by one step of the balancer. The call is counted, in the book and in the caller's share, and the log has it,
     /// under the seat's number, where its limit allows. The place is how many calls there were before.
+    #[inline(always)]
     pub fn take(&mut self, share: &mut Share<J>, seat: SeatId, event: Event) -> (Answer, u64)
         requires part { 0 < share.old.parts }
         requires seat { seat.0 < J.seats }
@@ -140,6 +142,7 @@ impl<J: Naming> Book<J> {
         ensures parts { share.new.parts ≡ share.old.parts }
     {
         let Book {
+            alloc,
             balancer,
             count,
             log,
@@ -155,12 +158,13 @@ impl<J: Naming> Book<J> {
         log.push_reserved(Entry {
             seat,
             event: copy,
-            answer: room.filled(&answer),
+            answer: room.copied(*alloc, &answer),
         });
         answer
     }
 
     /// A call past the log's limit.
+    #[inline(always)]
     fn take_past(&mut self, share: &mut Share<J>, event: Event) -> Answer
         requires part { 0 < share.old.parts }
         requires past { self.old.limit ≤ self.old.count }
@@ -232,6 +236,7 @@ impl<J: Naming> Book<J> {
 }
 
 /// Counts a call, in the book and in the share.
+#[inline(always)]
 fn count_call<J: Naming>(count: &mut u64, calls: &mut ledger::Book<J>, share: &mut Share<J>)
     requires part { 0 < share.old.parts }
     requires room { count.old < 2 ^ 64 - 1 }

@@ -80,6 +80,7 @@ impl<J: Naming> Desk<J> {
 impl<J: Naming> Desk<J> {
     /// One call, by any thread: one step of the balancer. The seat counts it, and has a receipt of it where the log has the call. A
     /// refused event comes back, and nothing was asked of the balancer.
+    #[inline(always)]
     pub fn call<R: Wait>(
         &self,
         rt: &R,
@@ -103,6 +104,7 @@ impl<J: Naming> Desk<J> {
     }
 
     /// A call that the log has no room for by its limit.
+    #[inline(always)]
     fn call_past<R: Wait>(
         &self,
         rt: &R,
@@ -148,14 +150,17 @@ impl<J: Naming> Desk<J> {
         let copy = receipts.prepare(self.alloc, &event).ok();
         let (answer, place) = self.answered(rt, share, *number, event, copy.is_some())?;
         *calls += 1;
-        if let (Some(copy), Some(place)) = (copy, place) {
-            receipts.keep(place, copy, &answer);
+        match (copy, place) {
+            (Some(copy), Some(place)) => receipts.keep(self.alloc, place, copy, &answer),
+            // The log has all that it ever will.
+            _ => receipts.room = None,
         }
         Ok(answer)
     }
 
     /// What a call does under the lock. The place is that of its entry in the log, where the log has it; then room for the receipt is
     /// wanted.
+    #[inline(always)]
     fn answered<R: Wait>(
         &self,
         rt: &R,

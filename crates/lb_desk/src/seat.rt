@@ -110,8 +110,8 @@ impl Receipts {
         event.copy(alloc)
     }
 
-    /// Keeps a receipt, in the room that was taken for it.
-    pub(crate) fn keep(&mut self, place: u64, event: Event, answer: &Answer)
+    /// Keeps a receipt, for which room was taken.
+    pub(crate) fn keep(&mut self, alloc: Global, place: u64, event: Event, answer: &Answer)
         requires { IsSome self.old.room }
         ensures kept { self.new.kept.items ≡ self.old.kept.items ++ receipt place event answer.now ∷ [] }
         ensures len { vec_len self.new.kept ≡ vec_len self.old.kept + 1 }
@@ -122,7 +122,7 @@ impl Receipts {
         self.kept.push_reserved(Receipt {
             place,
             event,
-            answer: room.filled(answer),
+            answer: room.copied(alloc, answer),
         });
     }
 }

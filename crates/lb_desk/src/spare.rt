@@ -23,12 +23,16 @@ impl Room {
         })
     }
 
-    /// A copy of the answer in this room. What is left of it is given back.
-    pub(crate) fn filled(self, answer: &Answer) -> Answer
+    /// A copy of the answer, with a block of its own size for its octets, and the room is given back; where memory is wanting for
+    /// that block, it is in the room, of which the rest is given back.
+    pub(crate) fn copied(self, alloc: Global, answer: &Answer) -> Answer
         ensures { result ≡ answer.now }
     {
         let Room { octets } = self;
-        answer.copy_into(octets)
+        match answer.copy(alloc) {
+            Ok(copy) => copy,
+            Err(_) => answer.copy_into(octets),
+        }
     }
 }
 

@@ -5,7 +5,7 @@ ghost use Rattle.lb_core.specs.Snapshot.{snapshot_of};
 
 use crate::events::{query, rule_for_all};
 use lb_core::{Answer, Balancer, DropReason, Event, Note, StatedAction};
-use lb_desk::{Desk, Naming, Seat};
+use lb_desk::{Desk, Naming, Seat, desks_cross_threads};
 use lb_wire::RuleId;
 use std::alloc::Global;
 use std::marker::Brand;
@@ -50,6 +50,8 @@ fn ask_and_change<J: Naming + Send + Sync, R: Threads + Wait + Sync>(
     first: Seat<J>,
     second: Seat<J>,
 ) -> (Option<Seat<J>>, Option<Seat<J>>) {
+    // A law, which does nothing.
+    desks_cross_threads::<J>();
     join(
         rt,
         move || ask(rt, alloc, desk, first),
@@ -102,6 +104,8 @@ fn drop_all<J: Naming + Send + Sync, R: Threads + Wait + Sync>(
     desk: &Desk<J>,
     seat: &mut Seat<J>,
 ) -> Option<Answer> {
+    // A law, which does nothing.
+    desks_cross_threads::<J>();
     let (answer, ()) = join(
         rt,
         move || {
@@ -187,6 +191,8 @@ fn call_both_twice<J: Naming + Send + Sync, R: Threads + Wait + Clock + Sync>(
     second: Seat<J>,
     flags: &Flags,
 ) -> (Option<Seat<J>>, Option<Seat<J>>) {
+    // A law, which does nothing.
+    desks_cross_threads::<J>();
     join(
         rt,
         move || call_twice(rt, desk, first, &flags.first, &flags.second),
@@ -242,6 +248,8 @@ fn call_often_both<J: Naming + Send + Sync, R: Threads + Wait + Sync>(
     first: Seat<J>,
     second: Seat<J>,
 ) -> Option<Pair<J>> {
+    // A law, which does nothing.
+    desks_cross_threads::<J>();
     let (first, second) = join(
         rt,
         move || call_often(rt, desk, first),
@@ -257,6 +265,8 @@ fn call_often_all<J: Naming + Send + Sync, R: Threads + Wait + Sync>(
     (first, second): Pair<J>,
     (third, fourth): Pair<J>,
 ) -> Option<(Pair<J>, Pair<J>)> {
+    // A law, which does nothing.
+    desks_cross_threads::<J>();
     let (some, others) = join(
         rt,
         move || call_often_both(rt, desk, first, second),

@@ -15,7 +15,7 @@ mod tests;
 mod truth;
 
 pub use fault::TermFault;
-pub use laws::{mask_test_decides, suffix_test_decides};
+pub use laws::{mask_test_decides, suffix_test_decides, terms_cross_threads};
 pub use limiters::{limiter_count, new_limiters};
 pub use names::Names;
 pub use term::{CheckedTerm, Term};

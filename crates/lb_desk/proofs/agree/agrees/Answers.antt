@@ -1,7 +1,7 @@
-use Rattle.std.proofs.Common.{Some, ap, rules, sym, ◌++◌, ◌∙◌}
+use Rattle.std.proofs.Common.{Some, ap, refl, rules, sym, ◌++◌, ◌∙◌}
 use Rattle.std.proofs.lemmas.Option.{slice_get-get_or}
 use Rattle.lb_desk.specs.Entry.{receipt_at}
-use Rattle.lb_desk.proofs.Receipts.{receipts_next}
+use Rattle.lb_desk.proofs.Receipts.{lost, receipts_next}
 use Rattle.lb_desk.proofs.agree.agrees.Goals as goal
 
 pub loop-place-preserved : goal.loop-place-preserved
@@ -12,3 +12,8 @@ loop-place-preserved c = (
       (slice_get-get_or c.args.log.now c.loop-place.place c.index-log-place.result (search rules) ∙ ap (λ x. Some x) (sym c.index-log-place.is))),
   c.in-Some.ensures.within,
 )
+
+pub returns-in-None-clause-found : goal.returns-in-None-clause-found
+returns-in-None-clause-found c is =
+    absurd (lost c.args.seat c.loop-place.place c.loop-place.next c.args.log.now c.args.receipts.now c.index-log-place.result (search rules)
+    (slice_get-get_or c.args.log.now c.loop-place.place c.index-log-place.result (search rules) ∙ ap (λ x. Some x) (sym c.index-log-place.is)) c.loop-place.invariant.0 (c.in-None.ensures.lost refl) is)

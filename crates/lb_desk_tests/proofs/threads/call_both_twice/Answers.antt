@@ -1,11 +1,15 @@
 use denote.Param.Send.{sendable}
 use Rattle.std.proofs.Crossing.{crosses}
 use Rattle.lb_desk_tests.proofs.threads.Flags.TheSendSync.{the_sync as flags_sync}
-use Rattle.lb_desk.proofs.Crosses.{desk_sync, seat_send}
 use Rattle.lb_desk_tests.proofs.threads.call_both_twice.Goals as goal
 
 pub join-requires-send-F : goal.join-requires-send-F
-join-requires-send-F g c κs within = search (flags_sync, desk_sync, seat_send, sendable, crosses) depth 40 fits 10000
+join-requires-send-F g c κs within =
+    let desk_sync = c.desks_cross_threads.ensures.desk in
+    let seat_send = c.desks_cross_threads.ensures.seat in
+    search (flags_sync, sendable, crosses) depth 40 fits 10000
 
 pub join-requires-send-A : goal.join-requires-send-A
-join-requires-send-A g c κs within = search (seat_send, sendable, crosses) depth 40 fits 10000
+join-requires-send-A g c κs within =
+    let seat_send = c.desks_cross_threads.ensures.seat in
+    search (sendable, crosses) depth 40 fits 10000

@@ -1,10 +1,14 @@
 use denote.Param.Send.{sendable}
 use Rattle.std.proofs.Crossing.{crosses}
-use Rattle.lb_desk.proofs.Crosses.{desk_sync, seat_send}
 use Rattle.lb_desk_tests.proofs.threads.call_often_all.Goals as goal
 
 pub join-some-requires-send-F : goal.join-some-requires-send-F
-join-some-requires-send-F g c κs within = search (desk_sync, seat_send, sendable, crosses) depth 40 fits 10000
+join-some-requires-send-F g c κs within =
+    let desk_sync = c.desks_cross_threads.ensures.desk in
+    let seat_send = c.desks_cross_threads.ensures.seat in
+    search (sendable, crosses) depth 40 fits 10000
 
 pub join-some-requires-send-A : goal.join-some-requires-send-A
-join-some-requires-send-A g c κs within = search (seat_send, sendable, crosses) depth 40 fits 10000
+join-some-requires-send-A g c κs within =
+    let seat_send = c.desks_cross_threads.ensures.seat in
+    search (sendable, crosses) depth 40 fits 10000

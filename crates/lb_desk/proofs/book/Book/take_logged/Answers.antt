@@ -16,7 +16,7 @@ invariant_of-self-inside g c =
     let told : Some c.in-Some.field-0.event ≡ Some c.args.event = ap (option_map (λ (s : Spare). s.event)) (sym spare) ∙ ready in
     let event : c.in-Some.field-0.event ≡ c.args.event = search rules in
     let log : c.push_reserved.new.self.items ≡ b.log.items ++ entry c.args.seat c.args.event c.step-answer.result ∷ [] =
-    c.push_reserved.ensures.items ∙ ap (λ e. b.log.items ++ e ∷ []) (ap (λ x. entry c.args.seat x c.filled.result) event ∙ ap (entry c.args.seat c.args.event) c.filled.ensures)
+    c.push_reserved.ensures.items ∙ ap (λ e. b.log.items ++ e ∷ []) (ap (λ x. entry c.args.seat x c.copied.result) event ∙ ap (entry c.args.seat c.args.event) c.copied.ensures)
     in
     let filled = b.filled in
     let so_far = b.counted in
