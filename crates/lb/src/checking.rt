@@ -23,7 +23,7 @@ use lb_command::{
     CommandFault, FaultKind, MAX_LINE, SetupLine, answer_line, begins_listen, leading_spaces,
     read_setup_line,
 };
-use lb_core::{Answer, Balancer, Command, EditFault, Event};
+use lb_core::{Answer, Balancer, BoxedCommand, Command, EditFault, Event};
 use std::alloc::{AllocError, Global};
 use std::io;
 use std::io::{ErrorKind, Write};
@@ -111,20 +111,18 @@ fn check_lines<W: Write>(alloc: Global, text: &str, output: &mut W) -> Result<()
 {
     let mut balancer = Balancer::new(alloc)?;
     apply(alloc, text, &mut balancer)?;
-    let shown = show(&mut balancer);
+    let shown = show(alloc, &mut balancer)?;
     let line = whole_line(alloc, &shown)?;
     write_line(output, line.as_bytes())?;
     Ok(())
 }
 
-/// Asks a balancer how much there is of each part.
-fn show(balancer: &mut Balancer) -> Answer
-    ensures { Answers balancer.old (Edit 0 Show) result balancer.new }
+/// Asks a balancer how much there is of each part. The one error is want of memory.
+fn show(alloc: Global, balancer: &mut Balancer) -> Result<Answer, AllocError>
+    ensures { IfOk result (λ answer. Answers balancer.old (Edit 0 Show) answer balancer.new) }
 {
-    balancer.step(Event::Edit {
-        now: 0,
-        command: Command::Show,
-    })
+    let command = BoxedCommand::new(alloc, Command::Show)?;
+    Ok(balancer.step(Event::Edit { now: 0, command }))
 }
 
 /// The line of an answer, with its line feed. The one error is want of memory.
@@ -200,7 +198,7 @@ fn apply_line(
             Ok(())
         }
         Ok(SetupLine::Log(_)) => Ok(()),
-        Ok(SetupLine::Edit(command)) => edit(balancer, command, number),
+        Ok(SetupLine::Edit(command)) => edit(alloc, balancer, command, number),
         Err(fault) => Err(Halt::BadLine { number, fault }),
     }
 }
@@ -216,9 +214,10 @@ fn too_many(line: &[u8]) -> CommandFault
 }
 
 /// Carries out the command of the line with a number.
-fn edit(balancer: &mut Balancer, command: Command, number: u64) -> Result<(), Halt>
-    ensures { (answer : Answer) × Answers balancer.old (Edit 0 command) answer balancer.new × (result ≡ edit_end number (refusal_of answer)) }
+fn edit(alloc: Global, balancer: &mut Balancer, command: Command, number: u64) -> Result<(), Halt>
+    ensures { IsApplied result → (answer : Answer) × Answers balancer.old (Edit 0 command) answer balancer.new × (result ≡ edit_end number (refusal_of answer)) }
 {
+    let command = BoxedCommand::new(alloc, command)?;
     let answer = balancer.step(Event::Edit { now: 0, command });
     match refusal(&answer) {
         Some(fault) => Err(Halt::Refused { number, fault }),

@@ -2,7 +2,7 @@
 
 use crate::forwards::with_server;
 use lb_cache::{MaxEntries, MaxTtl, Shards};
-use lb_core::{Answer, Balancer, Command, Event, LocalReason};
+use lb_core::{Answer, Balancer, BoxedCommand, Command, Event, LocalReason};
 use lb_servers::PoolName;
 use lb_wire::{Addr, Kept, Kind, Lane, Octets, Origin, ServerId};
 use std::alloc::{AllocError, Global};
@@ -126,7 +126,7 @@ fn time_forwards(
 /// A balancer with one server, whose default pool keeps so many replies, which came at moment 0.
 pub(crate) fn keeping(alloc: Global, kept: u16) -> Result<Balancer, AllocError> {
     let mut balancer = with_server(alloc)?;
-    if !is_attached(&mut balancer) {
+    if !is_attached(alloc, &mut balancer)? {
         return Err(AllocError);
     }
     for number in 0..kept {
@@ -140,19 +140,20 @@ pub(crate) fn keeping(alloc: Global, kept: u16) -> Result<Balancer, AllocError> 
 }
 
 /// Attaches a cache to the default pool.
-fn is_attached(balancer: &mut Balancer) -> bool {
+fn is_attached(alloc: Global, balancer: &mut Balancer) -> Result<bool, AllocError> {
     let (Some(most), Some(shards), Some(ttl)) = (
         MaxEntries::new(2_000),
         Shards::new(4),
         MaxTtl::new(WEEK),
     ) else {
-        return false;
+        return Ok(false);
     };
     let command = Command::CacheAttach(PoolName::Default, most, shards, ttl);
-    matches!(
+    let command = BoxedCommand::new(alloc, command)?;
+    Ok(matches!(
         balancer.step(Event::Edit { now: 0, command }),
         Answer::Edited(_)
-    )
+    ))
 }
 
 /// Writes a number below 10,000 into the name of a message, as four digits.

@@ -208,15 +208,16 @@ fn is_called<J: Naming, R: Wait>(
     number: u32,
 ) -> Result<bool, AllocError> {
     let event = asked(alloc, round, number)?;
-    let answer = desk.call(rt, seat, event).map_err(|_| AllocError)?;
+    let Ok(answer) = desk.call(rt, seat, event) else {
+        return Err(AllocError);
+    };
     match round {
         Round::Hit => Ok(is_hit(&answer)),
         Round::Forward => {
             let Some(event) = replied(alloc, &answer)? else {
                 return Ok(false);
             };
-            let answer = desk.call(rt, seat, event).map_err(|_| AllocError)?;
-            Ok(matches!(answer, Answer::Deliver(..)))
+            Ok(matches!(desk.call(rt, seat, event), Ok(Answer::Deliver(..))))
         }
     }
 }

@@ -1,6 +1,6 @@
 //! How long a query takes that is forwarded, together with its reply.
 
-use lb_core::{Answer, Balancer, CheckSpec, Command, Event};
+use lb_core::{Answer, Balancer, BoxedCommand, CheckSpec, Command, Event};
 use lb_servers::{Ident, ServerSpec};
 use lb_wire::{Addr, Kind, Lane, Octets, Origin, ServerId};
 use std::alloc::{AllocError, Global};
@@ -65,7 +65,7 @@ pub(crate) fn with_server(alloc: Global) -> Result<Balancer, AllocError> {
         return Err(AllocError);
     };
     let spec = ServerSpec::new(alloc, name, Addr::V4([127, 0, 0, 1]), 5301);
-    let command = Command::ServerAdd(spec, CheckSpec::default());
+    let command = BoxedCommand::new(alloc, Command::ServerAdd(spec, CheckSpec::default()))?;
     match balancer.step(Event::Edit { now: 0, command }) {
         Answer::Edited(_) => Ok(balancer),
         _ => Err(AllocError),

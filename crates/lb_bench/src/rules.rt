@@ -1,7 +1,9 @@
 //! How long a query takes that is walked through many rules, and one that is counted by a limiter.
 
 use lb_chain::{Action, Chain, Rule};
-use lb_core::{Answer, Balancer, Command, Event, LocalReason, StatedAction, StatedRule};
+use lb_core::{
+    Answer, Balancer, BoxedCommand, Command, Event, LocalReason, StatedAction, StatedRule,
+};
 use lb_masks::{Group, Mask};
 use lb_name::Name;
 use lb_terms::{Names, Term};
@@ -215,7 +217,7 @@ fn filled(alloc: Global, asks: Asks, rules: u32) -> Result<Balancer, AllocError>
             term,
             action: StatedAction::Rcode(Rcode::Refused),
         };
-        let command = Command::RuleAdd(None, rule);
+        let command = BoxedCommand::new(alloc, Command::RuleAdd(None, rule))?;
         if !matches!(
             balancer.step(Event::Edit { now: 0, command }),
             Answer::Edited(_)

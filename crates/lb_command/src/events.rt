@@ -12,7 +12,7 @@ use crate::fault::{CommandFault, FaultKind, MAX_LINE, Unread};
 use crate::parts::{addr, kind, octets, outcome};
 use crate::values::look_up;
 use crate::words::Words;
-use lb_core::Event;
+use lb_core::{BoxedCommand, Event};
 use lb_wire::{Lane, Origin, ServerId};
 use std::alloc::Global;
 
@@ -115,7 +115,7 @@ fn read_edit(alloc: Global, words: &mut Words<'_>) -> Result<Event, Unread>
     ensures { Reads (λ event. event) result words.new (edit_at words.old) }
 {
     let now = words.number(u64::MAX)?;
-    let command = command(alloc, words)?;
+    let command = BoxedCommand::new(alloc, command(alloc, words)?)?;
     Ok(Event::Edit { now, command })
 }
 

@@ -14,6 +14,7 @@ use Rattle.lb_core.proofs.check.CheckSpec.TheSendSync.{the_field_send as check_s
 use Rattle.lb_core.proofs.timeout.Timeout.TheSendSync.{the_send as timeout_send}
 use Rattle.lb_core.proofs.upstream.Upstream.TheSendSync.{the_send as upstream_send}
 use Rattle.lb_core.specs.contracts.balancer.Balancer as Balancer
+use Rattle.lb_core.specs.contracts.boxed.BoxedCommand as BoxedCommand
 use Rattle.lb_core.specs.contracts.command.Command as Command
 use Rattle.lb_core.specs.contracts.command.StatedRule as StatedRule
 use Rattle.lb_core.specs.contracts.event.Event as Event
@@ -37,8 +38,11 @@ command_send : IsSend CheckedTerm.the_row → IsSend (Command.the_field).row
 command_send checked_send =
     search (stated_rule_send, check_spec_send, timeout_send, covered_send, max_entries_send, max_ttl_send, shards_send, ident_send, pool_name_send, policy_send, mode_send, sendable, crosses) depth 40 fits 10000
 
+boxed_command_send : IsSend CheckedTerm.the_row → IsSend BoxedCommand.the_row
+boxed_command_send checked_send = search (command_send, sendable, crosses) depth 40 fits 10000
+
 pub event_send : IsSend CheckedTerm.the_row → IsSend (Event.the_field).row
-event_send checked_send = search (command_send, origin_send, octets_send, lane_send, sendable, crosses) depth 40 fits 10000
+event_send checked_send = search (boxed_command_send, origin_send, octets_send, lane_send, sendable, crosses) depth 40 fits 10000
 
 pub balancer_send : IsSend Chain.the_row → IsSend Balancer.the_row
 balancer_send chain_send = search (upstream_send, sendable, crosses) depth 40 fits 10000

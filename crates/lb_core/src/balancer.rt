@@ -126,7 +126,7 @@ impl Balancer {
                 &mut self.chain,
                 &mut self.upstream,
                 self.moment,
-                command,
+                command.into_inner(),
             ),
         }
     }

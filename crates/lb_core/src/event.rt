@@ -3,7 +3,7 @@
 ghost use Rattle.std.specs.Prelude.{◌≡◌, IfOk, IsTrue};
 ghost use Rattle.lb_core.specs.Reading.{moment_of};
 
-use crate::command::Command;
+use crate::boxed::BoxedCommand;
 use lb_wire::{Kind, Lane, Octets, Origin, ServerId};
 use std::alloc::{AllocError, Global};
 
@@ -42,7 +42,7 @@ pub enum Event {
     /// An operator's command.
     Edit {
         now: u64,
-        command: Command,
+        command: BoxedCommand,
     },
 }
 

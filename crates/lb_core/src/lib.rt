@@ -5,6 +5,7 @@
 mod answer;
 mod asked;
 mod balancer;
+mod boxed;
 mod check;
 mod command;
 mod edit;
@@ -24,6 +25,7 @@ mod upstream;
 
 pub use answer::{Answer, DropReason, EditFault, IgnoreReason, LocalReason, Note, Totals};
 pub use balancer::Balancer;
+pub use boxed::BoxedCommand;
 pub use check::{Check, CheckSpec};
 pub use command::{Command, StatedAction, StatedRule};
 pub use event::Event;

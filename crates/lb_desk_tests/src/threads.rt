@@ -34,9 +34,14 @@ fn ask<J: Naming, R: Wait>(
 }
 
 /// A hundred edits, from a thread.
-fn change<J: Naming, R: Wait>(rt: &R, desk: &Desk<J>, mut seat: Seat<J>) -> Option<Seat<J>> {
+fn change<J: Naming, R: Wait>(
+    rt: &R,
+    alloc: Global,
+    desk: &Desk<J>,
+    mut seat: Seat<J>,
+) -> Option<Seat<J>> {
     for now in 0..100 {
-        desk.call(rt, &mut seat, rule_for_all(now, StatedAction::None)?)
+        desk.call(rt, &mut seat, rule_for_all(alloc, now, StatedAction::None)?)
             .ok()?;
     }
     Some(seat)
@@ -55,7 +60,7 @@ fn ask_and_change<J: Naming + Send + Sync, R: Threads + Wait + Sync>(
     join(
         rt,
         move || ask(rt, alloc, desk, first),
-        move || change(rt, desk, second),
+        move || change(rt, alloc, desk, second),
     )
 }
 
@@ -101,6 +106,7 @@ fn two_threads_share_a_desk(rt: HostRuntime) -> Result<(), Fail> {
 /// Adds a rule that drops every query, in a thread of its own, which then ends.
 fn drop_all<J: Naming + Send + Sync, R: Threads + Wait + Sync>(
     rt: &R,
+    alloc: Global,
     desk: &Desk<J>,
     seat: &mut Seat<J>,
 ) -> Option<Answer> {
@@ -109,7 +115,7 @@ fn drop_all<J: Naming + Send + Sync, R: Threads + Wait + Sync>(
     let (answer, ()) = join(
         rt,
         move || {
-            let edit = rule_for_all(1, StatedAction::Drop)?;
+            let edit = rule_for_all(alloc, 1, StatedAction::Drop)?;
             desk.call(rt, seat, edit).ok()
         },
         || (),
@@ -132,7 +138,7 @@ fn changed_then_asked<J: Naming + Send + Sync, R: Threads + Wait + Abort + Sync>
     let (desk, mut seats) = Desk::<J>::made(alloc, blank, balancer, 1000, 2)?;
     let mut second = seats.pop().ok_or("no second seat")?;
     let mut first = seats.pop().ok_or("no first seat")?;
-    let added = drop_all(rt, &desk, &mut first);
+    let added = drop_all(rt, alloc, &desk, &mut first);
     assert!(rt; matches!(added, Some(Answer::Edited(Note::RuleAdded(RuleId(1))))));
     let answer = desk.call(rt, &mut second, query(alloc, 2)?);
     assert!(rt; matches!(answer, Ok(Answer::Dropped(DropReason::Rule(RuleId(1))))));

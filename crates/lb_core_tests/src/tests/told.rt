@@ -4,7 +4,7 @@ use super::messages::Message;
 use super::wanted::UDP;
 use lb_cache::{Covered, MaxEntries, MaxTtl, Shards};
 use lb_chain::Addrs;
-use lb_core::{CheckSpec, Command, Event, StatedAction, StatedRule, Timeout};
+use lb_core::{BoxedCommand, CheckSpec, Command, Event, StatedAction, StatedRule, Timeout};
 use lb_masks::{Group, Mask};
 use lb_name::Name;
 use lb_servers::{Ident, Mode, Policy, PoolName, PoolNames, ServerSpec};
@@ -143,25 +143,28 @@ impl Told {
             Told::Health(server, ok) => Ok(health(server, ok)),
             Told::Rule(selector, action) => rule(alloc, None, selector, action),
             Told::RuleAt(place, selector, action) => rule(alloc, Some(place), selector, action),
-            Told::RuleRemove(id) => edit(Command::RuleRemove(RuleId(id))),
-            Told::RuleMove(id, place) => edit(Command::RuleMove(RuleId(id), place)),
+            Told::RuleRemove(id) => edit(alloc, Command::RuleRemove(RuleId(id))),
+            Told::RuleMove(id, place) => edit(alloc, Command::RuleMove(RuleId(id), place)),
             Told::Server(name, order) => server(alloc, name, order),
             Told::ServerChecked(name, fall, rise) => server_checked(alloc, name, fall, rise),
             Told::ServerOf(name, pool) => server_of(alloc, name, pool),
-            Told::ServerRemove(name) => edit(Command::ServerRemove(ident(name)?)),
-            Told::ServerMode(name, mode) => edit(Command::ServerMode(ident(name)?, mode)),
-            Told::Pool(name) => edit(Command::PoolAdd(named(name)?)),
-            Told::PoolPolicy(name, policy) => edit(Command::PoolPolicy(named(name)?, policy)),
-            Told::CacheAttach(max, shards) => cache_attach(max, shards),
-            Told::CacheDetach => edit(Command::CacheDetach(PoolName::Default)),
-            Told::ExpungeName(name, qtype) => expunge(Covered::Name(
-                Name::parse_text(name)?,
-                qtype,
-            )),
-            Told::ExpungeSuffix(name) => expunge(Covered::Suffix(Name::parse_text(name)?)),
-            Told::ExpungeAll => expunge(Covered::All),
-            Told::Show => edit(Command::Show),
-            Told::Timeout(millis) => edit(Command::SetTimeout(timeout(millis)?)),
+            Told::ServerRemove(name) => edit(alloc, Command::ServerRemove(ident(name)?)),
+            Told::ServerMode(name, mode) => edit(alloc, Command::ServerMode(ident(name)?, mode)),
+            Told::Pool(name) => edit(alloc, Command::PoolAdd(named(name)?)),
+            Told::PoolPolicy(name, policy) => edit(
+                alloc,
+                Command::PoolPolicy(named(name)?, policy),
+            ),
+            Told::CacheAttach(max, shards) => cache_attach(alloc, max, shards),
+            Told::CacheDetach => edit(alloc, Command::CacheDetach(PoolName::Default)),
+            Told::ExpungeName(name, qtype) => expunge(
+                alloc,
+                Covered::Name(Name::parse_text(name)?, qtype),
+            ),
+            Told::ExpungeSuffix(name) => expunge(alloc, Covered::Suffix(Name::parse_text(name)?)),
+            Told::ExpungeAll => expunge(alloc, Covered::All),
+            Told::Show => edit(alloc, Command::Show),
+            Told::Timeout(millis) => edit(alloc, Command::SetTimeout(timeout(millis)?)),
         }
     }
 }
@@ -219,7 +222,8 @@ fn health(server: u64, ok: bool) -> Event {
     }
 }
 
-fn edit(command: Command) -> Result<Event, Fail> {
+fn edit(alloc: Global, command: Command) -> Result<Event, Fail> {
+    let command = BoxedCommand::new(alloc, command)?;
     Ok(Event::Edit { now: 0, command })
 }
 
@@ -231,13 +235,13 @@ fn rule(
 ) -> Result<Event, Fail> {
     let term = selector.term(alloc)?.checked()?;
     let action = action.stated()?;
-    edit(Command::RuleAdd(place, StatedRule { term, action }))
+    edit(alloc, Command::RuleAdd(place, StatedRule { term, action }))
 }
 
 fn server(alloc: Global, name: &str, order: u16) -> Result<Event, Fail> {
     let mut spec = ServerSpec::new(alloc, ident(name)?, HERE, 5301);
     spec.order = order;
-    edit(Command::ServerAdd(spec, CheckSpec::default()))
+    edit(alloc, Command::ServerAdd(spec, CheckSpec::default()))
 }
 
 fn server_checked(alloc: Global, name: &str, fall: u8, rise: u8) -> Result<Event, Fail> {
@@ -247,18 +251,21 @@ fn server_checked(alloc: Global, name: &str, fall: u8, rise: u8) -> Result<Event
         rise: NonZeroU8::new(rise).ok_or("no number of successes")?,
         must_resolve: false,
     };
-    edit(Command::ServerAdd(spec, check))
+    edit(alloc, Command::ServerAdd(spec, check))
 }
 
-fn cache_attach(max: u32, shards: u32) -> Result<Event, Fail> {
+fn cache_attach(alloc: Global, max: u32, shards: u32) -> Result<Event, Fail> {
     let max = MaxEntries::new(max).ok_or("too many replies")?;
     let shards = Shards::new(shards).ok_or("too many shards")?;
     let day = MaxTtl::new(86_400).ok_or("too long")?;
-    edit(Command::CacheAttach(PoolName::Default, max, shards, day))
+    edit(
+        alloc,
+        Command::CacheAttach(PoolName::Default, max, shards, day),
+    )
 }
 
-fn expunge(covered: Covered) -> Result<Event, Fail> {
-    edit(Command::Expunge(PoolName::Default, covered))
+fn expunge(alloc: Global, covered: Covered) -> Result<Event, Fail> {
+    edit(alloc, Command::Expunge(PoolName::Default, covered))
 }
 
 fn timeout(millis: u32) -> Result<Timeout, &'static str> {
@@ -270,7 +277,7 @@ fn server_of(alloc: Global, name: &str, pool: &str) -> Result<Event, Fail> {
     pools.push(named(pool)?)?;
     let mut spec = ServerSpec::new(alloc, ident(name)?, HERE, 5302);
     spec.pools = PoolNames::from_vec(pools).ok_or("too many pools")?;
-    edit(Command::ServerAdd(spec, CheckSpec::default()))
+    edit(alloc, Command::ServerAdd(spec, CheckSpec::default()))
 }
 
 fn ident(text: &str) -> Result<Ident, &'static str> {

@@ -17,6 +17,6 @@ returns-in-Reply c =
 
 pub returns-in-Edit : goal.returns-in-Edit
 returns-in-Edit c =
-    rw (← c.self.view_is, c.in-Edit.is)
-    (edit_answers c.seen_twice.ensures c.self.inside.moment c.in-Edit.now c.max-self-inside.result c.self.inside.chain c.edit.new.chain c.self.inside.upstream c.edit.new.upstream c.in-Edit.command c.edit.result
+    rw (← c.self.view_is, c.in-Edit.is, ← c.into_inner.ensures)
+    (edit_answers c.seen_twice.ensures c.self.inside.moment c.in-Edit.now c.max-self-inside.result c.self.inside.chain c.edit.new.chain c.self.inside.upstream c.edit.new.upstream c.into_inner.result c.edit.result
     (c.max-self-inside.ensures ∙ ap (max c.self.inside.moment) (c.now.ensures ∙ ap moment_of c.in-Edit.is)) c.edit.ensures.edit c.edit.ensures.mark)
