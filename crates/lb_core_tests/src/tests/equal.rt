@@ -9,7 +9,7 @@ use Told::{
     PoolPolicy, Reply, ReplyAt, Rule, RuleAt, RuleMove, RuleRemove, Server, ServerChecked,
     ServerMode, ServerRemove, Show, Tick, Timeout,
 };
-use lb_core::Balancer;
+use lb_core::{Balancer, Event};
 use lb_servers::{Mode, Policy};
 use std::test::Fail;
 
@@ -77,6 +77,9 @@ fn equal_events_and_answers(rt: HostRuntime) -> Result<(), Fail> {
         let copy = event.copy(rt.alloc())?;
         let found = events.iter().position(|other| other.equals(&copy));
         assert_eq!(rt; found, Some(place));
+        if let (Event::Edit { command, .. }, Event::Edit { command: other, .. }) = (event, &copy) {
+            assert!(rt; command.get().equals(other.get()));
+        }
     }
     for (place, answer) in answers.iter().enumerate() {
         let copy = answer.copy(rt.alloc())?;
