@@ -103,23 +103,27 @@ fn two_threads_share_a_desk(rt: HostRuntime) -> Result<(), Fail> {
     asked_and_changed::<Brand, _>(&rt, rt.alloc(), Blank::new(2), balancer)
 }
 
-/// Adds a rule that drops every query, in a thread of its own, which then ends.
+/// Adds a rule that drops every query.
+fn drop_each<J: Naming, R: Wait>(
+    rt: &R,
+    alloc: Global,
+    desk: &Desk<J>,
+    mut seat: Seat<J>,
+) -> Option<Answer> {
+    let edit = rule_for_all(alloc, 1, StatedAction::Drop)?;
+    desk.call(rt, &mut seat, edit).ok()
+}
+
+/// Adds it in a thread of its own, which then ends.
 fn drop_all<J: Naming + Send + Sync, R: Threads + Wait + Sync>(
     rt: &R,
     alloc: Global,
     desk: &Desk<J>,
-    seat: &mut Seat<J>,
+    seat: Seat<J>,
 ) -> Option<Answer> {
     // A law, which does nothing.
     desks_cross_threads::<J>();
-    let (answer, ()) = join(
-        rt,
-        move || {
-            let edit = rule_for_all(alloc, 1, StatedAction::Drop)?;
-            desk.call(rt, seat, edit).ok()
-        },
-        || (),
-    );
+    let (answer, ()) = join(rt, move || drop_each(rt, alloc, desk, seat), || ());
     answer
 }
 
@@ -137,8 +141,8 @@ fn changed_then_asked<J: Naming + Send + Sync, R: Threads + Wait + Abort + Sync>
 {
     let (desk, mut seats) = Desk::<J>::made(alloc, blank, balancer, 1000, 2)?;
     let mut second = seats.pop().ok_or("no second seat")?;
-    let mut first = seats.pop().ok_or("no first seat")?;
-    let added = drop_all(rt, alloc, &desk, &mut first);
+    let first = seats.pop().ok_or("no first seat")?;
+    let added = drop_all(rt, alloc, &desk, first);
     assert!(rt; matches!(added, Some(Answer::Edited(Note::RuleAdded(RuleId(1))))));
     let answer = desk.call(rt, &mut second, query(alloc, 2)?);
     assert!(rt; matches!(answer, Ok(Answer::Dropped(DropReason::Rule(RuleId(1))))));
