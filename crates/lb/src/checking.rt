@@ -3,7 +3,7 @@
 ghost use Rattle.std.specs.Prelude.{◌≡◌, ◌≢◌, ◌++◌, List, ℕ, Err, IfErr, IfOk, OnOk, codes, string_bytes};
 ghost use Rattle.std.specs.Io.KnownBytes.{Appends};
 ghost use Rattle.std.specs.Str.Lines.{strip_carriage_return};
-ghost use Rattle.lb_core.specs.Plain.{Plain};
+ghost use Rattle.lb_core.specs.Plain.{Plain, empty};
 ghost use Rattle.lb_core.specs.Step.{Answers};
 ghost use Rattle.lb_core.specs.declared.answer.Answer.{Answer};
 ghost use Rattle.lb_core.specs.declared.command.Command.{Command};
@@ -110,8 +110,21 @@ fn check_lines<W: Write>(alloc: Global, text: &str, output: &mut W) -> Result<()
     ensures { Checks text.now (W.contents output.old) (W.contents output.new) result }
 {
     let mut balancer = Balancer::new(alloc)?;
-    apply(alloc, text, &mut balancer)?;
-    let shown = show(alloc, &mut balancer)?;
+    check_over(alloc, text, output, &mut balancer)
+}
+
+/// The same, over a balancer that is empty.
+fn check_over<W: Write>(
+    alloc: Global,
+    text: &str,
+    output: &mut W,
+    balancer: &mut Balancer,
+) -> Result<(), Halt>
+    requires { balancer.old ≡ empty }
+    ensures { Checks text.now (W.contents output.old) (W.contents output.new) result }
+{
+    apply(alloc, text, balancer)?;
+    let shown = show(alloc, balancer)?;
     let line = whole_line(alloc, &shown)?;
     write_line(output, line.as_bytes())?;
     Ok(())

@@ -1,7 +1,7 @@
 //! Replaying lines: each is an event of one balancer, and each answer becomes a line.
 
 ghost use Rattle.std.specs.Prelude.{◌≡◌, ◌++◌, [], List, codes, OnErr, OnOk, IsTrue};
-ghost use Rattle.lb_core.specs.Plain.{Plain};
+ghost use Rattle.lb_core.specs.Plain.{Plain, empty};
 ghost use Rattle.lb_core.specs.Step.{Answers};
 ghost use Rattle.lb_core.specs.declared.answer.Answer.{Answer};
 ghost use Rattle.lb_core.specs.declared.event.Event.{Event};
@@ -65,12 +65,27 @@ fn answer_lines<R: Read + Drop, W: Write>(
     ensures { (end : Plain) × (events : List Event) × Answered (W.contents output.old) (W.contents output.new) held.new.items end events × ReadUpTo (R.remaining input) events result }
 {
     let mut balancer = Balancer::new(alloc)?;
+    answer_by(alloc, input, output, held, &mut balancer)
+}
+
+/// The same, by a balancer that is empty.
+fn answer_by<R: Read + Drop, W: Write>(
+    alloc: Global,
+    input: R,
+    output: &mut W,
+    held: &mut Vec<u8>,
+    balancer: &mut Balancer,
+) -> Result<(), Stop>
+    requires nothing { held.old.items ≡ [] }
+    requires empty { balancer.old ≡ empty }
+    ensures { (end : Plain) × (events : List Event) × Answered (W.contents output.old) (W.contents output.new) held.new.items end events × ReadUpTo (R.remaining input) events result }
+{
     let mut lines = Lines::new(alloc, input)?;
     'turns: for _ in 0..u64::MAX {
         write_if(lines.may_wait(), output, held)?;
         match lines.turn(alloc, held.as_slice())? {
             Turn::Nothing => {}
-            Turn::Event(event) => answer(alloc, &mut balancer, held, event)?,
+            Turn::Event(event) => answer(alloc, balancer, held, event)?,
             Turn::End => return Ok(()),
         }
     }

@@ -3,7 +3,7 @@ use Rattle.std.specs.Io.Buffered.{reader_remaining}
 use Rattle.lb_core.specs.declared.event.Event.{Event}
 use Rattle.lb.specs.Replaying.{Answered}
 use Rattle.lb.proofs.Readings.{ReadSoFar}
-use Rattle.lb.proofs.replaying.answer_lines.Given as goal
+use Rattle.lb.proofs.replaying.answer_by.Given as goal
 
 -- the events that the told lines so far were read as were answered
 abbrev pub invariant-turns : goal.invariant-turns
