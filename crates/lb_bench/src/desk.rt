@@ -77,12 +77,21 @@ pub(crate) fn fill_desk<R: Threads + Wait + Sync>(
 
 /// Times the steps alone.
 fn time_steps(rt: &HostRuntime, rounds: Rounds, what: &str) -> io::Result<()> {
-    let alloc = rt.alloc();
-    let mut balancer = keeping(alloc, KEPT)?;
+    let mut balancer = keeping(rt.alloc(), KEPT)?;
+    time_rounds(rt, &mut balancer, rounds, what)
+}
+
+/// Times rounds by steps of a balancer.
+fn time_rounds(
+    rt: &HostRuntime,
+    balancer: &mut Balancer,
+    rounds: Rounds,
+    what: &str,
+) -> io::Result<()> {
     let mut done = 0u32;
     let start = Instant::now(rt)?;
     for number in 0..rounds.count {
-        if is_stepped(alloc, &mut balancer, rounds.round, number)? {
+        if is_stepped(rt.alloc(), balancer, rounds.round, number)? {
             done = done.wrapping_add(1);
         }
     }

@@ -28,23 +28,33 @@ const REPLY: [u8; 52] = [
 /// Sends a query and delivers its reply, again and again, while so many queries are outstanding with it.
 pub(crate) fn time_forwards(rt: &HostRuntime) -> io::Result<()> {
     for outstanding in [1, 100, 1000] {
-        let alloc = rt.alloc();
-        let mut balancer = waiting(alloc, outstanding)?;
-        let mut delivered = 0u32;
-        let start = Instant::now(rt)?;
-        for _ in 0..ROUNDS {
-            let sent = balancer.step(query(alloc, WORD)?);
-            let back = balancer.step(reply(alloc)?);
-            if matches!(sent, Answer::Forward(..)) && matches!(back, Answer::Deliver(..)) {
-                delivered = delivered.wrapping_add(1);
-            }
-        }
-        let nanos = start.elapsed(rt)?.as_nanos() / u128::from(ROUNDS);
-        eprintln!(rt;
-            "{outstanding} outstanding: {nanos} ns a forwarded query and its reply ({delivered} delivered)"
-        )?;
+        let mut balancer = waiting(rt.alloc(), outstanding)?;
+        time_rounds(rt, &mut balancer, outstanding)?;
     }
     Ok(())
+}
+
+/// Sends a query and delivers its reply, again and again.
+fn time_rounds(rt: &HostRuntime, balancer: &mut Balancer, outstanding: u16) -> io::Result<()> {
+    let start = Instant::now(rt)?;
+    let delivered = deliver_rounds(rt.alloc(), balancer)?;
+    let nanos = start.elapsed(rt)?.as_nanos() / u128::from(ROUNDS);
+    eprintln!(rt;
+        "{outstanding} outstanding: {nanos} ns a forwarded query and its reply ({delivered} delivered)"
+    )
+}
+
+/// Sends a query and has its reply delivered so often. How many were.
+fn deliver_rounds(alloc: Global, balancer: &mut Balancer) -> Result<u32, AllocError> {
+    let mut delivered = 0u32;
+    for _ in 0..ROUNDS {
+        let sent = balancer.step(query(alloc, WORD)?);
+        let back = balancer.step(reply(alloc)?);
+        if matches!(sent, Answer::Forward(..)) && matches!(back, Answer::Deliver(..)) {
+            delivered = delivered.wrapping_add(1);
+        }
+    }
+    Ok(delivered)
 }
 
 /// A balancer with one server, to which so many queries but one were sent.

@@ -40,23 +40,25 @@ enum Asks {
 
 /// Walks 4,096 rules that do not hold, again and again: by type, by a suffix, by a mask.
 pub(crate) fn time_walks(rt: &HostRuntime) -> io::Result<()> {
-    for asks in [Asks::Qtype, Asks::Suffix, Asks::Masks] {
-        let what = match asks {
-            Asks::Qtype => "qtype(A)",
-            Asks::Suffix => "suffix(example.com)",
-            Asks::Masks => "masks(10.0.0.0/8)",
-            Asks::Rate => "maxqps(1000)",
-        };
-        let alloc = rt.alloc();
-        let mut balancer = filled(alloc, asks, RULES)?;
-        let start = Instant::now(rt)?;
-        let ruled = ask(alloc, &mut balancer, ROUNDS)?;
-        let nanos = start.elapsed(rt)?.as_nanos();
-        let tenths = nanos * 10 / (u128::from(ROUNDS) * u128::from(RULES));
-        let (whole, tenth) = (tenths / 10, tenths % 10);
-        eprintln!(rt; "4,096 rules {what}: {whole}.{tenth} ns a rule ({ruled} ended the walk)")?;
+    for (asks, what) in [
+        (Asks::Qtype, "qtype(A)"),
+        (Asks::Suffix, "suffix(example.com)"),
+        (Asks::Masks, "masks(10.0.0.0/8)"),
+    ] {
+        let mut balancer = filled(rt.alloc(), asks, RULES)?;
+        time_walk(rt, &mut balancer, what)?;
     }
     Ok(())
+}
+
+/// Walks a balancer's rules, which do not hold, again and again.
+fn time_walk(rt: &HostRuntime, balancer: &mut Balancer, what: &str) -> io::Result<()> {
+    let start = Instant::now(rt)?;
+    let ruled = ask(rt.alloc(), balancer, ROUNDS)?;
+    let nanos = start.elapsed(rt)?.as_nanos();
+    let tenths = nanos * 10 / (u128::from(ROUNDS) * u128::from(RULES));
+    let (whole, tenth) = (tenths / 10, tenths % 10);
+    eprintln!(rt; "4,096 rules {what}: {whole}.{tenth} ns a rule ({ruled} ended the walk)")
 }
 
 /// Counts queries of 4,096 addresses in turn, and then asks for one address more, which is shut out.
@@ -151,27 +153,37 @@ pub(crate) fn time_counting(rt: &HostRuntime) -> io::Result<()> {
     };
     for rules in [1, RULES] {
         let mut counter = Counter::new(rt.alloc(), rules)?;
-        let mut ended = 0u32;
-        let start = Instant::now(rt)?;
-        for _ in 0..QUERIES {
-            if counter.walk(&view) {
-                ended = ended.wrapping_add(1);
-            }
-        }
-        let walks = start.elapsed(rt)?.as_nanos();
-        let start = Instant::now(rt)?;
-        for _ in 0..QUERIES {
-            if counter.count(&view)? {
-                ended = ended.wrapping_add(1);
-            }
-        }
-        let counts = start.elapsed(rt)?.as_nanos();
-        let nanos = counts.saturating_sub(walks) / u128::from(QUERIES);
-        eprintln!(rt;
-            "counted by the first of {rules} rules: {nanos} ns to reserve and pass ({ended} ended the walk)"
-        )?;
+        time_counter(rt, &mut counter, &view, rules)?;
     }
     Ok(())
+}
+
+/// Counts a query by the first of so many rules, again and again.
+fn time_counter(
+    rt: &HostRuntime,
+    counter: &mut Counter,
+    view: &QueryView,
+    rules: u32,
+) -> io::Result<()> {
+    let mut ended = 0u32;
+    let start = Instant::now(rt)?;
+    for _ in 0..QUERIES {
+        if counter.walk(view) {
+            ended = ended.wrapping_add(1);
+        }
+    }
+    let walks = start.elapsed(rt)?.as_nanos();
+    let start = Instant::now(rt)?;
+    for _ in 0..QUERIES {
+        if counter.count(view)? {
+            ended = ended.wrapping_add(1);
+        }
+    }
+    let counts = start.elapsed(rt)?.as_nanos();
+    let nanos = counts.saturating_sub(walks) / u128::from(QUERIES);
+    eprintln!(rt;
+        "counted by the first of {rules} rules: {nanos} ns to reserve and pass ({ended} ended the walk)"
+    )
 }
 
 /// Asks so often from one address, and tells how often a rule ended the walk.
