@@ -64,7 +64,7 @@ fn time_kept(rt: &HostRuntime, kept: u16, what: &str) -> io::Result<()> {
     time_forwards(rt, &mut balancer, what, 0)
 }
 
-/// Times queries whose replies are kept beside so many others.
+/// Times queries whose replies are kept beside so many others: over a fresh balancer, since moments never go back.
 fn time_keeping(rt: &HostRuntime, kept: u16, what: &str) -> io::Result<()> {
     let mut balancer = keeping(rt.alloc(), kept)?;
     time_forwards(rt, &mut balancer, what, 1)
