@@ -1,30 +1,7 @@
-//! The program `lb`: it replays lines of events over one balancer, and checks setup files.
+//! The program `lb`: it does what its words ask for.
 #![tactic(auto)]
 
-mod checking;
-#[cfg(test)]
-mod examples;
-mod faults;
-mod input;
-mod line;
-#[cfg(test)]
-mod long_rows;
-mod output;
-mod program;
-#[cfg(test)]
-mod program_tests;
-mod replaying;
-#[cfg(test)]
-mod rows;
-mod shown;
-#[cfg(test)]
-mod tests;
-
-use crate::faults::Stop;
-use crate::program::{fail, refuse_words};
-pub use checking::check;
-pub use program::{Mode, choose, run};
-pub use replaying::replay;
+use lb_program::{Stop, fail, refuse_words, run};
 use std::env::Env;
 use std::io::ErrorKind;
 use std::process::ExitCode;

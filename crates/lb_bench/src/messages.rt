@@ -37,39 +37,68 @@ const LAST: [u8; 27] = [
     b'l', b' ', b'y', b'o', b'u', b'!',
 ];
 
-/// Times the calls on a query with an OPT.
-pub(crate) fn time_answers(rt: &HostRuntime) -> io::Result<()> {
-    time_reads(rt)?;
-    time_refusals(rt)?;
-    time_keys(rt)
+/// A call whose time is told.
+#[derive(Clone, Copy, Debug)]
+enum Call {
+    /// `read_query` of the query.
+    ReadQuery,
+    /// The same and `answer_in_place`, over a copy of the query.
+    AnswerInPlace,
+    /// `key_of` of the query, which takes memory.
+    KeyOf,
+    /// `survey` of the reply.
+    Survey,
+    /// `age` of a copy of the reply.
+    Age,
 }
 
-/// Times the calls on a reply of 512 octets with 20 records.
-pub(crate) fn time_surveys(rt: &HostRuntime) -> io::Result<()> {
-    let bytes = reply(rt.alloc())?;
-    time_walks(rt, bytes.as_slice())?;
-    time_ages(rt, bytes.as_slice())
+/// Times the calls on a query with an OPT, and on a reply of 512 octets with 20 records.
+pub(crate) fn time_messages(rt: &HostRuntime) -> io::Result<()> {
+    for call in [
+        Call::ReadQuery,
+        Call::AnswerInPlace,
+        Call::KeyOf,
+        Call::Survey,
+        Call::Age,
+    ] {
+        time_call(rt, call)?;
+    }
+    Ok(())
 }
 
-/// Reads the query, again and again.
-fn time_reads(rt: &HostRuntime) -> io::Result<()> {
-    let mut sum = 0u32;
+/// Times a call.
+fn time_call(rt: &HostRuntime, call: Call) -> io::Result<()> {
     let start = Instant::now(rt)?;
+    let sum = sum(rt.alloc(), call)?;
+    let nanos = start.elapsed(rt)?.as_nanos() / u128::from(ROUNDS);
+    eprintln!(rt; "{call:?}: {nanos} ns a call (sum {sum})")
+}
+
+/// Makes a call again and again, and sums up a number of each result, so that none is left out.
+fn sum(alloc: Global, call: Call) -> Result<u32, AllocError> {
+    match call {
+        Call::ReadQuery => Ok(sum_of_reads()),
+        Call::AnswerInPlace => sum_of_answers(alloc),
+        Call::KeyOf => sum_of_keys(alloc),
+        Call::Survey => sum_of_surveys(alloc),
+        Call::Age => sum_of_ages(alloc),
+    }
+}
+
+fn sum_of_reads() -> u32 {
+    let mut sum = 0u32;
     for _ in 0..ROUNDS {
         if let Ok(view) = read_query(QUERY.as_slice()) {
             sum = sum.wrapping_add(u32::from(view.id));
         }
     }
-    let nanos = start.elapsed(rt)?.as_nanos() / u128::from(ROUNDS);
-    eprintln!(rt; "read_query: {nanos} ns a call (sum {sum})")
+    sum
 }
 
-/// Reads the query and makes its refusal in the same octets, again and again. After the first copy of the query no
-/// memory is taken.
-fn time_refusals(rt: &HostRuntime) -> io::Result<()> {
-    let mut bytes = Vec::from_slice(rt.alloc(), QUERY.as_slice())?;
+/// After the first copy of the query no memory is taken.
+fn sum_of_answers(alloc: Global) -> Result<u32, AllocError> {
+    let mut bytes = Vec::from_slice(alloc, QUERY.as_slice())?;
     let mut sum = 0u32;
-    let start = Instant::now(rt)?;
     for _ in 0..ROUNDS {
         bytes.clear();
         bytes.extend_from_slice(QUERY.as_slice())?;
@@ -78,55 +107,54 @@ fn time_refusals(rt: &HostRuntime) -> io::Result<()> {
         }
         sum = sum.wrapping_add(bytes.as_slice().get(3).copied().map_or(0, u32::from));
     }
-    let nanos = start.elapsed(rt)?.as_nanos() / u128::from(ROUNDS);
-    eprintln!(rt; "read_query and answer_in_place: {nanos} ns a call (sum {sum})")
+    Ok(sum)
 }
 
-/// Makes the key of the query, again and again: it takes memory each time.
-fn time_keys(rt: &HostRuntime) -> io::Result<()> {
+fn sum_of_keys(alloc: Global) -> Result<u32, AllocError> {
     let Ok(view) = read_query(QUERY.as_slice()) else {
-        return Ok(());
+        return Ok(0);
     };
     let mut sum = 0u32;
-    let start = Instant::now(rt)?;
     for _ in 0..ROUNDS {
-        let key = key_of(rt.alloc(), QUERY.as_slice(), &view, Kind::Datagram)?;
+        let key = key_of(alloc, QUERY.as_slice(), &view, Kind::Datagram)?;
         sum = sum.wrapping_add(key.octets.as_slice().get(1).copied().map_or(0, u32::from));
     }
-    let nanos = start.elapsed(rt)?.as_nanos() / u128::from(ROUNDS);
-    eprintln!(rt; "key_of: {nanos} ns a call (sum {sum})")
+    Ok(sum)
 }
 
-/// Surveys the reply, again and again.
-fn time_walks(rt: &HostRuntime, bytes: &[u8]) -> io::Result<()> {
-    let len = bytes.len();
+fn sum_of_surveys(alloc: Global) -> Result<u32, AllocError> {
+    let bytes = reply(alloc)?;
     let mut sum = 0u32;
-    let start = Instant::now(rt)?;
     for _ in 0..ROUNDS {
-        if let Some(found) = survey(bytes) {
+        if let Some(found) = survey(bytes.as_slice()) {
             sum = sum.wrapping_add(found.least_all.unwrap_or(0));
         }
     }
-    let nanos = start.elapsed(rt)?.as_nanos() / u128::from(ROUNDS);
-    eprintln!(rt; "survey of {len} octets: {nanos} ns a call (sum {sum})")
+    Ok(sum)
 }
 
-/// Copies the reply and lowers its TTLs by a second, again and again. After the first copy no memory is taken.
-fn time_ages(rt: &HostRuntime, bytes: &[u8]) -> io::Result<()> {
-    let len = bytes.len();
-    let mut older = Vec::from_slice(rt.alloc(), bytes)?;
-    let mut sum = 0u32;
-    let start = Instant::now(rt)?;
-    if outlives_a_second(bytes) {
-        for _ in 0..ROUNDS {
-            older.clear();
-            older.extend_from_slice(bytes)?;
-            age(older.as_mut_slice(), 1);
-            sum = sum.wrapping_add(older.as_slice().last().copied().map_or(0, u32::from));
-        }
+fn sum_of_ages(alloc: Global) -> Result<u32, AllocError> {
+    let bytes = reply(alloc)?;
+    if outlives_a_second(bytes.as_slice()) {
+        sum_of_aged(alloc, bytes.as_slice())
+    } else {
+        Ok(0)
     }
-    let nanos = start.elapsed(rt)?.as_nanos() / u128::from(ROUNDS);
-    eprintln!(rt; "age of a copy of {len} octets: {nanos} ns a call (sum {sum})")
+}
+
+/// After the first copy of the reply no memory is taken.
+fn sum_of_aged(alloc: Global, bytes: &[u8]) -> Result<u32, AllocError>
+    requires { (m : Message) × Lays bytes.now m × AllByRecursion (Outlives 1) m.records }
+{
+    let mut older = Vec::from_slice(alloc, bytes)?;
+    let mut sum = 0u32;
+    for _ in 0..ROUNDS {
+        older.clear();
+        older.extend_from_slice(bytes)?;
+        age(older.as_mut_slice(), 1);
+        sum = sum.wrapping_add(older.as_slice().last().copied().map_or(0, u32::from));
+    }
+    Ok(sum)
 }
 
 /// Whether the octets are a message each of whose records lives a second at least.

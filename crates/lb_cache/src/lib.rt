@@ -7,8 +7,6 @@ mod caches;
 mod limits;
 mod question;
 mod reply;
-#[cfg(test)]
-mod tests;
 
 pub use cache::Cache;
 pub use cached::{AttachedCache, Covered, KeptReply};

@@ -14,8 +14,6 @@ mod listed;
 mod numbered;
 mod places;
 mod rule;
-#[cfg(test)]
-mod tests;
 mod walk;
 mod walked;
 

@@ -1,35 +1,388 @@
-//! Rows of typed events, with the answers written out by hand from RFC 1035 and RFC 6891.
+//! What lines of `lb replay` cannot say of a balancer: equal values and copies, what an answer's line leaves out, snapshots, runs,
+//! and want of memory. Answers that are wanted were written out by hand from RFC 1035.
 //!
-//! A row is a list of lines, each with what the balancer is told and the answer that is wanted. One player tells them to a
-//! new balancer in turn, so that a test is proved with one call and not with all of the lines.
-//!
-//! Rows are for refused allocations too: `rt try --test --fail-alloc N`. What met want of memory is told again and then gets
-//! the answer that it gets with ample memory, so that nothing was changed by it. Want of memory before the balancer is told
-//! ends a test with an error, and no assertion fails by it. A reply that was not kept for want of memory ends its row: the query
-//! is gone, and the next one is forwarded.
+//! The rows at the end are for refused allocations: `rt try --test --fail-alloc N`. What met want of memory is told again and then
+//! gets the answer that it gets with ample memory, so that nothing was changed by it. A reply that was not kept for want of memory
+//! ends its row: the query is gone, and the next one is forwarded. Other want of memory ends a test with an error, and no
+//! assertion fails by it.
 
-mod caches;
-mod equal;
-mod messages;
-mod passing;
-mod rules;
-mod servers;
-mod told;
-mod wanted;
-
-use lb_chain::ChainFault;
-use lb_core::{Answer, Balancer, EditFault, Event, IgnoreReason};
-use lb_servers::ParkFault;
-use lb_wire::Kept;
-use messages::Message;
-use std::alloc::Global;
+use crate::lines::{QUERY, REPLY, TOLD, event, events, is_wanting, step, tell};
+use lb_command::{answer_line, note_text};
+use lb_core::{Answer, Balancer, DropReason, Event, LocalReason, Plain, run};
+use lb_wire::{Addr, Kept, MAX_MESSAGE, Origin, RuleId};
+use std::alloc::{AllocError, Global};
 use std::process::Abort;
 use std::test::Fail;
-use told::{PLAIN, Told};
-use wanted::{Wanted, is};
 
-/// A line of a row.
-type Line = (Told, Wanted);
+/// A copy of each event is equal to it and to none before it.
+#[test]
+fn equal_events(rt: HostRuntime) -> Result<(), Fail> {
+    let events = events(rt.alloc())?;
+    expect_equal_events(&rt, events.as_slice())
+}
+
+fn expect_equal_events<T: Abort + AllocGlobal>(rt: &T, events: &[Event]) -> Result<(), Fail> {
+    for (place, event) in events.iter().enumerate() {
+        assert!(rt; is_event_copied(rt.alloc(), event)?, "{event:?}");
+        let first = events.iter().position(|other| other.equals(event));
+        assert_eq!(rt; first, Some(place), "{event:?}");
+    }
+    Ok(())
+}
+
+/// Whether an event is equal to its copy, and its command too.
+fn is_event_copied(alloc: Global, event: &Event) -> Result<bool, AllocError> {
+    let copy = event.copy(alloc)?;
+    Ok(event.equals(&copy) && has_equal_command(event, &copy))
+}
+
+/// Whether two events have equal commands, or none.
+fn has_equal_command(event: &Event, other: &Event) -> bool {
+    match (event, other) {
+        (Event::Edit { command, .. }, Event::Edit { command: other, .. }) => {
+            command.get().equals(other.get())
+        }
+        _ => true,
+    }
+}
+
+/// A copy of each answer is equal to it and to none before it, one that is written into room that was taken before too. Its note is
+/// its whole line, or the first word of it.
+#[test]
+fn equal_answers_and_notes(rt: HostRuntime) -> Result<(), Fail> {
+    let answers = answers(rt.alloc())?;
+    expect_equal_answers(&rt, answers.as_slice())
+}
+
+fn expect_equal_answers<T: Abort + AllocGlobal>(rt: &T, answers: &[Answer]) -> Result<(), Fail> {
+    for (place, answer) in answers.iter().enumerate() {
+        let first = answers.iter().position(|other| other.equals(answer));
+        assert_eq!(rt; first, Some(place), "{answer:?}");
+        assert!(rt; is_copied(rt.alloc(), answer)?, "{answer:?}");
+        assert!(rt; is_noted(rt.alloc(), answer)?, "{answer:?}");
+    }
+    Ok(())
+}
+
+/// Whether an answer is equal to its copies.
+fn is_copied(alloc: Global, answer: &Answer) -> Result<bool, AllocError> {
+    Ok(is_copied_anew(alloc, answer)? && is_copied_into(alloc, answer)?)
+}
+
+fn is_copied_anew(alloc: Global, answer: &Answer) -> Result<bool, AllocError> {
+    let copy = answer.copy(alloc)?;
+    Ok(copy.equals(answer))
+}
+
+fn is_copied_into(alloc: Global, answer: &Answer) -> Result<bool, AllocError> {
+    let room = Vec::with_capacity(alloc, MAX_MESSAGE)?;
+    let copy = answer.copy_into(room);
+    Ok(copy.equals(answer))
+}
+
+/// Whether the note of an answer is its line, or the first word of its line where it is of no edit.
+fn is_noted(alloc: Global, answer: &Answer) -> Result<bool, AllocError> {
+    let line = answer_line(alloc, answer)?;
+    let note = note_text(alloc, answer)?;
+    let wanted = match answer {
+        Answer::Edited(_) | Answer::Refused(_) => line.as_str(),
+        _ => first_word(line.as_str()),
+    };
+    Ok(note.as_str() == wanted)
+}
+
+fn first_word(line: &str) -> &str {
+    match line.split_once(' ') {
+        Some((word, _)) => word,
+        None => line,
+    }
+}
+
+/// The answers of a new balancer to the lines of `TOLD`.
+fn answers(alloc: Global) -> Result<Vec<Answer>, Fail> {
+    let mut balancer = Balancer::new(alloc)?;
+    answers_of(alloc, &mut balancer)
+}
+
+/// The answers of a balancer to the lines of `TOLD`.
+fn answers_of(alloc: Global, balancer: &mut Balancer) -> Result<Vec<Answer>, Fail> {
+    let mut answers = Vec::new(alloc);
+    for line in TOLD {
+        answers.push(tell(alloc, balancer, line)?)?;
+    }
+    Ok(answers)
+}
+
+/// A run gives the answers that single steps give of a balancer that began equal.
+#[test]
+fn a_run_answers_as_single_steps_do(rt: HostRuntime) -> Result<(), Fail> {
+    let stepped = answers(rt.alloc())?;
+    let run = run_answers(rt.alloc())?;
+    if run.iter().any(is_wanting) {
+        return Err(Fail::from(AllocError));
+    }
+    assert!(rt; are_equal(run.as_slice(), stepped.as_slice()), "{run:?}");
+    Ok(())
+}
+
+fn are_equal(answers: &[Answer], others: &[Answer]) -> bool {
+    answers.len() == others.len()
+        && answers
+            .iter()
+            .zip(others)
+            .all(|(answer, other)| answer.equals(other))
+}
+
+/// The answers of a new balancer to a run over the events of `TOLD`.
+fn run_answers(alloc: Global) -> Result<Vec<Answer>, Fail> {
+    let mut balancer = Balancer::new(alloc)?;
+    run_answers_of(alloc, &mut balancer)
+}
+
+/// The answers of a balancer to that run.
+fn run_answers_of(alloc: Global, balancer: &mut Balancer) -> Result<Vec<Answer>, Fail> {
+    match run(alloc, balancer, events(alloc)?) {
+        Ok(answers) => Ok(answers),
+        Err(_) => Err(Fail::from(AllocError)),
+    }
+}
+
+/// Where a query comes from: of this, an answer's line says the slot alone.
+const ORIGIN: Origin = Origin {
+    front: 3,
+    slot: 7,
+    source: Addr::V6([0x20, 1, 0xd, 0xb8, 0, 0, 0, 0, 0, 0, 0, 0, 0, 0, 0, 7]),
+    port: 5353,
+};
+
+/// `QUERY` from there, to a balancer; whether it is sent.
+fn is_sent(alloc: Global, balancer: &mut Balancer) -> Result<bool, Fail> {
+    match event(alloc, QUERY)? {
+        Event::Query {
+            now,
+            kind,
+            word,
+            bytes,
+            ..
+        } => {
+            let query = Event::Query {
+                now,
+                origin: ORIGIN,
+                kind,
+                word,
+                bytes,
+            };
+            Ok(matches!(step(balancer, query), Answer::Forward(..)))
+        }
+        _ => Ok(false),
+    }
+}
+
+/// Whom the answer to a line goes to.
+fn client(alloc: Global, balancer: &mut Balancer, line: &str) -> Result<Option<Origin>, Fail> {
+    match tell(alloc, balancer, line)? {
+        Answer::Deliver(client, _, _) | Answer::Expired(client, _) => Ok(Some(client)),
+        _ => Ok(None),
+    }
+}
+
+/// A reply, and a query that is given up, go back to where the query came from.
+fn expect_client<T: Abort + AllocGlobal>(rt: &T, balancer: &mut Balancer) -> Result<(), Fail> {
+    expect(rt, balancer, SERVER)?;
+    for line in [REPLY, "tick 4000"] {
+        if !is_sent(rt.alloc(), balancer)? {
+            return Err(Fail::from(AllocError));
+        }
+        let client = client(rt.alloc(), balancer, line)?;
+        assert_eq!(rt; client, Some(ORIGIN), "{line}");
+    }
+    Ok(())
+}
+
+/// The first rule does not end the walk, the second one drops, the third one answers.
+const RULES: &[Line] = &[
+    ("edit 0 rule add all none", "edited rule 1 added"),
+    ("edit 0 rule add qtype(AAAA) drop", "edited rule 2 added"),
+    (
+        "edit 0 rule add qtype(A) rcode(REFUSED)",
+        "edited rule 3 added",
+    ),
+];
+
+/// The rule that the answer to a line says.
+fn rule(alloc: Global, balancer: &mut Balancer, line: &str) -> Result<Option<RuleId>, Fail> {
+    match tell(alloc, balancer, line)? {
+        Answer::Dropped(DropReason::Rule(id)) | Answer::Local(_, LocalReason::Rule(id)) => {
+            Ok(Some(id))
+        }
+        _ => Ok(None),
+    }
+}
+
+/// An answer says which rule it comes from.
+fn expect_rules<T: Abort + AllocGlobal>(rt: &T, balancer: &mut Balancer) -> Result<(), Fail> {
+    play_on(rt, balancer, RULES)?;
+    assert_eq!(rt; rule(rt.alloc(), balancer, QUERY_AAAA)?, Some(RuleId(2)));
+    assert_eq!(rt; rule(rt.alloc(), balancer, QUERY)?, Some(RuleId(3)));
+    Ok(())
+}
+
+/// An answer's line leaves out all of the client but its slot, and the number of the rule.
+#[test]
+fn answers_say_more_than_their_lines(rt: HostRuntime) -> Result<(), Fail> {
+    let mut balancer = Balancer::new(rt.alloc())?;
+    expect_client(&rt, &mut balancer)?;
+    expect_rules(&rt, &mut balancer)
+}
+
+/// `QUERY` for AAAA.
+const QUERY_AAAA: &str =
+    "query 1000 7 udp 192.0.2.1 16 123401000001000000000000076578616d706c6503636f6d00001c0001";
+
+/// What a snapshot tells after a reply was kept.
+#[test]
+fn snapshot(rt: HostRuntime) -> Result<(), Fail> {
+    let plain = snapshot_of_kept(rt.alloc())?;
+    assert!(rt; is_of_kept(&plain), "{plain:?}");
+    Ok(())
+}
+
+fn is_of_kept(plain: &Plain) -> bool {
+    plain.moment() == 2000
+        && plain.timeout() == 2000
+        && plain.next_rule() == 1
+        && plain.next_server() == 2
+        && plain.next_cache() == 2
+        && plain.rules().is_empty()
+        && plain.servers().len() == 1
+        && plain.checks().len() == 1
+        && plain.pools().len() == 1
+        && plain.caches().len() == 1
+        && plain.outstanding().is_empty()
+        && matches!(plain.kept(), [kept] if kept.reply.life == 300)
+}
+
+/// A snapshot of a balancer that keeps a reply.
+fn snapshot_of_kept(alloc: Global) -> Result<Plain, Fail> {
+    let mut balancer = Balancer::new(alloc)?;
+    keep_reply(alloc, &mut balancer)?;
+    Ok(balancer.snapshot(alloc)?)
+}
+
+/// Has a balancer keep a reply.
+fn keep_reply(alloc: Global, balancer: &mut Balancer) -> Result<(), Fail> {
+    for (line, _) in KEPT {
+        if is_not_kept(&tell(alloc, balancer, line)?) {
+            return Err(Fail::from(AllocError));
+        }
+    }
+    // A law, which does nothing.
+    balancer.law_of_health();
+    Ok(())
+}
+
+/// Whether memory was wanting for keeping a reply.
+fn is_not_kept(answer: &Answer) -> bool {
+    matches!(answer, Answer::Deliver(_, _, Kept::NoMemory))
+}
+
+/// A line, and the line of its answer.
+type Line = (&'static str, &'static str);
+
+const SERVER: Line = (
+    "edit 0 server add s1 127.0.0.1 5301",
+    "edited server 1 added",
+);
+
+/// A reply is kept for a day at most.
+const KEPT: &[Line] = &[
+    SERVER,
+    (
+        "edit 0 cache attach - 100 4 86400",
+        "edited cache 1 attached",
+    ),
+    (QUERY, SENT_TO_1),
+    (
+        REPLY,
+        "deliver 7 yes 123481800001000100000000076578616d706c6503636f6d0000010001c00c000100010000012c0004c0000201",
+    ),
+];
+
+const SENT_TO_1: &str =
+    "forward 1 udp 16 001001000001000000000000076578616d706c6503636f6d0000010001";
+
+const SENT_TO_2: &str =
+    "forward 2 udp 16 001001000001000000000000076578616d706c6503636f6d0000010001";
+
+/// A reply that is kept answers the next query.
+#[test]
+fn wanting_memory_a_reply_is_delivered(rt: HostRuntime) -> Result<(), Fail> {
+    play(&rt, KEPT)
+}
+
+/// Where memory is wanting for a rule, no number is given. Where it is wanting for a query, no pass, no turn and no
+/// outstanding query is counted: a pass more would have the third query's answer come at the second, a turn would send it
+/// to the other server, and an entry would take its ID.
+const LIMITED: &[Line] = &[
+    SERVER,
+    (
+        "edit 0 server add s2 127.0.0.1 5302",
+        "edited server 2 added",
+    ),
+    (
+        "edit 0 pool policy - roundrobin",
+        "edited pool - policy roundrobin",
+    ),
+    ("edit 0 rule add maxqps(2) drop", "edited rule 1 added"),
+    (QUERY, SENT_TO_1),
+    (QUERY, SENT_TO_2),
+    (QUERY, "dropped rule"),
+];
+
+#[test]
+fn wanting_memory_a_query_counts_nothing(rt: HostRuntime) -> Result<(), Fail> {
+    play(&rt, LIMITED)
+}
+
+/// Where memory is wanting for an edit, it changes nothing.
+const EDITED: &[Line] = &[
+    ("edit 0 pool add p1", "edited pool p1 added"),
+    (
+        "edit 0 server add s1 127.0.0.1 5301 pool p1",
+        "edited server 1 added",
+    ),
+    (
+        "edit 0 cache attach p1 100 4 86400",
+        "edited cache 1 attached",
+    ),
+    (
+        "edit 0 rule add suffix(example.com) allow",
+        "edited rule 1 added",
+    ),
+    (
+        "edit 0 rule add maxqps(1) spoof(192.0.2.7)",
+        "edited rule 2 added",
+    ),
+    (QUERY, SERV_FAIL),
+    ("edit 0 rule move 2 0", "edited rule 2 moved"),
+    (QUERY, SERV_FAIL),
+    (
+        QUERY,
+        "local rule 123481800001000100000000076578616d706c6503636f6d0000010001c00c000100010000003c0004c0000207",
+    ),
+    (
+        "edit 0 show",
+        "edited rules 2 servers 1 pools 2 caches 1 outstanding 0 kept 0",
+    ),
+];
+
+#[test]
+fn wanting_memory_an_edit_changes_nothing(rt: HostRuntime) -> Result<(), Fail> {
+    play(&rt, EDITED)
+}
+
+/// The line of the answer to `QUERY` where there is no server.
+const SERV_FAIL: &str = "local noserver 123481820001000000000000076578616d706c6503636f6d0000010001";
 
 /// Tells a new balancer the lines of a row, and compares the answers.
 fn play<T: Abort + AllocGlobal>(rt: &T, row: &[Line]) -> Result<(), Fail> {
@@ -37,84 +390,38 @@ fn play<T: Abort + AllocGlobal>(rt: &T, row: &[Line]) -> Result<(), Fail> {
     play_on(rt, &mut balancer, row)
 }
 
-/// Tells a balancer the lines of a row, and compares the answers.
 fn play_on<T: Abort + AllocGlobal>(
     rt: &T,
     balancer: &mut Balancer,
     row: &[Line],
 ) -> Result<(), Fail> {
-    for (place, line) in row.iter().enumerate() {
-        if play_line(rt, balancer, place, *line)? == Course::Left {
+    for line in row {
+        if !expect(rt, balancer, *line)? {
+            // The query whose reply came last is gone, and the next one is forwarded.
+            expect(rt, balancer, (REPLY, "ignored unknown"))?;
+            expect(rt, balancer, (QUERY, SENT_TO_1))?;
             return Ok(());
         }
     }
     Ok(())
 }
 
-/// Whether a row goes on as it is written. A reply that was not kept for want of memory is delivered all the same, but the
-/// cache's answers that are written behind it do not come.
-#[derive(Clone, Copy, PartialEq, Eq)]
-enum Course {
-    Kept,
-    Left,
-}
-
-/// Tells a balancer the line at this place, counted from 0, and compares the answer.
-fn play_line<T: Abort + AllocGlobal>(
+/// Tells a balancer a line, and compares the answer. Whether the row goes on: not behind a reply that was not kept for want of memory.
+fn expect<T: Abort + AllocGlobal>(
     rt: &T,
     balancer: &mut Balancer,
-    place: usize,
-    line: Line,
-) -> Result<Course, Fail> {
-    let (told, wanted) = line;
-    let answer = tell(balancer, rt.alloc(), told)?;
-    assert!(rt; wanted.is(&answer), "line {place}: {answer:?}");
-    if !matches!(answer, Answer::Deliver(_, _, Kept::NoMemory)) {
-        return Ok(Course::Kept);
+    (line, wanted): Line,
+) -> Result<bool, Fail> {
+    let told = told(rt.alloc(), balancer, line)?;
+    if told.as_str().starts_with("deliver 7 nomemory ") {
+        return Ok(false);
     }
-    // The query is gone, and the next one goes to a server.
-    let again = step(balancer, told.event(rt.alloc())?);
-    assert!(rt;
-        matches!(again, Answer::Ignored(IgnoreReason::Unknown)),
-        "line {place} again: {again:?}"
-    );
-    let next = tell(balancer, rt.alloc(), Told::Ask(PLAIN))?;
-    assert!(rt;
-        matches!(next, Answer::Forward(_, _, _, _)),
-        "after line {place}: {next:?}"
-    );
-    Ok(Course::Left)
+    assert_eq!(rt; told.as_str(), wanted, "{line}");
+    Ok(true)
 }
 
-/// The answer to what the balancer is told; where memory was wanting, told again.
-fn tell(balancer: &mut Balancer, alloc: Global, told: Told) -> Result<Answer, Fail> {
-    let answer = step(balancer, told.event(alloc)?);
-    if is_wanting(&answer) {
-        return Ok(step(balancer, told.event(alloc)?));
-    }
-    Ok(answer)
-}
-
-/// The answer to an event. It has no clause, so that what calls it is proved without the meaning of a step.
-fn step(balancer: &mut Balancer, event: Event) -> Answer {
-    balancer.step(event)
-}
-
-/// ServFail to the queries of the rows.
-const SERV_FAILS: &[Message] = &[
-    Message::ServFail,
-    Message::Ipv6ServFail,
-    Message::CookieServFail,
-    Message::MixedServFail,
-    Message::MxServFail,
-];
-
-/// Whether memory was wanting. A query is then answered ServFail.
-fn is_wanting(answer: &Answer) -> bool {
-    match answer {
-        Answer::NoMemory(bytes) => SERV_FAILS.iter().any(|wanted| is(bytes, *wanted)),
-        Answer::Refused(EditFault::Rules(fault)) => *fault == ChainFault::NoMemory,
-        Answer::Refused(EditFault::Servers(fault)) => *fault == ParkFault::NoMemory,
-        _ => false,
-    }
+/// The line of the answer to a line.
+fn told(alloc: Global, balancer: &mut Balancer, line: &str) -> Result<String, Fail> {
+    let answer = tell(alloc, balancer, line)?;
+    Ok(answer_line(alloc, &answer)?)
 }

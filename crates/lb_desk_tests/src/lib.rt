@@ -3,8 +3,10 @@
 #![tactic(auto)]
 
 #[cfg(test)]
+mod callers;
+#[cfg(test)]
 mod events;
 #[cfg(test)]
-mod tests;
+mod rounds;
 #[cfg(test)]
-mod threads;
+mod tests;

@@ -1,145 +1,145 @@
-//! Calls of a desk. Each test picks the name of its desks (its folder in proofs/ says so).
+//! Calls of desks, from one thread and from several.
 
-ghost use Rattle.std.specs.Prelude.{◌≡◌};
-ghost use Rattle.lb_core.specs.Snapshot.{snapshot_of};
-
-use crate::events::query;
-use lb_core::{Balancer, Event};
-use lb_desk::{CloseFault, Desk, DeskFault, Naming, Seat};
+use crate::callers::Caller;
+use crate::rounds::{Left, Round, go_round};
+use lb_core::{Answer, DropReason, Event, Note};
+use lb_desk::{Audit, CloseFault, Entry, SeatId};
+use lb_wire::RuleId;
 use std::alloc::{AllocError, Global};
-use std::marker::Brand;
-use std::sync::Wait;
-use std::sync::ledger::Blank;
 use std::test::Fail;
 
-/// How many calls a desk counted, how many its log has, and how many receipts its one seat has.
-type Counts = (u64, usize, usize);
-
-/// A desk of one seat and this limit, asked so often what time brings.
-fn ticked<J: Naming, R: Wait>(
-    rt: &R,
-    alloc: Global,
-    blank: Blank,
-    balancer: Balancer,
-    limit: u64,
-    calls: u64,
-) -> Option<Counts>
-    requires name { blank.name ≡ J.name }
-    requires parts { (blank.parts ≡ J.parts) × (J.parts ≡ 1) × (J.seats ≡ 1) }
-    requires limit { J.limit ≡ limit }
-    requires opening { J.opening ≡ snapshot_of balancer }
-{
-    let (desk, mut seats) = Desk::<J>::made(alloc, blank, balancer, limit, 1).ok()?;
-    let mut seat = seats.pop()?;
-    for now in 0..calls {
-        desk.call(rt, &mut seat, Event::Tick { now }).ok()?;
+/// How many calls a desk counted, and how many its log has.
+fn counts(left: Left) -> Option<(u64, usize)> {
+    match left {
+        Some(Ok(audit)) => Some((audit.count, audit.log.len())),
+        _ => None,
     }
-    let receipts = seat.receipts().len();
-    seats.push(seat).ok()?;
-    let audit = desk.close(seats).ok()?;
-    Some((audit.count, audit.log.len(), receipts))
+}
+
+/// Why a desk was not closed.
+fn fault(left: Left) -> Option<CloseFault> {
+    match left {
+        Some(Err(fault)) => Some(fault),
+        _ => None,
+    }
+}
+
+/// What a closed desk leaves.
+fn audit(left: Left) -> Result<Audit, Fail> {
+    match left {
+        Some(Ok(audit)) => Ok(audit),
+        _ => Err(Fail::from("a call was refused, or the desk not closed")),
+    }
 }
 
 #[test]
 fn a_log_ends_at_its_limit(rt: HostRuntime) -> Result<(), Fail> {
-    let balancer = Balancer::new(rt.alloc())?;
-    let counts = ticked::<Brand, _>(&rt, rt.alloc(), Blank::new(1), balancer, 3, 5);
-    assert!(rt; counts == Some((5, 3, 3)));
+    let left = go_round(&rt, rt.alloc(), 1, 3, &[Round::One(Caller::Ticks(5))])?;
+    assert!(rt; counts(left) == Some((5, 3)));
     Ok(())
 }
 
 #[test]
 fn a_log_without_room_stays_empty(rt: HostRuntime) -> Result<(), Fail> {
-    let balancer = Balancer::new(rt.alloc())?;
-    let counts = ticked::<Brand, _>(&rt, rt.alloc(), Blank::new(1), balancer, 0, 5);
-    assert!(rt; counts == Some((5, 0, 0)));
+    let left = go_round(&rt, rt.alloc(), 1, 0, &[Round::One(Caller::Ticks(5))])?;
+    assert!(rt; counts(left) == Some((5, 0)));
     Ok(())
-}
-
-/// Closes a desk of two seats with one of them.
-fn closed_with_one<J: Naming>(
-    alloc: Global,
-    blank: Blank,
-    balancer: Balancer,
-) -> Result<Option<CloseFault>, AllocError>
-    requires name { blank.name ≡ J.name }
-    requires parts { (blank.parts ≡ J.parts) × (J.parts ≡ 2) × (J.seats ≡ 2) }
-    requires limit { J.limit ≡ 1000 }
-    requires opening { J.opening ≡ snapshot_of balancer }
-{
-    let (desk, mut seats) = Desk::<J>::made(alloc, blank, balancer, 1000, 2)?;
-    seats.pop();
-    Ok(desk.close(seats).err())
 }
 
 #[test]
 fn a_seat_that_is_missing_is_told(rt: HostRuntime) -> Result<(), Fail> {
-    let balancer = Balancer::new(rt.alloc())?;
-    let fault = closed_with_one::<Brand>(rt.alloc(), Blank::new(2), balancer)?;
-    assert!(rt; fault == Some(CloseFault::MissingSeat));
+    let left = go_round(&rt, rt.alloc(), 2, 1000, &[Round::Lose])?;
+    assert!(rt; fault(left) == Some(CloseFault::MissingSeat));
     assert!(rt; CloseFault::MissingSeat.number() == 1);
     Ok(())
-}
-
-/// A call that is made once more where memory was refused. Whether it was; None where a refused call changed something.
-fn called_again<J: Naming, R: Wait>(
-    rt: &R,
-    alloc: Global,
-    desk: &Desk<J>,
-    seat: &mut Seat<J>,
-    now: u64,
-) -> Result<Option<bool>, AllocError> {
-    let event = query(alloc, now)?;
-    let before = (seat.calls(), seat.receipts().len());
-    let Err((fault, back)) = desk.call(rt, seat, event) else {
-        return Ok(Some(false));
-    };
-    let after = (seat.calls(), seat.receipts().len());
-    let is_same = after == before && back.equals(&query(alloc, now)?);
-    let is_done = desk.call(rt, seat, back).is_ok();
-    let is_right = fault == DeskFault::NoMemory && is_same && is_done;
-    Ok(is_right.then_some(true))
-}
-
-/// Three calls of a desk with a log of three, each made once more where memory was refused: which were.
-fn called_thrice<J: Naming, R: Wait>(
-    rt: &R,
-    alloc: Global,
-    blank: Blank,
-    balancer: Balancer,
-) -> Result<Option<[bool; 3]>, AllocError>
-    requires name { blank.name ≡ J.name }
-    requires parts { (blank.parts ≡ J.parts) × (J.parts ≡ 1) × (J.seats ≡ 1) }
-    requires limit { J.limit ≡ 3 }
-    requires opening { J.opening ≡ snapshot_of balancer }
-{
-    let (desk, mut seats) = Desk::<J>::made(alloc, blank, balancer, 3, 1)?;
-    let Some(mut seat) = seats.pop() else {
-        return Ok(None);
-    };
-    let mut refused = [false; 3];
-    for number in 0..3 {
-        match called_again(rt, alloc, &desk, &mut seat, number as u64)? {
-            Some(was) => refused[number] = was,
-            None => return Ok(None),
-        }
-    }
-    if seat.calls() != 3 || seat.receipts().len() != 3 {
-        return Ok(None);
-    }
-    seats.push(seat)?;
-    match desk.close(seats) {
-        Ok(audit) if audit.count == 3 && audit.log.len() == 3 => Ok(Some(refused)),
-        _ => Ok(None),
-    }
 }
 
 /// With `rt try --test --fail-alloc N` it tells which calls were refused.
 #[test]
 fn a_refused_call_changes_nothing(rt: HostRuntime) -> Result<(), Fail> {
-    let balancer = Balancer::new(rt.alloc())?;
-    let refused = called_thrice::<Brand, _>(&rt, rt.alloc(), Blank::new(1), balancer)?;
-    eprintln!(&rt; "refused: {refused:?}")?;
-    assert!(rt; refused.is_some());
+    let left = go_round(&rt, rt.alloc(), 1, 3, &[Round::One(Caller::AsksAgain)])?;
+    assert!(rt; counts(left) == Some((3, 3)));
+    Ok(())
+}
+
+/// One thread asks, and one edits.
+#[test]
+fn two_threads_share_a_desk(rt: HostRuntime) -> Result<(), Fail> {
+    let both = Round::Two(Caller::Asks(100), Caller::Edits(100));
+    let audit = audit(go_round(&rt, rt.alloc(), 2, 1000, &[both])?)?;
+    let counts = (audit.count, calls_of(&audit, 0), calls_of(&audit, 1));
+    assert!(rt; counts == (200, 100, 100), "{counts:?}");
+    assert!(rt; are_copied(rt.alloc(), audit.log.as_slice())?);
+    Ok(())
+}
+
+/// How many calls of a seat the log has.
+fn calls_of(audit: &Audit, seat: u8) -> usize {
+    audit
+        .log
+        .iter()
+        .filter(|entry| entry.seat == SeatId(seat))
+        .count()
+}
+
+/// Whether the events and answers of the log are equal to their copies.
+fn are_copied(alloc: Global, log: &[Entry]) -> Result<bool, AllocError> {
+    for entry in log {
+        if !(is_event_copied(alloc, &entry.event)? && is_answer_copied(alloc, &entry.answer)?) {
+            return Ok(false);
+        }
+    }
+    Ok(true)
+}
+
+fn is_event_copied(alloc: Global, event: &Event) -> Result<bool, AllocError> {
+    let copy = event.copy(alloc)?;
+    Ok(copy.equals(event))
+}
+
+fn is_answer_copied(alloc: Global, answer: &Answer) -> Result<bool, AllocError> {
+    let copy = answer.copy(alloc)?;
+    Ok(copy.equals(answer))
+}
+
+/// A rule that one thread adds before it ends is met by the next query of another.
+#[test]
+fn a_rule_is_met_by_another_thread(rt: HostRuntime) -> Result<(), Fail> {
+    let rounds = [
+        Round::Two(Caller::Drops, Caller::Rests),
+        Round::Two(Caller::Rests, Caller::Asks(1)),
+    ];
+    let audit = audit(go_round(&rt, rt.alloc(), 2, 1000, &rounds)?)?;
+    assert!(rt; is_met(&audit));
+    Ok(())
+}
+
+/// Whether the log has the rule, added by seat 0, and then the query of seat 1 that it dropped.
+fn is_met(audit: &Audit) -> bool {
+    match audit.log.as_slice() {
+        [added, asked] => {
+            added.seat == SeatId(0)
+                && matches!(added.answer, Answer::Edited(Note::RuleAdded(RuleId(1))))
+                && asked.seat == SeatId(1)
+                && matches!(asked.answer, Answer::Dropped(DropReason::Rule(RuleId(1))))
+        }
+        _ => false,
+    }
+}
+
+/// Each of two threads waits between its calls until the other one had an answer.
+#[test]
+fn both_answered(rt: HostRuntime) -> Result<(), Fail> {
+    let both = Round::Two(Caller::Waits(true), Caller::Waits(false));
+    let left = go_round(&rt, rt.alloc(), 2, 1000, &[both])?;
+    assert!(rt; counts(left) == Some((4, 4)));
+    Ok(())
+}
+
+/// Four threads, far past the limit of the log.
+#[test]
+fn four_threads_share_a_desk(rt: HostRuntime) -> Result<(), Fail> {
+    let left = go_round(&rt, rt.alloc(), 4, 100, &[Round::Four(10_000)])?;
+    assert!(rt; counts(left) == Some((40_000, 100)));
     Ok(())
 }

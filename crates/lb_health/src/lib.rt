@@ -5,8 +5,6 @@
 mod health;
 mod laws;
 mod probes;
-#[cfg(test)]
-mod tests;
 
 pub use health::{Changed, Health};
 pub use laws::last_of_a_row;

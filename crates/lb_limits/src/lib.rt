@@ -11,8 +11,6 @@ mod moments;
 mod order;
 mod pass;
 mod reserved;
-#[cfg(test)]
-mod tests;
 mod ticks;
 
 pub use laws::{put_is_there, recent_twice, reserving_keeps_matches};

@@ -135,16 +135,4 @@ impl Limiter {
     {
         buckets::list(alloc, self.buckets.as_slice(), self.moment)
     }
-
-    /// How many addresses it holds memory for.
-    #[cfg(test)]
-    pub(crate) fn addresses(&self) -> usize {
-        self.buckets.len()
-    }
-
-    /// How many milliseconds it holds in which addresses had their last passes.
-    #[cfg(test)]
-    pub(crate) fn milliseconds(&self) -> usize {
-        self.ticks.list.len()
-    }
 }

@@ -81,26 +81,3 @@ impl Group {
         self.as_slice() == other.as_slice()
     }
 }
-
-#[cfg(test)]
-mod tests {
-    use super::*;
-
-    #[test]
-    fn what_groups_cover(rt: HostRuntime) -> Result<(), AllocError> {
-        let (net, host) = (Addr::V4([10, 0, 0, 0]), Addr::V4([192, 0, 2, 1]));
-        let mut masks = Vec::new(rt.alloc());
-        for mask in [Mask::new(net, 8), Mask::new(host, 32)] {
-            if let Some(mask) = mask {
-                masks.push(mask)?;
-            }
-        }
-        let group = Group::from_vec(masks).copy(rt.alloc())?;
-        assert_eq!(rt; group.len(), 2);
-        assert_eq!(rt; group.as_slice()[1].network(), host);
-        assert!(rt; group.covers(&Addr::V4([10, 9, 8, 7])) && group.covers(&host));
-        assert!(rt; !group.covers(&Addr::V4([192, 0, 2, 0])) && !group.covers(&Addr::V6([10; 16])));
-        assert!(rt; !Group::from_vec(Vec::new(rt.alloc())).covers(&net));
-        Ok(())
-    }
-}

@@ -9,8 +9,6 @@ mod pool;
 mod ranks;
 mod server;
 mod spec;
-#[cfg(test)]
-mod tests;
 
 pub use fault::ParkFault;
 pub use ident::Ident;

@@ -5,8 +5,6 @@ mod entry;
 mod fault;
 mod place;
 mod table;
-#[cfg(test)]
-mod tests;
 
 pub use entry::{Entry, Waiting};
 pub use fault::EnterFault;

@@ -10,8 +10,6 @@ mod limiters;
 mod names;
 mod term;
 mod tested;
-#[cfg(test)]
-mod tests;
 mod truth;
 
 pub use fault::TermFault;

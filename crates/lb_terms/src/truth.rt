@@ -22,7 +22,7 @@ fn is_in_group(group: &Group, addr: &Addr) -> bool
 
 /// Whether the term holds. `next` is the number of its first limiter and moves on to the one behind its last; the numbers
 /// of those that are tested and do not match go behind the passes.
-#[cycle(test)]
+#[cycle(walk)]
 fn test(
     term: &Term,
     view: &QueryView,
@@ -62,7 +62,7 @@ fn test(
 }
 
 /// Whether all of the terms hold; none is tested after the first that does not.
-#[cycle(test)]
+#[cycle(walk)]
 fn test_all(
     terms: &[Term],
     view: &QueryView,
@@ -92,7 +92,7 @@ fn test_all(
 }
 
 /// Whether one of the terms holds; none is tested after the first that does.
-#[cycle(test)]
+#[cycle(walk)]
 fn test_any(
     terms: &[Term],
     view: &QueryView,

@@ -7,8 +7,6 @@ mod aging;
 mod answer;
 mod belongs;
 mod big_endian;
-#[cfg(test)]
-mod captured;
 mod flags;
 mod header;
 mod ids;
@@ -28,8 +26,6 @@ mod record_type;
 mod reply;
 mod spoof;
 mod tally;
-#[cfg(test)]
-mod tests;
 mod transport;
 
 pub use addr::{Addr, Origin};

@@ -1,6 +1,0 @@
-use Rattle.std.proofs.Common.{◌≡◌, drop}
-use Rattle.lb.specs.Line.{kind_of}
-use Rattle.lb.proofs.line.kind_of.Given as goal
-
-abbrev pub invariant-loop-byte : goal.invariant-loop-byte
-invariant-loop-byte l = kind_of (drop l.byte-index l.bytes) ≡ kind_of l.bytes

@@ -1,6 +1,0 @@
-//! The tests of lb_command, which call what is public there: in a crate of their own, so that lb_command is proved once and not
-//! a second time with them. There is nothing else here.
-#![tactic(auto)]
-
-#[cfg(test)]
-mod tests;

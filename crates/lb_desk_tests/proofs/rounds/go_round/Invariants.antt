@@ -1,0 +1,8 @@
+use Rattle.lb_core.specs.Snapshot.{snapshot_of}
+use Rattle.lb_desk_tests.proofs.rounds.go_round.Given as goal
+
+abbrev pub ghosts-gone_round-J-Ledger : goal.ghosts-gone_round-J-Ledger
+ghosts-gone_round-J-Ledger g a = record { name = a.blank.name; parts = a.blank.parts }
+
+abbrev pub ghosts-gone_round-J-Naming : goal.ghosts-gone_round-J-Naming
+ghosts-gone_round-J-Naming g a = record { seats = a.seats; limit = a.limit; opening = snapshot_of a.balancer }

@@ -1,0 +1,363 @@
+//! Terms and queries, by values worked out by hand.
+
+ghost use Rattle.std.specs.Prelude.{◌≤◌, IfOk};
+
+use super::rows::held;
+use Op::{All, Alls, And, Masks, Nets, Not, Nothing, Nots, Or, Qtype, Rate, Suffix, Suffixes};
+use lb_limits::Limiter;
+use lb_masks::{Group, Mask};
+use lb_name::Name;
+use lb_terms::{CheckedTerm, Names, Term, TermFault, Tested, holds, limiter_count, new_limiters};
+use lb_wire::{Addr, RecordType, read_query};
+use std::alloc::{AllocError, Global};
+use std::slice;
+use std::test::Fail;
+
+const ONE: Addr = Addr::V4([192, 0, 2, 1]);
+
+/// ::ffff:192.0.2.1
+const MAPPED: Addr = Addr::V6([0, 0, 0, 0, 0, 0, 0, 0, 0, 0, 0xff, 0xff, 192, 0, 2, 1]);
+
+/// Queries for addresses of example.com and of others.
+const EXAMPLE: &[u8] =
+    b"\x12\x34\x01\x00\x00\x01\x00\x00\x00\x00\x00\x00\x07example\x03com\x00\x00\x01\x00\x01";
+
+const UPPER: &[u8] =
+    b"\x12\x34\x01\x00\x00\x01\x00\x00\x00\x00\x00\x00\x07EXAMPLE\x03COM\x00\x00\x01\x00\x01";
+
+const BELOW: &[u8] =
+    b"\x12\x34\x01\x00\x00\x01\x00\x00\x00\x00\x00\x00\x01a\x07example\x03com\x00\x00\x01\x00\x01";
+
+const BESIDE: &[u8] =
+    b"\x12\x34\x01\x00\x00\x01\x00\x00\x00\x00\x00\x00\x0abadexample\x03com\x00\x00\x01\x00\x01";
+
+/// A word of a term: a term, or what is made of the last one or the last two.
+#[derive(Clone, Copy)]
+enum Op {
+    All,
+    /// The names under this one.
+    Suffix(&'static str),
+    /// The same name so many times.
+    Suffixes(usize),
+    /// The addresses under this mask, and under none.
+    Masks(&'static str),
+    Nets,
+    Qtype(RecordType),
+    /// So many queries a second of addresses with so many first bits in common.
+    Rate(u16, u8, u8),
+    /// An And of so many terms that hold of every query, and an Or of none.
+    Alls(usize),
+    Nothing,
+    And,
+    Or,
+    Not,
+    /// So many Nots round the last one.
+    Nots(usize),
+}
+
+/// A rate of 1 query a second of an address.
+const ONE_QPS: Op = Rate(1, 32, 128);
+
+fn suffixes(alloc: Global, text: &str, count: usize) -> Result<Term, Fail> {
+    let mut names = Vec::new(alloc);
+    for _ in 0..count {
+        names.push(Name::parse_text(text)?)?;
+    }
+    Ok(Term::Suffix(Names::from_vec(names)))
+}
+
+fn masks(alloc: Global, text: &str) -> Result<Term, Fail> {
+    let mut masks = Vec::new(alloc);
+    masks.push(Mask::parse(text)?)?;
+    Ok(Term::Masks(Group::from_vec(masks)))
+}
+
+fn alls(alloc: Global, count: usize) -> Result<Term, Fail> {
+    let mut terms = Vec::new(alloc);
+    for _ in 0..count {
+        terms.push(Term::All)?;
+    }
+    Ok(Term::And(terms))
+}
+
+/// The term of a word that takes no other.
+fn leaf(alloc: Global, op: Op) -> Result<Term, Fail> {
+    match op {
+        Op::Suffix(text) => suffixes(alloc, text, 1),
+        Op::Suffixes(count) => suffixes(alloc, "example.com", count),
+        Op::Masks(text) => masks(alloc, text),
+        Op::Nets => Ok(Term::Masks(Group::from_vec(Vec::new(alloc)))),
+        Op::Qtype(qtype) => Ok(Term::Qtype(qtype)),
+        Op::Rate(qps, v4, v6) => Ok(Term::MaxQps(qps, v4, v6)),
+        Op::Alls(count) => alls(alloc, count),
+        Op::Nothing => Ok(Term::Or(Vec::new(alloc))),
+        _ => Ok(Term::All),
+    }
+}
+
+/// The last two terms, in order.
+fn last_two(alloc: Global, terms: &mut Vec<Term>) -> Result<Vec<Term>, Fail> {
+    let mut two = Vec::with_capacity(alloc, 2)?;
+    let second = terms.pop().ok_or("no term")?;
+    two.push(terms.pop().ok_or("no second term")?)?;
+    two.push(second)?;
+    Ok(two)
+}
+
+/// So many Nots round a term.
+fn nots(alloc: Global, count: usize, inner: Term) -> Result<Term, AllocError> {
+    let mut term = inner;
+    for _ in 0..count {
+        term = Term::Not(Box::new(alloc, term).map_err(AllocError::from)?);
+    }
+    Ok(term)
+}
+
+/// What a word makes of the terms so far.
+fn made(alloc: Global, terms: &mut Vec<Term>, op: Op) -> Result<Term, Fail> {
+    match op {
+        Op::And => Ok(Term::And(last_two(alloc, terms)?)),
+        Op::Or => Ok(Term::Or(last_two(alloc, terms)?)),
+        Op::Not => Ok(nots(alloc, 1, terms.pop().ok_or("no term")?)?),
+        Op::Nots(count) => Ok(nots(alloc, count, terms.pop().ok_or("no term")?)?),
+        _ => leaf(alloc, op),
+    }
+}
+
+/// The term that words make.
+fn term(alloc: Global, ops: &[Op]) -> Result<Term, Fail> {
+    let mut terms = Vec::new(alloc);
+    for op in ops {
+        let term = made(alloc, &mut terms, *op)?;
+        terms.push(term)?;
+    }
+    Ok(terms.pop().ok_or("no term")?)
+}
+
+/// The number of what is wrong with a term, 0 where nothing is.
+fn fault_of(alloc: Global, ops: &[Op]) -> Result<u8, Fail> {
+    Ok(match term(alloc, ops)?.checked() {
+        Ok(_) => 0,
+        Err(fault) => fault.number(),
+    })
+}
+
+const TOO_DEEP: u8 = 1;
+
+const TOO_LARGE: u8 = 2;
+
+const EMPTY: u8 = 3;
+
+const BAD_RATE: u8 = 4;
+
+/// Terms, and the number of what is wrong with them.
+const FAULTS: &[(&[Op], u8)] = &[
+    // depth 16 and 17, 64 terms and 65, 1,024 names and 1,025
+    (&[All, Nots(15)], 0),
+    (&[All, Nots(16)], TOO_DEEP),
+    (&[Alls(63)], 0),
+    (&[Alls(64)], TOO_LARGE),
+    (&[Suffixes(1024)], 0),
+    (&[Suffixes(1025)], TOO_LARGE),
+    // parts without members
+    (&[Alls(0)], EMPTY),
+    (&[Nothing], EMPTY),
+    (&[Suffixes(0)], EMPTY),
+    (&[Nets], EMPTY),
+    // rates out of range, and at its ends
+    (&[Rate(0, 32, 64)], BAD_RATE),
+    (&[Rate(1001, 32, 64)], BAD_RATE),
+    (&[Rate(1, 33, 64)], BAD_RATE),
+    (&[Rate(1, 32, 129)], BAD_RATE),
+    (&[Rate(1, 0, 0)], 0),
+    (&[Rate(1000, 32, 128)], 0),
+    // the first of two faults: depth 18 and 80 terms
+    (&[Alls(63), Nots(16)], TOO_DEEP),
+    // 66 terms and an Or without a member
+    (&[Alls(63), Nothing, And], TOO_LARGE),
+    (&[Rate(0, 32, 64), Nothing, And], EMPTY),
+];
+
+#[test]
+fn terms_and_their_faults(rt: HostRuntime) -> Result<(), Fail> {
+    for (row, (ops, fault)) in FAULTS.iter().enumerate() {
+        held(row, fault_of(rt.alloc(), ops)? == *fault)?;
+    }
+    Ok(())
+}
+
+/// The test of a term, where its limiters have counted nothing.
+fn tested(alloc: Global, ops: &[Op], octets: &[u8], addr: Addr) -> Result<Tested, Fail> {
+    let term = sound(alloc, ops)?;
+    let limiters = new_limiters(alloc, &term)?;
+    if limiters.len() > 16 {
+        return Err(Fail::from("too many limiters"));
+    }
+    let view = read_query(octets)?;
+    Ok(holds(&term, &view, &addr, limiters.as_slice(), 0))
+}
+
+/// Whether a test gives this truth and these passes.
+fn gives(tested: &Tested, truth: bool, passes: &[u8]) -> bool {
+    tested.truth == truth && tested.passes.as_slice() == passes
+}
+
+/// A row: a term, a query and where it came from, whether the term holds, and the limiters that count the query.
+type Row = (&'static [Op], &'static [u8], Addr, bool, &'static [u8]);
+
+const ROWS: &[Row] = &[
+    // names under a suffix
+    (&[Suffix("example.com")], EXAMPLE, ONE, true, &[]),
+    (&[Suffix("example.com")], UPPER, ONE, true, &[]),
+    (&[Suffix("example.com")], BELOW, ONE, true, &[]),
+    (&[Suffix("example.com")], BESIDE, ONE, false, &[]),
+    // addresses and types
+    (&[Masks("192.0.2.0/24")], EXAMPLE, ONE, true, &[]),
+    (&[Masks("192.0.2.0/24")], EXAMPLE, MAPPED, false, &[]),
+    (&[Qtype(RecordType::A)], EXAMPLE, ONE, true, &[]),
+    (&[Qtype(RecordType::NS)], EXAMPLE, ONE, false, &[]),
+    // no further than what decides
+    (
+        &[Suffix("example.com"), ONE_QPS, And],
+        EXAMPLE,
+        ONE,
+        false,
+        &[0],
+    ),
+    (
+        &[Suffix("example.com"), ONE_QPS, And],
+        BESIDE,
+        ONE,
+        false,
+        &[],
+    ),
+    (
+        &[Suffix("example.com"), ONE_QPS, Or],
+        EXAMPLE,
+        ONE,
+        true,
+        &[],
+    ),
+    (
+        &[Suffix("example.com"), ONE_QPS, Or],
+        BESIDE,
+        ONE,
+        false,
+        &[0],
+    ),
+    // limiters have numbers from the left; the And stops at its first rate, so the second one is not tested
+    (
+        &[ONE_QPS, ONE_QPS, And, ONE_QPS, Not, Or],
+        EXAMPLE,
+        ONE,
+        true,
+        &[0, 2],
+    ),
+    // rates
+    (&[ONE_QPS], EXAMPLE, ONE, false, &[0]),
+    (&[ONE_QPS, Not], EXAMPLE, ONE, true, &[0]),
+];
+
+#[test]
+fn what_holds(rt: HostRuntime) -> Result<(), Fail> {
+    for (number, row) in ROWS.iter().enumerate() {
+        let tested = tested(rt.alloc(), row.0, row.1, row.2)?;
+        held(number, gives(&tested, row.3, row.4))?;
+    }
+    Ok(())
+}
+
+/// A limiter that counted a query of an address at 1,000.
+fn counting(alloc: Global, addr: &Addr) -> Result<Limiter, AllocError>
+    ensures { IfOk result (λ limiter. limiter.moment ≤ 1999) }
+{
+    let mut limiter = Limiter::new(alloc, 1, 32, 128)?;
+    limiter.reserve(addr, 1000)?;
+    if !limiter.would_match(addr, 1000) {
+        limiter.pass(addr, 1000);
+    }
+    Ok(limiter)
+}
+
+/// The test of a term with one limiter at 1,999, which counted a query at 1,000.
+fn tested_again(alloc: Global, ops: &[Op]) -> Result<Tested, Fail> {
+    let term = sound(alloc, ops)?;
+    if limiter_count(&term) != 1 {
+        return Err(Fail::from("not one limiter"));
+    }
+    let limiter = counting(alloc, &ONE)?;
+    let view = read_query(EXAMPLE)?;
+    Ok(holds(&term, &view, &ONE, slice::from_ref(&limiter), 1999))
+}
+
+/// Terms, and whether they hold where the rate is over.
+const OVER: &[(&[Op], bool)] = &[(&[ONE_QPS], true), (&[ONE_QPS, Not], false)];
+
+#[test]
+fn rates_that_are_over(rt: HostRuntime) -> Result<(), Fail> {
+    for (row, (ops, truth)) in OVER.iter().enumerate() {
+        let tested = tested_again(rt.alloc(), ops)?;
+        held(row, gives(&tested, *truth, &[]))?;
+    }
+    Ok(())
+}
+
+/// Some of each kind of term.
+const SOME: &[Op] = &[
+    Masks("10.0.0.0/8"),
+    ONE_QPS,
+    Or,
+    Suffix("example.com"),
+    Nots(2),
+    All,
+    And,
+    And,
+];
+
+/// Whether a term and its copy are equal, and another one is not.
+fn is_copied(alloc: Global, term: &CheckedTerm, other: &CheckedTerm) -> Result<bool, AllocError> {
+    let copy = term.copy(alloc)?;
+    let text = format!(in alloc; "{:?}", term.as_term())?;
+    let copied = format!(in alloc; "{:?}", copy.as_term())?;
+    Ok(text == copied && copy.equals(term) && !copy.equals(other))
+}
+
+/// The term that words make, where it has no fault.
+fn sound(alloc: Global, ops: &[Op]) -> Result<CheckedTerm, Fail> {
+    Ok(term(alloc, ops)?.checked()?)
+}
+
+#[test]
+fn copies(rt: HostRuntime) -> Result<(), Fail> {
+    let term = sound(rt.alloc(), SOME)?;
+    let other = sound(rt.alloc(), &[All])?;
+    held(0, is_copied(rt.alloc(), &term, &other)?)
+}
+
+/// A list of these names.
+fn names(alloc: Global, texts: &[&str]) -> Result<Names, Fail> {
+    let mut items = Vec::new(alloc);
+    for text in texts {
+        items.push(Name::parse_text(text)?)?;
+    }
+    Ok(Names::from_vec(items))
+}
+
+/// Whether a list of names is example.com and example.org.
+fn are_names(names: &Names, org: &Name) -> bool {
+    let items = names.as_slice();
+    match (items.first(), items.last()) {
+        (Some(first), Some(last)) => {
+            names.len() == 2 && names.covers(org) && !first.is_under(org) && last.is_under(org)
+        }
+        _ => false,
+    }
+}
+
+#[test]
+fn names_in_order(rt: HostRuntime) -> Result<(), Fail> {
+    let org = Name::parse_text("example.org")?;
+    let names = names(rt.alloc(), &["example.com", "example.org"])?;
+    let copy = names.copy(rt.alloc())?;
+    held(0, are_names(&copy, &org) && copy.equals(&names))
+}

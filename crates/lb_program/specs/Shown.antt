@@ -1,0 +1,16 @@
+-- What reading shows of a line.
+use Rattle.std.specs.Prelude.{◌≡◌, ℕ, List, [], ◌∷◌, ◌++◌, Option, Some, Bool, false, ◌==◌}
+use Rattle.std.specs.List.{All}
+use Rattle.lb_program.specs.declared.shown.Shown.{Shown}
+use Rattle.lb_program.specs.declared.shown.Shown.TheVariants.{Piece, LineFeed, End}
+
+-- the byte is a line feed
+abbrev pub is_line_feed : ℕ → Bool
+is_line_feed byte = byte == 10
+
+-- of the bytes that remained a piece without a line feed went to the line, and the rest remains: all, or what stands
+-- behind a line feed, or nothing
+abbrev pub Takes : List ℕ → List ℕ → Shown → List ℕ → Option (List ℕ) → Type 0
+Takes old bytes Piece new left = (piece : List ℕ) × (rest : List ℕ) × (left ≡ Some rest) × (new ≡ old ++ piece) × (bytes ≡ piece ++ rest) × All (λ byte. is_line_feed byte ≡ false) piece
+Takes old bytes LineFeed new left = (piece : List ℕ) × (rest : List ℕ) × (left ≡ Some rest) × (new ≡ old ++ piece) × (bytes ≡ piece ++ 10 ∷ rest) × All (λ byte. is_line_feed byte ≡ false) piece
+Takes old bytes End new left = (left ≡ Some []) × (new ≡ old) × (bytes ≡ [])
