@@ -1,5 +1,7 @@
 //! Whether a reply was kept.
 
+use std::alloc::{AllocError, AllocFailed};
+
 /// Whether the packet cache kept a reply.
 #[derive(Clone, Copy, Debug, PartialEq, Eq)]
 pub enum Kept {
@@ -11,4 +13,26 @@ pub enum Kept {
     NoRoom,
     /// Memory was wanting.
     NoMemory,
+}
+
+impl From<AllocError> for Kept {
+    ghost use Rattle.std.specs.Prelude.{◌≡◌};
+    ghost use Rattle.lb_wire.specs.declared.kept.Kept.TheVariants as kept;
+
+    ghost from_gives = { λ _ k. k ≡ kept.NoMemory };
+
+    fn from(_refused: AllocError) -> Kept {
+        Kept::NoMemory
+    }
+}
+
+impl<T: Drop> From<AllocFailed<T>> for Kept {
+    ghost use Rattle.std.specs.Prelude.{◌≡◌};
+    ghost use Rattle.lb_wire.specs.declared.kept.Kept.TheVariants as kept;
+
+    ghost from_gives = { λ _ k. k ≡ kept.NoMemory };
+
+    fn from(_refused: AllocFailed<T>) -> Kept {
+        Kept::NoMemory
+    }
 }
