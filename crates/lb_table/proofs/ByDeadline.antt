@@ -1,13 +1,19 @@
 -- The list by deadline, through its changes, and the queries in it that are given up.
-use Rattle.std.proofs.Common.{◌≡◌, ℕ, zero, suc, ◌+◌, ◌<◌, ◌≤◌, Bool, true, false, not, ltb, inl, inr, List, [], ◌∷◌, length, cond, Option, Some, None, subst, sym, ap, ◌∙◌, arith}
+use Rattle.std.proofs.Common.{◌≡◌, ℕ, zero, suc, ◌+◌, ◌<◌, ◌≤◌, Bool, true, false, not, ltb, inl, inr, List, [], ◌∷◌, length, cond, Option, Some, None, Result, Ok, Err, subst, sym, ap, ◌∙◌, arith}
 use Rattle.std.specs.List.{AllByRecursion, insert, position, position_or_len, remove, slice_get}
 use Rattle.std.specs.Option.{unwrap_or}
 use Rattle.std.proofs.lemmas.Bool.{cases_Bool, cond-true, cond-false, le-ltb, lt-leb, ltb-true, ltb-false}
 use Rattle.std.proofs.lemmas.List.Sums.{prefix_len-le-length}
 use Rattle.std.proofs.lemmas.Option.{get_or_from_slice_get, slice_get_within}
+use Rattle.lb_wire.specs.declared.ids.ServerId.{ServerId}
+use Rattle.lb_wire.specs.declared.transport.Lane.{Lane}
+use Rattle.lb_table.specs.declared.entry.Entry.{Entry}
 use Rattle.lb_table.specs.declared.entry.Waiting.{Waiting}
+use Rattle.lb_table.specs.declared.fault.EnterFault.{EnterFault}
+use Rattle.lb_table.specs.declared.fault.EnterFault.TheVariants.{LaneFull, NoMemory}
 use Rattle.lb_table.specs.Entry.{deadline_of}
-use Rattle.lb_table.specs.Table.{ByDeadline, is_due, is_later, place_by_deadline}
+use Rattle.lb_table.specs.Place.{at_place}
+use Rattle.lb_table.specs.Table.{ByDeadline, Enters, is_due, is_later, place_by_deadline}
 
 -- none of them is given up before a deadline
 abbrev pub NoneBefore : ℕ → List Waiting → Type 0
@@ -71,11 +77,11 @@ first_or_len p xs = elim (cases_Bool (ltb (position_or_len p xs) (length xs))) [
 by_place : (w : Waiting) (xs : List Waiting) → ByDeadline xs → ByDeadline (insert xs (place_by_deadline (deadline_of w.entry) xs) w)
 by_place w xs by = subst (λ (at : ℕ). ByDeadline (insert xs at w)) (sym (first_or_len (is_later (deadline_of w.entry)) xs)) (by_first_later w xs by)
 
--- a list that one is entered into, before those with a later deadline, stays by deadline
-pub by_enter : (w : Waiting) (xs ys new : List Waiting) (d at : ℕ) → ys ≡ xs → d ≡ deadline_of w.entry → at ≡ place_by_deadline d ys → new ≡ insert ys at w → ByDeadline xs → ByDeadline new
-by_enter w xs ys new d at same is there made by =
-    let here : at ≡ place_by_deadline (deadline_of w.entry) ys = there ∙ ap (λ (e : ℕ). place_by_deadline e ys) is in
-    subst ByDeadline (sym made) (subst (λ (n : ℕ). ByDeadline (insert ys n w)) (sym here) (by_place w ys (subst ByDeadline (sym same) by)))
+-- whatever comes of entering a query, the list stays by deadline
+pub by_entering : (old new : List Waiting) (server : ServerId) (lane : Lane) (word : ℕ) (entry : Entry) (result : Result ℕ (EnterFault × Entry)) → Enters old server lane word entry result new → ByDeadline old → ByDeadline new
+by_entering old new server lane word entry (Ok id) is by = subst ByDeadline (sym is.1) (by_place (record { place = at_place server lane id; entry = entry }) old by)
+by_entering old new server lane word entry (Err (LaneFull, back)) is by = subst ByDeadline (sym is.2) by
+by_entering old new server lane word entry (Err (NoMemory, back)) is by = subst ByDeadline (sym is.2) by
 
 -- where none is given up before a moment that is not reached, none is due
 past_due : (now d : ℕ) (xs : List Waiting) → now < d → NoneBefore d xs → length xs ≤ position_or_len (is_due now) xs

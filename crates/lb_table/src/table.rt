@@ -1,7 +1,9 @@
 //! The table of outstanding queries.
 
-ghost use Rattle.std.specs.Prelude.{◌≡◌, ◌+◌, ◌^◌, ◌<◌, ◌≤◌, IfOk, IfSome, IfNone, None, [], length, option_map, Some};
+ghost use Rattle.std.specs.Prelude.{◌≡◌, ◌+◌, ◌^◌, ◌<◌, ◌≤◌, IfErr, IfOk, IfSome, IfNone, None, [], length, option_map, vec_len, Some};
 ghost use Rattle.std.specs.List.{AllByRecursion, count_by, find, position, slice_get};
+ghost use Rattle.std.specs.Vec.{vec_capacity};
+ghost use Rattle.lb_table.specs.declared.fault.EnterFault.TheVariants.{NoMemory};
 ghost use Rattle.lb_table.specs.Entry.{deadline_of};
 ghost use Rattle.lb_table.specs.Place.{at_place};
 ghost use Rattle.lb_table.specs.Table.{ByDeadline, Enters, FirstFree, due, entry_at, is_at, is_for, is_later, is_used, place_by_deadline as place_by, taken_at, waits_at, without_due};
@@ -92,6 +94,29 @@ fn waits_at(waiting: &[Waiting], place: Place) -> Option<usize>
     position_of(waiting, place)
 }
 
+/// Enters a query into the list, and gives its ID. Memory is wanting only where there is no room left for one more.
+fn enter(
+    waiting: &mut Vec<Waiting>,
+    server: ServerId,
+    lane: Lane,
+    word: u16,
+    entry: Entry,
+) -> Result<u16, (EnterFault, Entry)>
+    ensures enters { Enters waiting.old.items server lane word entry result waiting.new.items }
+    ensures full { IfErr result (λ back. back.0 ≡ NoMemory → vec_capacity waiting.old ≤ vec_len waiting.old) }
+{
+    let Some(id) = free_id(waiting.as_slice(), server, lane, word) else {
+        return Err((EnterFault::LaneFull, entry));
+    };
+    if let Err(refused) = waiting.reserve(1) {
+        return Err((EnterFault::from(refused), entry));
+    }
+    let at = place_by_deadline(waiting.as_slice(), entry.deadline());
+    let place = Place { server, lane, id };
+    waiting.insert(at, Waiting { place, entry }).unwrap();
+    Ok(id)
+}
+
 impl Table {
     /// A table without queries. It takes no memory.
     pub fn new(alloc: Global) -> Table
@@ -131,16 +156,7 @@ impl Table {
         // the list fits the machine: whoever counts its entries in a `u64` never goes past it
         ensures room { length self.new + 1 < 2 ^ 64 }
     {
-        let Some(id) = free_id(self.items.as_slice(), server, lane, word) else {
-            return Err((EnterFault::LaneFull, entry));
-        };
-        if let Err(_) = self.items.reserve(1) {
-            return Err((EnterFault::NoMemory, entry));
-        }
-        let at = place_by_deadline(self.items.as_slice(), entry.deadline());
-        let place = Place { server, lane, id };
-        self.items.insert(at, Waiting { place, entry }).unwrap();
-        Ok(id)
+        enter(&mut self.items, server, lane, word, entry)
     }
 
     /// The query that waits for a reply of this server, by this lane, with this ID. It takes no memory.
