@@ -144,7 +144,7 @@ impl Chain {
                 self.places = Places::of(self.rules.as_slice());
                 Ok(RuleId(id))
             }
-            Err(_) => Err(ChainFault::NoMemory),
+            Err(refused) => Err(ChainFault::from(refused)),
         }
     }
 

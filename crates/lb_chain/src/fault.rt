@@ -3,6 +3,7 @@
 ghost use Rattle.std.specs.Prelude.{◌≡◌};
 ghost use Rattle.lb_chain.specs.Fault.{fault_number};
 
+use std::alloc::{AllocError, AllocFailed};
 use thiserror::Error;
 
 /// Why the list of rules refuses a change. `number` is the number that texts give it.
@@ -41,5 +42,27 @@ impl ChainFault {
             ChainFault::NoMemory => 5,
             ChainFault::NoMoreIds => 6,
         }
+    }
+}
+
+impl From<AllocError> for ChainFault {
+    ghost use Rattle.std.specs.Prelude.{◌≡◌};
+    ghost use Rattle.lb_chain.specs.declared.fault.ChainFault.TheVariants as faults;
+
+    ghost from_gives = { λ _ fault. fault ≡ faults.NoMemory };
+
+    fn from(_refused: AllocError) -> ChainFault {
+        ChainFault::NoMemory
+    }
+}
+
+impl<T: Drop> From<AllocFailed<T>> for ChainFault {
+    ghost use Rattle.std.specs.Prelude.{◌≡◌};
+    ghost use Rattle.lb_chain.specs.declared.fault.ChainFault.TheVariants as faults;
+
+    ghost from_gives = { λ _ fault. fault ≡ faults.NoMemory };
+
+    fn from(_refused: AllocFailed<T>) -> ChainFault {
+        ChainFault::NoMemory
     }
 }
