@@ -81,8 +81,9 @@ fn replace(replies: &mut Vec<CachedReply>, at: usize, bytes: &[u8], life: u32, n
     requires short { length bytes.now ≤ max_message }
     ensures { (o : CachedReply) → slice_get replies.old.items at ≡ Some o → (replies.new.items, result) ≡ written (lacks result) replies.old.items (set replies.old.items at (renewed o bytes.now life now)) }
 {
-    let Ok(bytes) = Vec::from_slice(*replies.allocator(), bytes) else {
-        return Kept::NoMemory;
+    let bytes = match Vec::from_slice(*replies.allocator(), bytes) {
+        Ok(bytes) => bytes,
+        Err(refused) => return Kept::from(refused),
     };
     replies[at].renew(Octets::from_vec(bytes), life, now);
     Kept::Yes
@@ -101,8 +102,9 @@ fn add(
     requires short { length bytes.now ≤ max_message }
     ensures { (replies.new.items, result) ≡ written (lacks result) replies.old.items (insert replies.old.items at (record { key = key; bytes = bytes.now; moment = now; life = life })) }
 {
-    let Ok(bytes) = Vec::from_slice(*replies.allocator(), bytes) else {
-        return Kept::NoMemory;
+    let bytes = match Vec::from_slice(*replies.allocator(), bytes) {
+        Ok(bytes) => bytes,
+        Err(refused) => return Kept::from(refused),
     };
     let reply = CachedReply {
         key,
@@ -112,7 +114,7 @@ fn add(
     };
     match replies.insert(at, reply) {
         Ok(()) => Kept::Yes,
-        Err(_) => Kept::NoMemory,
+        Err(refused) => Kept::from(refused),
     }
 }
 
@@ -131,8 +133,9 @@ fn add_for_dead(replies: &mut Vec<CachedReply>, key: Key, bytes: &[u8], life: u3
     requires short { length bytes.now ≤ max_message }
     ensures { (replies.new.items, result) ≡ written (lacks result) replies.old.items (placed (record { key = key; bytes = bytes.now; moment = now; life = life }) (filter (lives now) replies.old.items)) }
 {
-    let Ok(bytes) = Vec::from_slice(*replies.allocator(), bytes) else {
-        return Kept::NoMemory;
+    let bytes = match Vec::from_slice(*replies.allocator(), bytes) {
+        Ok(bytes) => bytes,
+        Err(refused) => return Kept::from(refused),
     };
     purge(replies, now);
     let at = place_by_key(replies.as_slice(), &key);

@@ -58,27 +58,31 @@ impl Answer {
         })
     }
 
-    /// An equal answer, with its octets in room that was taken before, of which the rest is given back. It takes no memory.
-    pub fn copy_into(&self, room: Vec<u8>) -> Answer
+    /// An equal answer where a copy was refused: its octets in room that was taken before, of which the rest is given back. It
+    /// takes no memory.
+    pub fn copy_into(&self, room: Vec<u8>, refused: AllocError) -> Answer
         requires empty { vec_len room ≡ 0 }
         requires wide { max_message ≤ vec_capacity room }
         ensures { result ≡ self.now }
     {
         match self {
             Answer::Dropped(why) => Answer::Dropped(*why),
-            Answer::Local(bytes, why) => Answer::Local(bytes.copy_into(room), *why),
+            Answer::Local(bytes, why) => Answer::Local(bytes.copy_into(room, refused), *why),
             Answer::Forward(server, lane, id, bytes) => {
-                Answer::Forward(*server, *lane, *id, bytes.copy_into(room))
+                Answer::Forward(*server, *lane, *id, bytes.copy_into(room, refused))
             }
             Answer::Deliver(origin, bytes, kept) => {
-                Answer::Deliver(*origin, bytes.copy_into(room), *kept)
+                Answer::Deliver(*origin, bytes.copy_into(room, refused), *kept)
             }
-            Answer::Expired(origin, bytes) => Answer::Expired(*origin, bytes.copy_into(room)),
+            Answer::Expired(origin, bytes) => Answer::Expired(
+                *origin,
+                bytes.copy_into(room, refused),
+            ),
             Answer::Quiet => Answer::Quiet,
             Answer::Ignored(why) => Answer::Ignored(*why),
             Answer::Edited(note) => Answer::Edited(note.copy()),
             Answer::Refused(fault) => Answer::Refused(*fault),
-            Answer::NoMemory(bytes) => Answer::NoMemory(bytes.copy_into(room)),
+            Answer::NoMemory(bytes) => Answer::NoMemory(bytes.copy_into(room, refused)),
         }
     }
 

@@ -194,8 +194,8 @@ impl Upstream {
     ) -> Result<ServerId, ParkFault>
         ensures { (self.new, result) ≡ added_checked (lacks result) self.old spec check }
     {
-        if let Err(_) = self.checks.reserve(1) {
-            return Err(self.park.refusal(&spec));
+        if let Err(refused) = self.checks.reserve(1) {
+            return Err(self.park.refusal(&spec, refused));
         }
         match self.park.add_server(spec) {
             Ok(id) => {

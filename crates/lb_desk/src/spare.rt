@@ -31,7 +31,7 @@ impl Room {
         let Room { octets } = self;
         match answer.copy(alloc) {
             Ok(copy) => copy,
-            Err(_) => answer.copy_into(octets),
+            Err(refused) => answer.copy_into(octets, refused),
         }
     }
 }

@@ -226,7 +226,7 @@ fn adds(
     wanted: Result<u64, ChainFault>,
 ) -> Result<bool, Fail> {
     match clock.add(place, rule) {
-        Err(ChainFault::NoMemory) => Err(Fail::from(ChainFault::NoMemory)),
+        Err(ChainFault::NoMemory) => Err(Fail::from("no memory")),
         Ok(id) => Ok(wanted == Ok(id.0)),
         Err(fault) => Ok(wanted == Err(fault)),
     }
@@ -466,7 +466,7 @@ fn fill(alloc: Global, clock: &mut Clock, count: u64, asks: Asks) -> Result<bool
         let place = clock.chain.len();
         match clock.add(place, rule(alloc, asks, Does::Nothing)?) {
             Ok(_) => (),
-            Err(ChainFault::NoMemory) => return Err(Fail::from(ChainFault::NoMemory)),
+            Err(ChainFault::NoMemory) => return Err(Fail::from("no memory")),
             Err(_) => return Ok(false),
         }
     }

@@ -3,7 +3,7 @@
 
 mod captured;
 
-use super::rows::held;
+use super::rows::{held, too_much};
 use Case::{Ages, Belongs, Key, Lives, Makes, Query, Replaced, Reply, Respells, Spoofs};
 use captured::{CAPTURED, Captured};
 use lb_name::Name;
@@ -335,7 +335,11 @@ fn is_copied(alloc: Global, octets: Vec<u8>) -> Result<bool, AllocError> {
         return Ok(false);
     }
     let octets = Octets::from_vec(octets);
-    let copy = octets.copy_into(Vec::with_capacity(alloc, MAX_MESSAGE)?);
+    let room = Vec::with_capacity(alloc, MAX_MESSAGE)?;
+    let copy = match too_much(alloc) {
+        Err(refused) => octets.copy_into(room, refused),
+        Ok(_) => return Ok(false),
+    };
     let equal = copy.equals(&octets);
     let copy = copy.into_vec();
     Ok(equal && copy.len() == len && copy.capacity() == len)

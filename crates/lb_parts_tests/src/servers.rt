@@ -3,7 +3,7 @@
 ghost use Rattle.std.specs.Prelude.{◌<◌, IsTrue};
 ghost use Rattle.std.specs.List.{All};
 
-use super::rows::held;
+use super::rows::{held, too_much};
 use Told::{
     Adds, AddsPool, Attaches, Begins, CacheOf, Detaches, Ends, Loads, Marks, Modes, Picks,
     Policies, PolicyIs, Refuses, Removes, Turns,
@@ -90,7 +90,7 @@ fn spec(alloc: Global, name: &str, order: u16, pools: &[&str]) -> Result<ServerS
 /// The number that is given, or that of the refusal.
 fn given(added: Result<ServerId, ParkFault>) -> Result<Result<u64, u8>, Fail> {
     match added {
-        Err(ParkFault::NoMemory) => Err(Fail::from(ParkFault::NoMemory)),
+        Err(ParkFault::NoMemory) => Err(Fail::from("no memory")),
         Ok(id) => Ok(Ok(id.0)),
         Err(fault) => Ok(Err(fault.number())),
     }
@@ -99,7 +99,7 @@ fn given(added: Result<ServerId, ParkFault>) -> Result<Result<u64, u8>, Fail> {
 /// The same of a pool.
 fn given_pool(added: Result<PoolId, ParkFault>) -> Result<Result<u8, u8>, Fail> {
     match added {
-        Err(ParkFault::NoMemory) => Err(Fail::from(ParkFault::NoMemory)),
+        Err(ParkFault::NoMemory) => Err(Fail::from("no memory")),
         Ok(pool) => Ok(Ok(pool.0)),
         Err(fault) => Ok(Err(fault.number())),
     }
@@ -126,7 +126,10 @@ fn add_pool(park: &mut Park, name: &str) -> Result<Result<u8, u8>, Fail> {
 fn refusal(alloc: Global, park: &Park, name: &str, pools: &[&str]) -> Result<u8, Fail> {
     let spec = spec(alloc, name, 1, pools)?;
     let copy = spec.copy(alloc)?;
-    Ok(park.refusal(&copy).number())
+    match too_much(alloc) {
+        Err(refused) => Ok(park.refusal(&copy, refused).number()),
+        Ok(_) => Ok(0),
+    }
 }
 
 /// The number of the refusal, 0 where there is none.

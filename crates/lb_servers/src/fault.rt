@@ -3,6 +3,7 @@
 ghost use Rattle.std.specs.Prelude.{◌≡◌};
 ghost use Rattle.lb_servers.specs.Fault.{fault_number};
 
+use std::alloc::{AllocError, AllocFailed};
 use thiserror::Error;
 
 /// Why the table of servers and pools refuses a change. `number` is the number that texts give it.
@@ -41,5 +42,27 @@ impl ParkFault {
             ParkFault::NoMemory => 5,
             ParkFault::NoMoreIds => 6,
         }
+    }
+}
+
+impl From<AllocError> for ParkFault {
+    ghost use Rattle.std.specs.Prelude.{◌≡◌};
+    ghost use Rattle.lb_servers.specs.declared.fault.ParkFault.TheVariants as faults;
+
+    ghost from_gives = { λ _ fault. fault ≡ faults.NoMemory };
+
+    fn from(_refused: AllocError) -> ParkFault {
+        ParkFault::NoMemory
+    }
+}
+
+impl<T: Drop> From<AllocFailed<T>> for ParkFault {
+    ghost use Rattle.std.specs.Prelude.{◌≡◌};
+    ghost use Rattle.lb_servers.specs.declared.fault.ParkFault.TheVariants as faults;
+
+    ghost from_gives = { λ _ fault. fault ≡ faults.NoMemory };
+
+    fn from(refused: AllocFailed<T>) -> ParkFault {
+        ParkFault::from(AllocError::from(refused))
     }
 }

@@ -140,9 +140,9 @@ impl Park {
         if at >= MAX_POOLS {
             return Err(ParkFault::TooMany);
         }
-        match self.pools.push(Pool::new(name)) {
+        match pool::push(&mut self.pools, name) {
             Ok(()) => Ok(PoolId(at as u8)),
-            Err(_) => Err(ParkFault::NoMemory),
+            Err(fault) => Err(fault),
         }
     }
 
@@ -157,24 +157,24 @@ impl Park {
         }
         let id = self.last_server + 1;
         let server = spec::new_server(id, self.pools.as_slice(), spec);
-        match self.servers.push(server) {
+        match server::push(&mut self.servers, server) {
             Ok(()) => {
                 self.last_server = id;
                 self.ranks = Ranks::of(self.servers.as_slice());
                 Ok(ServerId(id))
             }
-            Err(_) => Err(ParkFault::NoMemory),
+            Err(fault) => Err(fault),
         }
     }
 
-    /// Why this server is not added where memory is wanting: the first refusal that applies, and else `NoMemory`. It takes no
+    /// Why this server is not added where memory was refused: the first refusal that applies, and else `NoMemory`. It takes no
     /// memory.
-    pub fn refusal(&self, spec: &ServerSpec) -> ParkFault
+    pub fn refusal(&self, spec: &ServerSpec, refused: AllocError) -> ParkFault
         ensures { (self.now, Err result) ≡ added_server (lacks {A = ServerId} (Err result)) self.now spec.now }
     {
         match self.server_fault(spec) {
             Some(fault) => fault,
-            None => ParkFault::NoMemory,
+            None => ParkFault::from(refused),
         }
     }
 

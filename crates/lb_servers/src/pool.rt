@@ -1,9 +1,12 @@
 //! Pools of servers.
 
-ghost use Rattle.std.specs.Prelude.{◌≡◌, ◌<◌, ◌≤◌, IfOk, IfSome, IsTrue, is_some, length, slice_get};
+ghost use Rattle.std.specs.Prelude.{◌≡◌, ◌<◌, ◌≤◌, [], ◌∷◌, ◌++◌, IfErr, IfOk, IfSome, IsTrue, OnErr, OnOk, is_some, length, slice_get, vec_len};
 ghost use Rattle.std.specs.List.{list_any, position};
+ghost use Rattle.std.specs.Vec.{vec_capacity};
+ghost use Rattle.lb_servers.specs.declared.fault.ParkFault.TheVariants.{NoMemory};
 ghost use Rattle.lb_servers.specs.Pool.{change_at, is_named, new_pool, pool_named as number_named, same_name, turned, with_cache, with_policy, cache_at as cache_at_of};
 
+use crate::fault::ParkFault;
 use crate::ident::Ident;
 use lb_wire::{CacheId, PoolId};
 use std::alloc::{AllocError, Global};
@@ -183,6 +186,17 @@ pub(crate) fn cache_at(pools: &[Pool], at: usize) -> Option<CacheId>
 {
     let pool = pools.get(at)?;
     pool.cache
+}
+
+/// Puts a new pool behind the others. Memory is wanting only where there is no room left for one more.
+pub(crate) fn push(pools: &mut Vec<Pool>, name: PoolName) -> Result<(), ParkFault>
+    ensures pushed { OnOk result (pools.new.items ≡ pools.old.items ++ new_pool name ∷ []) }
+    ensures lacks { IfErr result (λ fault. fault ≡ NoMemory) }
+    ensures unchanged { OnErr result (pools.new.items ≡ pools.old.items) }
+    ensures full { OnErr result (vec_capacity pools.old ≤ vec_len pools.old) }
+{
+    pools.push(Pool::new(name))?;
+    Ok(())
 }
 
 /// Copies of the pools, in order.

@@ -1,12 +1,15 @@
 //! Servers.
 
-ghost use Rattle.std.specs.Prelude.{◌≡◌, ℕ, ◌+◌, ◌<◌, ◌^◌, IfOk, IsTrue, not, [], length, option_map};
+ghost use Rattle.std.specs.Prelude.{◌≡◌, ℕ, ◌+◌, ◌<◌, ◌≤◌, ◌^◌, IfErr, IfOk, IsTrue, OnErr, OnOk, not, [], ◌∷◌, ◌++◌, length, option_map, vec_len};
 ghost use Rattle.std.specs.List.{All, filter, find, list_any};
+ghost use Rattle.std.specs.Vec.{vec_capacity};
+ghost use Rattle.lb_servers.specs.declared.fault.ParkFault.TheVariants.{NoMemory};
 ghost use Rattle.lb_servers.specs.declared.server.Loaded.{Loaded};
 ghost use Rattle.lb_servers.specs.Pool.{same_pool};
 ghost use Rattle.lb_servers.specs.Server.{change_if, change_server, is_in, is_server, is_up, is_up_by, is_up_in, marked, server_named as number_named, with_mode, with_one_less, with_one_more};
 ghost use Rattle.lb_servers.specs.Spec.{joined};
 
+use crate::fault::ParkFault;
 use crate::ident::Ident;
 use arrayvec::ArrayVec;
 use lb_wire::{Addr, PoolId, ServerId};
@@ -270,6 +273,17 @@ pub(crate) fn remove(servers: &mut Vec<Loaded>, id: ServerId)
     ensures { servers.new.items ≡ filter (λ l. not (is_server id l)) servers.old.items }
 {
     servers.retain(|l| !l.is(id));
+}
+
+/// Puts a server behind the others. Memory is wanting only where there is no room left for one more.
+pub(crate) fn push(servers: &mut Vec<Loaded>, server: Loaded) -> Result<(), ParkFault>
+    ensures pushed { OnOk result (servers.new.items ≡ servers.old.items ++ server ∷ []) }
+    ensures lacks { IfErr result (λ fault. fault ≡ NoMemory) }
+    ensures unchanged { OnErr result (servers.new.items ≡ servers.old.items) }
+    ensures full { OnErr result (vec_capacity servers.old ≤ vec_len servers.old) }
+{
+    servers.push(server)?;
+    Ok(())
 }
 
 /// Copies of the servers, in order.

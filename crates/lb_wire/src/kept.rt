@@ -32,7 +32,7 @@ impl<T: Drop> From<AllocFailed<T>> for Kept {
 
     ghost from_gives = { λ _ k. k ≡ kept.NoMemory };
 
-    fn from(_refused: AllocFailed<T>) -> Kept {
-        Kept::NoMemory
+    fn from(refused: AllocFailed<T>) -> Kept {
+        Kept::from(AllocError::from(refused))
     }
 }

@@ -61,8 +61,9 @@ impl Octets {
         })
     }
 
-    /// An equal value in room that was taken before, of which the rest is given back. It takes no memory.
-    pub fn copy_into(&self, mut room: Vec<u8>) -> Octets
+    /// An equal value where a copy was refused: in room that was taken before, of which the rest is given back. It takes no
+    /// memory.
+    pub fn copy_into(&self, mut room: Vec<u8>, _refused: AllocError) -> Octets
         requires empty { vec_len room ≡ 0 }
         requires wide { max_message ≤ vec_capacity room }
         ensures { result ≡ self.now }
