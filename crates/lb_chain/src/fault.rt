@@ -62,7 +62,7 @@ impl<T: Drop> From<AllocFailed<T>> for ChainFault {
 
     ghost from_gives = { λ _ fault. fault ≡ faults.NoMemory };
 
-    fn from(_refused: AllocFailed<T>) -> ChainFault {
-        ChainFault::NoMemory
+    fn from(refused: AllocFailed<T>) -> ChainFault {
+        ChainFault::from(AllocError::from(refused))
     }
 }
