@@ -14,6 +14,7 @@ ghost use Rattle.lb_core.specs.Upstream.{Upstreams};
 
 use crate::answer::{Answer, LocalReason};
 use crate::asked::{Asked, Routed};
+use crate::lacking::Lacking;
 use crate::upstream::Upstream;
 use lb_table::{EnterFault, Entry};
 use lb_wire::{
@@ -21,8 +22,8 @@ use lb_wire::{
 };
 use std::alloc::{AllocError, Global};
 
-/// Answers a query by a server of a pool; it asked this of a cache. Where memory is wanting for its entry, nothing changes and the query's bytes come
-/// back.
+/// Answers a query by a server of a pool; it asked this of a cache. Where memory is refused for its entry, nothing changes and the
+/// query's bytes come back with what was refused.
 pub(crate) fn forward(
     alloc: Global,
     upstream: &mut Upstream,
@@ -31,34 +32,37 @@ pub(crate) fn forward(
     view: &QueryView,
     routed: &Routed,
     ask: Option<(CacheId, Key)>,
-) -> Result<Answer, Vec<u8>>
+) -> Result<Answer, (Lacking, Vec<u8>)>
     requires view { (m : Message) × Lays bytes.items m × IsQuery m × (view.now ≡ view_of m) }
     requires short { vec_len bytes ≤ max_message }
     requires key { IfSome ask (λ ask. name_of_key ask.1 ≡ lower_name view.now.name) }
     ensures forwards { IfOk result (λ answer. Forwards upstream.old asked.now bytes.items view.now routed.now ask answer upstream.new) }
-    ensures back { IfErr result (λ back. back.items ≡ bytes.items) }
+    ensures back { IfErr result (λ back. back.1.items ≡ bytes.items) }
     ensures unchanged { OnErr result (upstream.new ≡ upstream.old) }
 {
     let Some(server) = upstream.pick(routed.pool) else {
         return Ok(refused(bytes, view, Rcode::ServFail, LocalReason::NoServer));
     };
-    let Ok(entry) = entry_of(
+    let entry = match entry_of(
         alloc,
         upstream.timeout(),
         asked,
         bytes.as_slice(),
         view,
         ask,
-    ) else {
-        return Err(bytes);
+    ) {
+        Ok(entry) => entry,
+        Err(error) => return Err((Lacking::from(error), bytes)),
     };
     let lane = lane_of(asked.kind);
     match upstream.send(routed.pool, server, lane, asked.word, entry) {
         Ok(id) => Ok(Answer::Forward(server, lane, id, message(bytes, routed.no_recurse, id))),
-        Err((EnterFault::LaneFull, _)) => {
-            Ok(refused(bytes, view, Rcode::ServFail, LocalReason::LaneFull))
-        }
-        Err((EnterFault::NoMemory, _)) => Err(bytes),
+        Err((fault, _)) => match fault {
+            EnterFault::LaneFull => {
+                Ok(refused(bytes, view, Rcode::ServFail, LocalReason::LaneFull))
+            }
+            EnterFault::NoMemory => Err((Lacking::by_table(fault), bytes)),
+        },
     }
 }
 

@@ -13,6 +13,7 @@ mod event;
 mod expiry;
 mod forward;
 mod health;
+mod lacking;
 mod laws;
 mod lifetime;
 mod look;

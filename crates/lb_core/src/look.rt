@@ -18,6 +18,7 @@ ghost use Rattle.lb_core.specs.declared.answer.LocalReason.TheVariants as locals
 use crate::answer::{Answer, LocalReason};
 use crate::asked::{Asked, Routed};
 use crate::forward::forward;
+use crate::lacking::Lacking;
 use crate::upstream::Upstream;
 use lb_cache::Hit;
 use lb_wire::{
@@ -26,8 +27,8 @@ use lb_wire::{
 };
 use std::alloc::{AllocError, Global};
 
-/// Answers a query by a pool: by a reply that its cache keeps, or by one of its servers. Where memory is wanting for the key, the
-/// answer or the entry, nothing changes and the query's bytes come back.
+/// Answers a query by a pool: by a reply that its cache keeps, or by one of its servers. Where memory is refused for the key, the
+/// answer or the entry, nothing changes and the query's bytes come back with what was refused.
 pub(crate) fn answer_by_pool(
     alloc: Global,
     upstream: &mut Upstream,
@@ -35,11 +36,11 @@ pub(crate) fn answer_by_pool(
     bytes: Vec<u8>,
     view: &QueryView,
     routed: Routed,
-) -> Result<Answer, Vec<u8>>
+) -> Result<Answer, (Lacking, Vec<u8>)>
     requires view { (m : Message) × Lays bytes.items m × IsQuery m × (view.now ≡ view_of m) }
     requires short { vec_len bytes ≤ max_message }
     ensures answers { IfOk result (λ answer. PoolAnswers upstream.old asked.now bytes.items view.now routed answer upstream.new) }
-    ensures back { IfErr result (λ back. back.items ≡ bytes.items) }
+    ensures back { IfErr result (λ back. back.1.items ≡ bytes.items) }
     ensures unchanged { OnErr result (upstream.new ≡ upstream.old) }
 {
     if !may_use(view, &routed) {
@@ -49,13 +50,14 @@ pub(crate) fn answer_by_pool(
         return forward(alloc, upstream, asked, bytes, view, &routed, None);
     };
     let mut bytes = bytes;
-    let Ok(key) = key_to_send(alloc, &mut bytes, view, asked.kind, routed.no_recurse) else {
-        return Err(bytes);
+    let key = match key_to_send(alloc, &mut bytes, view, asked.kind, routed.no_recurse) {
+        Ok(key) => key,
+        Err(error) => return Err((Lacking::from(error), bytes)),
     };
     if let Some(hit) = upstream.look(cache, &key, asked.moment) {
         return match hit_answer(alloc, &hit, &key, view) {
             Ok(answer) => Ok(answer),
-            Err(_) => Err(bytes),
+            Err(error) => Err((Lacking::from(error), bytes)),
         };
     }
     forward(

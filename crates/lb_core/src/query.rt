@@ -18,6 +18,7 @@ ghost use Rattle.lb_chain.specs.declared.walked.Verdict.TheVariants.{Allow};
 use crate::answer::{Answer, DropReason, LocalReason};
 use crate::asked::{Asked, Routed};
 use crate::forward::refused;
+use crate::lacking::Lacking;
 use crate::look::answer_by_pool;
 use crate::upstream::Upstream;
 use lb_chain::{Addrs, Chain, Verdict, Walked, first_to_end_decides, seen_walks};
@@ -85,23 +86,23 @@ fn answer_by_rules(
     first_to_end_decides();
     let (source, now) = (&asked.origin.source, asked.moment);
     let walked = chain.walk(view, source, asked.kind, now);
-    if let Err(_) = chain.reserve(&walked, source, now) {
-        return no_memory(bytes, view);
+    if let Err(error) = chain.reserve(&walked, source, now) {
+        return no_memory(Lacking::from(error), bytes, view);
     }
     match decide(alloc, upstream, asked, bytes, view, &walked) {
         Ok(answer) => {
             chain.pass(&walked, source, now);
             answer
         }
-        Err(bytes) => no_memory(bytes, view),
+        Err((lacking, bytes)) => no_memory(lacking, bytes, view),
     }
 }
 
 /// The pool of the queries that no rule sends elsewhere.
 const DEFAULT_POOL: PoolId = PoolId(0);
 
-/// Answers a query by the rule that ended its walk, or by the default pool where none did. Where memory is wanting, nothing
-/// changes and the query's bytes come back.
+/// Answers a query by the rule that ended its walk, or by the default pool where none did. Where memory is refused, nothing
+/// changes and the query's bytes come back with what was refused.
 fn decide(
     alloc: Global,
     upstream: &mut Upstream,
@@ -109,12 +110,12 @@ fn decide(
     bytes: Vec<u8>,
     view: &QueryView,
     walked: &Walked,
-) -> Result<Answer, Vec<u8>>
+) -> Result<Answer, (Lacking, Vec<u8>)>
     requires view { (m : Message) × Lays bytes.items m × IsQuery m × (view.now ≡ view_of m) }
     requires short { vec_len bytes ≤ max_message }
     requires allow { walked.now.rule ≡ None → walked.now.verdict ≡ Allow }
     ensures decides { IfOk result (λ answer. Decides upstream.old asked.now bytes.items view.now walked.now answer upstream.new) }
-    ensures back { IfErr result (λ back. back.items ≡ bytes.items) }
+    ensures back { IfErr result (λ back. back.1.items ≡ bytes.items) }
     ensures takes { IfErr result (λ _. takes_room walked.now.verdict ≡ true) }
     ensures unchanged { OnErr result (upstream.new ≡ upstream.old) }
 {
@@ -159,26 +160,26 @@ fn truncated(mut bytes: Vec<u8>, view: &QueryView, rule: RuleId) -> Answer
     Answer::Local(Octets::from_vec(bytes), LocalReason::Rule(rule))
 }
 
-/// The answer with addresses; the query's bytes, where the memory for it is wanting.
+/// The answer with addresses; the query's bytes, where the memory for it is refused.
 fn spoof(
     alloc: Global,
     bytes: Vec<u8>,
     view: &QueryView,
     addrs: &Addrs,
     rule: RuleId,
-) -> Result<Answer, Vec<u8>>
+) -> Result<Answer, (Lacking, Vec<u8>)>
     requires { (m : Message) × Lays bytes.items m × IsQuery m × (view.now ≡ view_of m) }
     ensures answer { IfOk result (λ answer. answer ≡ Local (spoofed_of view.now addrs.now) (locals.Rule rule)) }
-    ensures back { IfErr result (λ back. back.items ≡ bytes.items) }
+    ensures back { IfErr result (λ back. back.1.items ≡ bytes.items) }
 {
     match spoofed(alloc, bytes.as_slice(), view, addrs.as_slice()) {
         Ok(answer) => Ok(Answer::Local(Octets::from_vec(answer), LocalReason::Rule(rule))),
-        Err(_) => Err(bytes),
+        Err(error) => Err((Lacking::from(error), bytes)),
     }
 }
 
-/// The answer where memory was wanting: ServFail, in the query's own bytes.
-fn no_memory(mut bytes: Vec<u8>, view: &QueryView) -> Answer
+/// The answer where memory was refused: ServFail, in the query's own bytes. No other function makes one.
+fn no_memory(_lacking: Lacking, mut bytes: Vec<u8>, view: &QueryView) -> Answer
     requires view { (m : Message) × Lays bytes.items m × IsQuery m × (view.now ≡ view_of m) }
     requires short { vec_len bytes ≤ max_message }
     ensures { result ≡ NoMemory (failure_of view.now) }

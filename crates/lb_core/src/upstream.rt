@@ -119,11 +119,13 @@ impl Upstream {
                 count_turn(&mut self.park, pool);
                 Ok(id)
             }
-            Err((EnterFault::LaneFull, entry)) => {
-                count_turn(&mut self.park, pool);
-                Err((EnterFault::LaneFull, entry))
-            }
-            Err((EnterFault::NoMemory, entry)) => Err((EnterFault::NoMemory, entry)),
+            Err((fault, entry)) => match fault {
+                EnterFault::LaneFull => {
+                    count_turn(&mut self.park, pool);
+                    Err((fault, entry))
+                }
+                EnterFault::NoMemory => Err((fault, entry)),
+            },
         }
     }
 
@@ -293,13 +295,14 @@ impl Upstream {
         ensures { (self.new, result) ≡ attached_cache (lacks result) self.old pool max max_ttl }
     {
         self.park.cache_ready(pool)?;
-        let Ok(cache) = Cache::new(alloc, max, shards, max_ttl) else {
-            return Err(ParkFault::NoMemory);
+        let cache = match Cache::new(alloc, max, shards, max_ttl) {
+            Ok(cache) => cache,
+            Err(refused) => return Err(ParkFault::from(refused)),
         };
         let id = CacheId(self.park.next_cache() as u64);
         match self.caches.attach(self.park.cache_of(pool), id, cache) {
             Ok(()) => Ok(self.park.attach_cache(pool)),
-            Err(_) => Err(ParkFault::NoMemory),
+            Err(refused) => Err(ParkFault::from(refused)),
         }
     }
 

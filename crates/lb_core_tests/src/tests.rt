@@ -76,8 +76,15 @@ fn is_copied_anew(alloc: Global, answer: &Answer) -> Result<bool, AllocError> {
 
 fn is_copied_into(alloc: Global, answer: &Answer) -> Result<bool, AllocError> {
     let room = Vec::with_capacity(alloc, MAX_MESSAGE)?;
-    let copy = answer.copy_into(room);
-    Ok(copy.equals(answer))
+    match too_much(alloc) {
+        Err(refused) => Ok(answer.copy_into(room, refused).equals(answer)),
+        Ok(_) => Ok(false),
+    }
+}
+
+/// More memory than any machine has: it is refused.
+fn too_much(alloc: Global) -> Result<Vec<u8>, AllocError> {
+    Vec::with_capacity(alloc, usize::MAX)
 }
 
 /// Whether the note of an answer is its line, or the first word of its line where it is of no edit.
@@ -119,7 +126,7 @@ fn a_run_answers_as_single_steps_do(rt: HostRuntime) -> Result<(), Fail> {
     let stepped = answers(rt.alloc())?;
     let run = run_answers(rt.alloc())?;
     if run.iter().any(is_wanting) {
-        return Err(Fail::from(AllocError));
+        return Err(Fail::from("memory was wanting"));
     }
     assert!(rt; are_equal(run.as_slice(), stepped.as_slice()), "{run:?}");
     Ok(())
@@ -143,7 +150,7 @@ fn run_answers(alloc: Global) -> Result<Vec<Answer>, Fail> {
 fn run_answers_of(alloc: Global, balancer: &mut Balancer) -> Result<Vec<Answer>, Fail> {
     match run(alloc, balancer, events(alloc)?) {
         Ok(answers) => Ok(answers),
-        Err(_) => Err(Fail::from(AllocError)),
+        Err((refused, _)) => Err(Fail::from(refused)),
     }
 }
 
@@ -191,7 +198,7 @@ fn expect_client<T: Abort + AllocGlobal>(rt: &T, balancer: &mut Balancer) -> Res
     expect(rt, balancer, SERVER)?;
     for line in [REPLY, "tick 4000"] {
         if !is_sent(rt.alloc(), balancer)? {
-            return Err(Fail::from(AllocError));
+            return Err(Fail::from("a query that is not sent"));
         }
         let client = client(rt.alloc(), balancer, line)?;
         assert_eq!(rt; client, Some(ORIGIN), "{line}");
@@ -273,7 +280,7 @@ fn snapshot_of_kept(alloc: Global) -> Result<Plain, Fail> {
 fn keep_reply(alloc: Global, balancer: &mut Balancer) -> Result<(), Fail> {
     for (line, _) in KEPT {
         if is_not_kept(&tell(alloc, balancer, line)?) {
-            return Err(Fail::from(AllocError));
+            return Err(Fail::from("a reply that is not kept"));
         }
     }
     // A law, which does nothing.

@@ -20,15 +20,15 @@ invariant_of-self c = (
   numbers_still c.self.inside.caches.caches c.self.inside.park c.count_turn.new.park (ap (λ (p : Backends). p.next_cache) c.count_turn.ensures ∙ ap (λ (p : Backends). p.next_cache) c.began.ensures) c.self.invariant.1,
 )
 
-pub invariant_of-self-in-Err-LaneFull-default : goal.invariant_of-self-in-Err-LaneFull-default
-invariant_of-self-in-Err-LaneFull-default c =
-    let full = subst (λ (f : EnterFault). Enters c.self.inside.table c.args.server c.args.lane c.args.word c.args.entry (Err (f, c.in-Err-LaneFull-default.entry)) c.enter.new.self) c.in-Err-LaneFull-default.field-0-0-is c.in-Err-LaneFull-default.ensures.enters in (
-      same_marks c.self.inside.park c.count_turn-in-Err-LaneFull-default.new.park c.self.inside.checks.items c.self.inside.table c.enter.new.self
-          (ap (λ (p : Backends). map server_of p.servers) c.count_turn-in-Err-LaneFull-default.ensures)
-          (subst (λ (t : List Waiting). IsTied c.count_turn-in-Err-LaneFull-default.new.park t) (sym full.2)
-          (subst (λ (p : Backends). IsTied p c.self.inside.table) (sym c.count_turn-in-Err-LaneFull-default.ensures) (same_servers c.self.inside.table c.self.inside.park _ c.self.invariant.0.tied)))
+pub invariant_of-self-in-LaneFull : goal.invariant_of-self-in-LaneFull
+invariant_of-self-in-LaneFull c =
+    let full = subst (λ (f : EnterFault). Enters c.self.inside.table c.args.server c.args.lane c.args.word c.args.entry (Err (f, c.in-Err.entry)) c.enter.new.self) c.in-LaneFull.is c.in-Err.ensures.enters in (
+      same_marks c.self.inside.park c.count_turn-in-LaneFull.new.park c.self.inside.checks.items c.self.inside.table c.enter.new.self
+          (ap (λ (p : Backends). map server_of p.servers) c.count_turn-in-LaneFull.ensures)
+          (subst (λ (t : List Waiting). IsTied c.count_turn-in-LaneFull.new.park t) (sym full.2)
+          (subst (λ (p : Backends). IsTied p c.self.inside.table) (sym c.count_turn-in-LaneFull.ensures) (same_servers c.self.inside.table c.self.inside.park _ c.self.invariant.0.tied)))
           c.self.invariant.0,
-      numbers_still c.self.inside.caches.caches c.self.inside.park c.count_turn-in-Err-LaneFull-default.new.park (ap (λ (p : Backends). p.next_cache) c.count_turn-in-Err-LaneFull-default.ensures) c.self.invariant.1,
+      numbers_still c.self.inside.caches.caches c.self.inside.park c.count_turn-in-LaneFull.new.park (ap (λ (p : Backends). p.next_cache) c.count_turn-in-LaneFull.ensures) c.self.invariant.1,
     )
 
 pub returns-in-Ok : goal.returns-in-Ok
