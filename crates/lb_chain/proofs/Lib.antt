@@ -1,5 +1,6 @@
 pub mod Sums
 pub mod Chains
+pub mod Kept
 pub mod ChangedRules
 pub mod PlacesFrom
 pub mod PartlyReserved

@@ -4,6 +4,7 @@ ghost use Rattle.std.specs.Prelude.{◌≡◌, ◌≤◌, ◌<◌, ℕ, IfOk, On
 ghost use Rattle.std.specs.List.{All};
 ghost use Rattle.lb_wire.specs.declared.query.QueryView.{QueryView};
 ghost use Rattle.lb_wire.specs.declared.transport.Kind.{Kind as KindValue};
+ghost use Rattle.lb_chain.specs.Chain.{AreRules};
 ghost use Rattle.lb_chain.specs.Walk.{walk_of};
 ghost use Rattle.lb_chain.specs.Edits.{no_rules, added, removed, moved, lacks};
 ghost use Rattle.lb_chain.specs.Listed.{listed_of, HasOwnLimiters};
@@ -89,7 +90,7 @@ impl Chain {
         self.rules.len()
     }
 
-    /// The rules in their order, with the passes that their limiters hold. The one error is want of memory.
+    /// The rules in the order of `law_of_list`, with the passes that their limiters hold. The one error is want of memory.
     pub fn list(&self, alloc: Global) -> Result<Vec<Listed>, AllocError>
         ensures list { IfOk result (λ list. list.items ≡ map listed_of self.now.rules) }
         // so the list determines what is seen of the rules: a law says so
@@ -98,13 +99,23 @@ impl Chain {
         list_rules(alloc, self.rules.as_slice())
     }
 
-    /// The rules in their order, with the passes that count at this moment, in milliseconds. The one error is want of memory.
+    /// The rules in the order of `law_of_list`, with the passes that count at this moment, in milliseconds. The one error is want
+    /// of memory.
     pub fn list_at(&self, alloc: Global, now: u64) -> Result<Vec<Listed>, AllocError>
         ensures list { IfOk result (λ list. list.items ≡ map listed_of (seen_rules now self.now.rules)) }
         // so the list determines what is seen of the rules at this moment and later: laws say so
         ensures own { All HasOwnLimiters self.now.rules }
     {
         list_rules_at(alloc, self.rules.as_slice(), now)
+    }
+
+    /// A law: the rules stand in the order in which they are tested; each has a number from 1 on and below the next, no number is
+    /// there twice, and there are at most 4,096 rules with at most 16 limiters. It does nothing.
+    pub fn law_of_list(&self)
+        ensures { AreRules self.now }
+    {
+        // Read, so that what the chain keeps true is at hand.
+        let _ = self.rules.len();
     }
 
     /// Each rule of a chain has a number from 1 on and the limiters of its term. A law: the call does nothing.

@@ -1,6 +1,7 @@
 //! What holds of every walk, and of rules as they are listed and seen at a moment, and that chains may cross threads.
 
 ghost use Rattle.std.specs.Thread.{IsSend, IsSync};
+ghost use Rattle.lb_chain.specs.Chain.{SeenAreRules};
 ghost use Rattle.lb_chain.specs.Seen.{SeenWalks, SeenTwice};
 ghost use Rattle.lb_chain.specs.Listed.{ListedAlikeSeenAlike, SeenHaveOwnLimiters};
 ghost use Rattle.lb_chain.specs.Walk.{AllowedWhereNoneEnds, FirstToEndDecides, NoRuleAllows};
@@ -34,6 +35,11 @@ pub fn listed_alike_seen_alike()
 /// Rules that have the limiters of their terms have them as they are seen at a moment.
 pub fn seen_have_own_limiters()
     ensures { SeenHaveOwnLimiters }
+{}
+
+/// What the list of a chain keeps true, it keeps true as it is seen at a moment.
+pub fn seen_are_rules()
+    ensures { SeenAreRules }
 {}
 
 /// The first rule of the list that holds and ends the walk decides; where there is none, the query is allowed.

@@ -15,7 +15,7 @@ tail-append ok n [] ys = refl
 tail-append ok n (x ∷ xs) ys = tail-append ok (if beq x ok then n + 1 else 0) xs ys
 
 -- so many more of them
-tail-replicate : (ok : Bool) (n k : ℕ) → tail_of ok n (replicate k ok) ≡ n + k
+pub tail-replicate : (ok : Bool) (n k : ℕ) → tail_of ok n (replicate k ok) ≡ n + k
 tail-replicate ok n zero = omega arith
 tail-replicate true n (suc k) = tail-replicate true (n + 1) k ∙ omega arith
 tail-replicate false n (suc k) = tail-replicate false (n + 1) k ∙ omega arith

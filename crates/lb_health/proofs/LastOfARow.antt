@@ -2,8 +2,8 @@
 use Rattle.std.proofs.Common.{◌≡◌, ℕ, ◌+◌, ◌<◌, Bool, true, false, not, ◌==◌, if◌then◌else◌, List, [], ◌∷◌, ◌++◌, refl, ◌∙◌, ap, inl, inr, arith}
 use Rattle.std.proofs.lemmas.Bool.{cases_Bool, eqb-true, eqb-false}
 use Rattle.std.specs.Bool.{beq}
-use Rattle.lb_health.specs.Health.{Standing, new_standing, needed, result_of, after, kept, since, ChangesAtTheLast, LastOfARow}
-use Rattle.lb_health.proofs.EndsIn.{tail_of, tail-append, short_of, ends_in}
+use Rattle.lb_health.specs.Health.{Standing, IsStanding, new_standing, needed, result_of, row_against, after, kept, since, ChangesAtTheLast, LastOfARow, LastOfARowFrom}
+use Rattle.lb_health.proofs.EndsIn.{tail_of, tail-append, tail-replicate, short_of, ends_in}
 
 -- these parts of a standing
 abbrev standing : ℕ → ℕ → Bool → ℕ → Standing
@@ -73,13 +73,16 @@ changes_at fall rise against false true seen c =
           rw more ((λ e. absurd (cc), λ ends. absurd (short_of true rise (seen ++ true ∷ []) (omega (arith, tail, other, c.few)) ends)), λ _. refl)
     ]
 
--- a new server has no row yet
-counts_new : (fall rise : ℕ) → 0 < fall → 0 < rise → Counts (new_standing fall rise) []
-counts_new fall rise f r = record { fall = f; rise = r; tail = refl; few = f }
+-- the row that went against a health is counted
+counts_on_from : (h : Standing) → IsStanding h → Counts h (row_against h)
+counts_on_from h is = record { fall = is.fall; rise = is.rise; tail = tail-replicate (not h.up) 0 h.against ∙ omega arith; few = is.few }
 
--- the law
+-- the laws
+pub last_of_a_row_from : LastOfARowFrom
+last_of_a_row_from first is results ok =
+    let h = after first results in
+    let c = counts_after first (row_against first) results (counts_on_from first is) in
+    changes_at h.fall h.rise h.against h.up ok (since first (row_against first) results) c
+
 pub last_of_a_row : LastOfARow
-last_of_a_row fall rise f r results ok =
-    let h = after (new_standing fall rise) results in
-    let c = counts_after (new_standing fall rise) [] results (counts_new fall rise f r) in
-    changes_at h.fall h.rise h.against h.up ok (since (new_standing fall rise) [] results) c
+last_of_a_row fall rise f r results ok = last_of_a_row_from (new_standing fall rise) (record { fall = f; rise = r; few = f }) results ok

@@ -52,15 +52,33 @@ since h seen (ok ∷ results) = since (result_of h ok).0 (kept (result_of h ok).
 abbrev pub EndsIn : ℕ → Bool → List Bool → Type 0
 EndsIn n ok results = (front : List Bool) × (results ≡ front ++ replicate n ok)
 
--- where these results were given since the last change, a further one changes the server exactly where it is the last of
--- `fall` failures in a row, if the server is up, or of `rise` successes in a row, if it is down; else nothing changes
+-- a change comes exactly where a further result is the last of `fall` failures in a row, if the server is up, or of `rise`
+-- successes in a row, if it is down, these results having been given since the last change; else there is none
+abbrev pub AtTheLast : Standing → List Bool → Bool → Changed → Type 0
+AtTheLast h seen ok change =
+    ((change ≡ turned h) ↔ EndsIn (needed h) (not h.up) (seen ++ ok ∷ []))
+    × ((EndsIn (needed h) (not h.up) (seen ++ ok ∷ []) → ⊥) → change ≡ No)
+
+-- so does the change that a further result makes
 abbrev pub ChangesAtTheLast : Standing → List Bool → Bool → Type 0
-ChangesAtTheLast h seen ok =
-    (((result_of h ok).1 ≡ turned h) ↔ EndsIn (needed h) (not h.up) (seen ++ ok ∷ []))
-    × ((EndsIn (needed h) (not h.up) (seen ++ ok ∷ []) → ⊥) → (result_of h ok).1 ≡ No)
+ChangesAtTheLast h seen ok = AtTheLast h seen ok (result_of h ok).1
 
 -- so it is for every fall and rise above 0, after every list of results, with every further one
 abbrev pub LastOfARow : Type 0
 LastOfARow =
     (fall rise : ℕ) → 0 < fall → 0 < rise → (results : List Bool) (ok : Bool)
     → ChangesAtTheLast (after (new_standing fall rise) results) (since (new_standing fall rise) [] results) ok
+
+-- a health that a server can have: it takes results to change it, and fewer went against it than it takes
+pub record IsStanding (h : Standing) : Type 0 where
+  pub fall : 0 < h.fall
+  pub rise : 0 < h.rise
+  pub few : h.against < needed h
+
+-- the row of results that went against a health
+abbrev pub row_against : Standing → List Bool
+row_against h = replicate h.against (not h.up)
+
+-- so it is from every health on, whose row goes on
+abbrev pub LastOfARowFrom : Type 0
+LastOfARowFrom = (h : Standing) → IsStanding h → (results : List Bool) (ok : Bool) → ChangesAtTheLast (after h results) (since h (row_against h) results) ok

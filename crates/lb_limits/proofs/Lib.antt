@@ -14,3 +14,4 @@ pub mod Leaves
 pub mod Matches
 pub mod Added
 pub mod Limiters
+pub mod Listed

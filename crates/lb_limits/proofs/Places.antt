@@ -95,6 +95,10 @@ module _ (f : Bucket → ℕ) (key : Addr) (nothing : (b : Bucket) → same_addr
 window_nothing : (key : Addr) (now : ℕ) (b : Bucket) → same_addr key b.source ≡ false → window_in key now b ≡ 0
 window_nothing key now b other = rw other refl
 
+-- an address whose bucket is not there has no window
+pub window_none : (key : Addr) (now : ℕ) (bs : List Bucket) → All (λ c. same_addr key c.source ≡ false) bs → window_count key now bs ≡ 0
+window_none key now bs other = sum_none (window_in key now) bs (λ k d lt. window_nothing key now (get_or bs k d) (other k d lt))
+
 free_nothing : (key : Addr) (b : Bucket) → same_addr key b.source ≡ false → free_in key b ≡ 0
 free_nothing key b other = rw other refl
 

@@ -1,12 +1,13 @@
 -- Rate windows: the passes of each masked address within the last 1,000 milliseconds.
-use Rattle.std.specs.Prelude.{ℕ, Bool, not, ◌&&◌, ◌||◌, ◌==◌, nat_le, List, [], ◌∷◌, ◌++◌, length, map, if◌then◌else◌}
-use Rattle.std.specs.List.{filter, insert, position, list_any}
+use Rattle.std.specs.Prelude.{ℕ, ◌+◌, ◌<◌, ◌≤◌, Bool, not, ◌&&◌, ◌||◌, ◌==◌, nat_le, List, [], ◌∷◌, ◌++◌, length, map, if◌then◌else◌}
+use Rattle.std.specs.List.{All, filter, insert, position, list_any}
+use Rattle.std.specs.List.Sorted.{IsSorted}
 use Rattle.std.specs.Option.{unwrap_or}
 use Rattle.std.specs.Set.{distinct_count}
 use Rattle.lb_wire.specs.declared.addr.Addr.{Addr}
 use Rattle.lb_masks.specs.Mask.{masked_of}
 use Rattle.lb_limits.specs.declared.pass.Pass.{Pass}
-use Rattle.lb_limits.specs.Order.{same_addr, is_before}
+use Rattle.lb_limits.specs.Order.{cmp_pass, same_addr, is_before}
 use Rattle.lb_limits.specs.Moments.{is_recent}
 
 -- a limiter: how many passes an address may have, the lengths that addresses are masked to, the moment that it stands
@@ -70,3 +71,10 @@ reserved_at l addr now = record l { moment = now; passes = recent_passes now l.p
 -- a query is counted, and nothing is reserved any more
 abbrev pub passed_at : Limits → Addr → ℕ → Limits
 passed_at l addr now = record l { moment = now; passes = put_pass (record { source = source_of l addr; moment = now }) (recent_passes now l.passes); reserved = [] }
+
+-- what the passes that a limiter holds keep true: they are by source, IPv4 first and then by octets, and then by moment; each
+-- is later than 1,000 milliseconds before the limiter's moment; and no address has more of them than the rate
+pub record ArePasses (l : Limits) : Type 0 where
+  pub order : IsSorted cmp_pass l.passes
+  pub count : All (λ (pass : Pass). l.moment < pass.moment + 1000) l.passes
+  pub rate : (key : Addr) → in_window key l.moment l.passes ≤ l.qps

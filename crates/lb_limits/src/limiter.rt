@@ -1,10 +1,8 @@
 //! Limiters.
 
 ghost use Rattle.std.specs.Prelude.{◌≡◌, ◌≤◌, ◌&&◌, ◌||◌, ◌==◌, nat_le, Contains, IfOk, OnErr, OnOk, false, length};
-ghost use Rattle.std.specs.List.Sorted.{IsSorted};
 ghost use Rattle.lb_limits.specs.Ticks.{IsTally, live_at};
-ghost use Rattle.lb_limits.specs.Order.{cmp_pass};
-ghost use Rattle.lb_limits.specs.Window.{source_of, limits_of, matches, max_live, passed_at, reserved_at};
+ghost use Rattle.lb_limits.specs.Window.{ArePasses, source_of, limits_of, matches, max_live, passed_at, reserved_at};
 
 use crate::boxed::Boxed;
 use crate::buckets;
@@ -128,10 +126,18 @@ impl Limiter {
         buckets::count(self.buckets.as_slice(), self.moment)
     }
 
-    /// The passes that it holds, in order: by source, IPv4 first and then by octets, and then by moment.
+    /// A law: the passes that it holds are by source, IPv4 first and then by octets, and then by moment; each counts at the
+    /// latest moment that it was told; and no address has more of them than the rate. It does nothing.
+    pub fn law_of_list(&self)
+        ensures { ArePasses self.now }
+    {
+        // Read, so that what the limiter keeps true is at hand.
+        let _moment = self.moment;
+    }
+
+    /// The passes that it holds, in the order of `law_of_list`. The one error is want of memory.
     pub fn list(&self, alloc: Global) -> Result<Vec<Pass>, AllocError>
-        ensures passes { IfOk result (λ list. list.items ≡ self.now.passes) }
-        ensures order { IsSorted cmp_pass self.now.passes }
+        ensures { IfOk result (λ list. list.items ≡ self.now.passes) }
     {
         buckets::list(alloc, self.buckets.as_slice(), self.moment)
     }
