@@ -8,3 +8,4 @@ mod Puts
 mod Expunged
 mod Questions
 mod WithCache
+pub mod AreKept

@@ -5,7 +5,7 @@ ghost use Rattle.std.specs.List.{count_by, filter, find, insert, list_any};
 ghost use Rattle.std.specs.List.Sorted.{IsPartitionPoint};
 ghost use Rattle.std.specs.Vec.{vec_capacity};
 ghost use Rattle.lb_wire.specs.Octets.{max_message};
-ghost use Rattle.lb_cache.specs.Cache.{Ascends, empty_cache, expunged, kept_for, kept_with, lacks, looked, placed, written};
+ghost use Rattle.lb_cache.specs.Cache.{AreReplies, Ascends, empty_cache, expunged, kept_for, kept_with, lacks, looked, placed, written};
 ghost use Rattle.lb_cache.specs.Question.{covers_all, covers_name, covers_suffix};
 ghost use Rattle.lb_cache.specs.Reply.{has_key, has_other, is_before, is_dead, lives, renewed};
 ghost use Rattle.lb_cache.specs.declared.reply.CachedReply.{CachedReply};
@@ -189,7 +189,16 @@ impl Cache {
         self.replies.len()
     }
 
-    /// The replies by key, dead ones too. The one error is want of memory.
+    /// A law: the replies are by key, datagrams first, then by octets, no key is there twice, and there are no more of them than
+    /// it keeps at most. It does nothing.
+    pub fn law_of_list(&self)
+        ensures { AreReplies self.now }
+    {
+        // Read, so that what the cache keeps true is at hand.
+        let _ = self.replies.len();
+    }
+
+    /// The replies in the order of `law_of_list`, dead ones too. The one error is want of memory.
     pub fn list(&self, alloc: Global) -> Result<Vec<CachedReply>, AllocError>
         ensures { IfOk result (λ list. list.items ≡ self.now.replies) }
     {

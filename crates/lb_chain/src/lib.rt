@@ -22,8 +22,8 @@ pub use addrs::Addrs;
 pub use chain::Chain;
 pub use fault::ChainFault;
 pub use laws::{
-    chains_cross_threads, first_to_end_decides, listed_alike_seen_alike, seen_have_own_limiters,
-    seen_twice, seen_walks,
+    chains_cross_threads, first_to_end_decides, listed_alike_seen_alike, seen_are_rules,
+    seen_have_own_limiters, seen_twice, seen_walks,
 };
 pub use limiters::Limiters;
 pub use listed::{Listed, RulePass, RulePasses};

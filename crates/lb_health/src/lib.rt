@@ -7,5 +7,5 @@ mod laws;
 mod probes;
 
 pub use health::{Changed, Health};
-pub use laws::last_of_a_row;
+pub use laws::{last_of_a_row, last_of_a_row_from};
 pub use probes::{PROBE_LEN, ProbeBytes, judge, probe};

@@ -1,3 +1,4 @@
 pub mod FirstFree
 pub mod EntryAt
 pub mod ByDeadline
+pub mod Once

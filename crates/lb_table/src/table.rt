@@ -6,7 +6,7 @@ ghost use Rattle.std.specs.Vec.{vec_capacity};
 ghost use Rattle.lb_table.specs.declared.fault.EnterFault.TheVariants.{NoMemory};
 ghost use Rattle.lb_table.specs.Entry.{deadline_of};
 ghost use Rattle.lb_table.specs.Place.{at_place};
-ghost use Rattle.lb_table.specs.Table.{ByDeadline, Enters, FirstFree, due, entry_at, is_at, is_for, is_later, is_used, place_by_deadline as place_by, taken_at, waits_at, without_due};
+ghost use Rattle.lb_table.specs.Table.{AreWaiting, Enters, FirstFree, due, entry_at, is_at, is_for, is_later, is_used, place_by_deadline as place_by, taken_at, waits_at, without_due};
 
 use crate::entry::{Entry, Waiting};
 use crate::fault::EnterFault;
@@ -24,14 +24,14 @@ pub struct Table {
 
 impl Model for Table {
     ghost use Rattle.std.specs.Prelude.{List};
-    ghost use Rattle.lb_table.specs.Table.{ByDeadline};
+    ghost use Rattle.lb_table.specs.Table.{AreWaiting};
     ghost use Rattle.lb_table.specs.declared.entry.Waiting.{Waiting};
 
     ghost Value = { List Waiting };
 
     ghost view = { λ t. t.items.items };
 
-    ghost invariant = { λ t. ByDeadline t.items.items };
+    ghost invariant = { λ t. AreWaiting t.items.items };
 }
 
 /// How many query IDs there are (RFC 1035 section 4.1.1).
@@ -134,8 +134,16 @@ impl Table {
         self.items.len()
     }
 
-    /// The queries that wait, by deadline, those of one deadline in the order in which they were entered. The one error is
-    /// want of memory.
+    /// A law: the queries that wait are by deadline, those of one deadline in the order in which they were entered, and no two
+    /// wait at one server, lane and ID. It does nothing.
+    pub fn law_of_list(&self)
+        ensures { AreWaiting self.now }
+    {
+        // Read, so that what the table keeps true is at hand.
+        let _ = self.items.len();
+    }
+
+    /// The queries that wait, in the order of `law_of_list`. The one error is want of memory.
     pub fn list(&self, alloc: Global) -> Result<Vec<Waiting>, AllocError>
         ensures { IfOk result (λ list. list.items ≡ self.now) }
     {
@@ -190,14 +198,6 @@ impl Table {
             return None;
         }
         Some(self.items.remove(0))
-    }
-
-    /// What the list keeps true, for whoever proves something of it. It does nothing.
-    pub fn by_deadline(&self)
-        ensures { ByDeadline self.now }
-    {
-        // Read, so that what the table keeps true is at hand.
-        let _ = self.items.len();
     }
 
     /// How many queries wait for a server, by all its lanes.

@@ -1,5 +1,9 @@
 use Rattle.lb_table.proofs.ByDeadline.{by_entering}
+use Rattle.lb_table.proofs.Once.{once_entering}
 use Rattle.lb_table.proofs.table.Table.enter.Goals as goal
 
 pub invariant_of-self : goal.invariant_of-self
-invariant_of-self c = by_entering _ _ _ _ _ _ _ c.enter.ensures.enters c.self.invariant
+invariant_of-self c = record {
+  order = by_entering _ _ _ _ _ _ _ c.enter.ensures.enters c.self.invariant.order;
+  once = once_entering _ _ _ _ _ _ _ c.enter.ensures.enters c.self.invariant.once;
+}

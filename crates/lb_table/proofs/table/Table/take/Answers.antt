@@ -1,13 +1,15 @@
 use Rattle.std.proofs.Common.{◌≡◌, Some, List, subst, sym}
 use Rattle.lb_table.specs.declared.entry.Waiting.{Waiting}
 use Rattle.lb_table.specs.Place.{at_place}
-use Rattle.lb_table.specs.Table.{ByDeadline, entry_at}
+use Rattle.lb_table.specs.Table.{AreWaiting, entry_at}
 use Rattle.lb_table.proofs.ByDeadline.{by_remove}
+use Rattle.lb_table.proofs.Once.{once_remove}
 use Rattle.lb_table.proofs.EntryAt.{entry_there}
 use Rattle.lb_table.proofs.table.Table.take.Goals as goal
 
 pub invariant_of-self : goal.invariant_of-self
-invariant_of-self c = subst ByDeadline (sym c.remove-entry.ensures.items) (by_remove c.self.inside.items.items _ c.self.invariant)
+invariant_of-self c =
+    subst AreWaiting (sym c.remove-entry.ensures.items) (record { order = by_remove c.self.inside.items.items _ c.self.invariant.order; once = once_remove c.self.inside.items.items _ c.self.invariant.once })
 
 pub returns-clause-entry : goal.returns-clause-entry
 returns-clause-entry c =
