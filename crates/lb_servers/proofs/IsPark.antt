@@ -20,15 +20,9 @@ park_changed f keeps servers pools ranks is = record {
   ranked = stand_changed f keeps servers ranks is.ranked;
 }
 
-keeps_if : (this : Bool) (change : Loaded → Loaded) → ((l : Loaded) → (change l).server.order ≡ l.server.order) → (l : Loaded) → (change_if this change l).server.order ≡ l.server.order
+pub keeps_if : (this : Bool) (change : Loaded → Loaded) → ((l : Loaded) → (change l).server.order ≡ l.server.order) → (l : Loaded) → (change_if this change l).server.order ≡ l.server.order
 keeps_if true change keeps l = keeps l
 keeps_if false change keeps l = refl
-
--- such a change of one server, written back
-pub written_back : (id : ServerId) (change : Loaded → Loaded) → ((l : Loaded) → (change l).server.order ≡ l.server.order) → {Z : Type 0} (servers : Vec Loaded Z) (new : List Loaded) (pools : List Pool) (ranks : List ℕ) → new ≡ change_server id change servers.items → IsPark servers.items pools ranks → IsPark (with_items servers new).items pools ranks
-written_back id change keeps servers new pools ranks is park =
-    let long : length new ≡ servers.len = ap length is ∙ length-map servers.items (λ l. change_if (is_server id l) change l) ∙ sym servers.ok.0 in
-    subst (λ (ls : List Loaded). IsPark ls pools ranks) (sym (with_items_is servers new long ∙ is)) (park_changed (λ l. change_if (is_server id l) change l) (λ l. keeps_if (is_server id l) change keeps l) servers.items pools ranks park)
 
 -- a filter leaves no more than there were
 pub fewer : {X : Type 0} (p : X → Bool) (xs : List X) → length (filter p xs) ≤ length xs

@@ -6,3 +6,4 @@ pub mod Ups
 pub mod Joined
 pub mod ChangeAt
 pub mod IsPark
+pub mod AreBackends

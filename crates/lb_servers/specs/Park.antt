@@ -1,6 +1,6 @@
 -- The table of servers and pools, and its edits.
-use Rattle.std.specs.Prelude.{ℕ, ◌+◌, ◌^◌, ◌≤◌, Bool, true, false, not, ◌==◌, nat_le, List, [], ◌∷◌, ◌++◌, length, Option, None, Some, is_some, Result, Ok, Err, slice_get, if◌then◌else◌}
-use Rattle.std.specs.List.{filter, list_any}
+use Rattle.std.specs.Prelude.{◌≡◌, ℕ, ◌+◌, ◌^◌, ◌<◌, ◌≤◌, Bool, true, false, not, ◌==◌, nat_le, List, [], ◌∷◌, ◌++◌, length, Option, None, Some, is_some, option_map, Result, Ok, Err, bytes_eq, slice_get, if◌then◌else◌}
+use Rattle.std.specs.List.{AllByRecursion, count_by, filter, list_any}
 use Rattle.lb_wire.specs.declared.ids.CacheId.{CacheId}
 use Rattle.lb_wire.specs.declared.ids.PoolId.{PoolId}
 use Rattle.lb_wire.specs.declared.ids.ServerId.{ServerId}
@@ -11,7 +11,7 @@ use Rattle.lb_servers.specs.declared.pool.PoolName.TheVariants as names
 use Rattle.lb_servers.specs.declared.pool.Pool.{Pool}
 use Rattle.lb_servers.specs.declared.server.Loaded.{Loaded}
 use Rattle.lb_servers.specs.declared.spec.ServerSpec.{ServerSpec}
-use Rattle.lb_servers.specs.Pool.{cache_at, change_at, is_named, new_pool, with_cache}
+use Rattle.lb_servers.specs.Pool.{cache_at, change_at, is_named, new_pool, same_pool, with_cache}
 use Rattle.lb_servers.specs.Ranks.{StandAt, by_order}
 use Rattle.lb_servers.specs.Server.{change_server, is_server, server_named}
 use Rattle.lb_servers.specs.Spec.{lacks_pool, new_server, stated_pools}
@@ -113,3 +113,55 @@ pub record IsPark (servers : List Loaded) (pools : List Pool) (ranks : List ℕ)
   pub servers_few : length servers ≤ 256
   pub pools_few : length pools ≤ 64
   pub ranked : StandAt servers ranks (by_order servers)
+
+-- the servers stand by number, each number once
+abbrev pub ByNumber : List Loaded → Type 0
+ByNumber [] = Unit {0}
+ByNumber (l ∷ servers) = AllByRecursion (λ o. l.server.id.0 < o.server.id.0) servers × ByNumber servers
+
+-- whether a server has a name
+abbrev pub has_name : List ℕ → Loaded → Bool
+has_name name l = bytes_eq l.server.name name
+
+-- whether a cache has a number
+abbrev pub is_cache : CacheId → Option CacheId → Bool
+is_cache id None = false
+is_cache id (Some cache) = cache.0 == id.0
+
+abbrev pub has_cache : CacheId → Pool → Bool
+has_cache id pool = is_cache id pool.cache
+
+-- the cache of a pool, where it has one, has a number that was given
+abbrev pub IsGiven : ℕ → Option CacheId → Type 0
+IsGiven next None = Unit {0}
+IsGiven next (Some cache) = cache.0 < next
+
+-- a server stands in 1 to 8 pools that are there, in each once
+pub record StandsIn (count : ℕ) (ids : List PoolId) : Type 0 where
+  pub some : 0 < length ids
+  pub few : length ids ≤ 8
+  pub there : AllByRecursion (λ id. id.0 < count) ids
+  pub once : (pool : PoolId) → count_by (same_pool pool) ids ≤ 1
+
+-- what the list of servers keeps true: they are by number, each number once and below the next, no two have one name, there are at
+-- most 256, and each stands in pools that are there
+pub record AreServers (park : Backends) : Type 0 where
+  pub order : ByNumber park.servers
+  pub below : AllByRecursion (λ l. l.server.id.0 < park.next) park.servers
+  pub once : (name : List ℕ) → count_by (has_name name) park.servers ≤ 1
+  pub few : length park.servers ≤ max_servers
+  pub stand : AllByRecursion (λ l. StandsIn (length park.pools) l.server.pools) park.servers
+
+-- what the list of pools keeps true: the first is the default pool, no two have one name, there are at most 64, and no two have one
+-- cache, whose number is below the next
+pub record ArePools (park : Backends) : Type 0 where
+  pub first : option_map (λ pool. pool.name) (slice_get park.pools 0) ≡ Some names.Default
+  pub once : (name : PoolName) → count_by (is_named name) park.pools ≤ 1
+  pub few : length park.pools ≤ max_pools
+  pub caches : (id : CacheId) → count_by (has_cache id) park.pools ≤ 1
+  pub given : AllByRecursion (λ pool. IsGiven park.next_cache pool.cache) park.pools
+
+-- what the lists of servers and pools keep true
+pub record AreBackends (park : Backends) : Type 0 where
+  pub servers : AreServers park
+  pub pools : ArePools park

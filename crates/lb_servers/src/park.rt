@@ -9,7 +9,7 @@ ghost use Rattle.lb_servers.specs.declared.server.Loaded.{Loaded};
 ghost use Rattle.lb_servers.specs.Pool.{cache_at, pool_named, turned, with_policy};
 ghost use Rattle.lb_servers.specs.Server.{is_server, marked, server_named, with_mode, with_one_less, with_one_more};
 ghost use Rattle.lb_servers.specs.Pick.{picked};
-ghost use Rattle.lb_servers.specs.Park.{added_pool, added_server, attached, cache_ready_of, changed_pool, detached, changed_server, lacks, no_backends, removed_server, server_fault, with_pool, with_server};
+ghost use Rattle.lb_servers.specs.Park.{AreBackends, added_pool, added_server, attached, cache_ready_of, changed_pool, detached, changed_server, lacks, no_backends, removed_server, server_fault, with_pool, with_server};
 
 use crate::fault::ParkFault;
 use crate::ident::Ident;
@@ -38,13 +38,13 @@ pub struct Park {
 
 impl Model for Park {
     ghost use Rattle.std.specs.Prelude.{◌+◌};
-    ghost use Rattle.lb_servers.specs.Park.{Backends, IsPark};
+    ghost use Rattle.lb_servers.specs.Park.{AreBackends, Backends, IsPark};
 
     ghost Value = { Backends };
 
     ghost view = { λ p. record { next = p.last_server + 1; next_cache = p.last_cache + 1; servers = p.servers.items; pools = p.pools.items } };
 
-    ghost invariant = { λ p. IsPark p.servers.items p.pools.items p.ranks };
+    ghost invariant = { λ p. IsPark p.servers.items p.pools.items p.ranks × AreBackends (record { next = p.last_server + 1; next_cache = p.last_cache + 1; servers = p.servers.items; pools = p.pools.items }) };
 }
 
 impl Park {
@@ -85,7 +85,17 @@ impl Park {
         self.servers.len()
     }
 
-    /// The servers by number, each with how many queries it has outstanding. The one error is want of memory.
+    /// A law: the servers are by number, each number once and below the next, no two have one name, there are at most 256, and each
+    /// stands in 1 to 8 pools that are there, in each once; the first pool is the default pool, no two have one name, there are
+    /// at most 64, and no two have one cache, whose number is below the next. It does nothing.
+    pub fn law_of_list(&self)
+        ensures { AreBackends self.now }
+    {
+        // Read, so that what the table keeps true is at hand.
+        let _ = self.servers.len();
+    }
+
+    /// The servers in the order of `law_of_list`, each with how many queries it has outstanding. The one error is want of memory.
     pub fn list(&self, alloc: Global) -> Result<Vec<Loaded>, AllocError>
         ensures { IfOk result (λ list. list.items ≡ self.now.servers) }
     {
@@ -99,7 +109,7 @@ impl Park {
         self.pools.len()
     }
 
-    /// The pools by number. The one error is want of memory.
+    /// The pools in the order of `law_of_list`: by number, which is their place. The one error is want of memory.
     pub fn pool_list(&self, alloc: Global) -> Result<Vec<Pool>, AllocError>
         ensures { IfOk result (λ list. list.items ≡ self.now.pools) }
     {

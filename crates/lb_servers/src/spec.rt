@@ -197,7 +197,8 @@ fn stated_pools(pools: &[Pool], names: &[PoolName]) -> PoolIds
 /// A new server with this number: in mode auto, marked up, with nothing outstanding.
 pub(crate) fn new_server(id: u64, pools: &[Pool], spec: ServerSpec) -> Loaded
     requires { length pools.now ≤ 64 }
-    ensures { result ≡ server_of id pools.now spec }
+    ensures server { result ≡ server_of id pools.now spec }
+    ensures few { length spec.pools ≤ 8 }
 {
     let pools = stated_pools(pools, spec.pools.items.as_slice());
     Loaded {

@@ -1,8 +1,8 @@
 use Rattle.std.proofs.Common.{refl, ap, ◌∙◌}
 use Rattle.lb_servers.specs.Server.{change_server, with_one_more}
-use Rattle.lb_servers.proofs.IsPark.{written_back}
+use Rattle.lb_servers.proofs.AreBackends.{servers_back}
 use Rattle.lb_servers.proofs.park.Park.began.Goals as goal
 
 pub invariant_of-self : goal.invariant_of-self
 invariant_of-self c =
-    written_back c.args.id with_one_more (λ l. refl) c.self.inside.servers c.began.new.servers c.self.inside.pools.items c.self.inside.ranks (c.began.ensures ∙ ap (change_server c.args.id with_one_more) c.as_mut_slice.ensures.value) c.self.invariant
+    servers_back c.args.id with_one_more (λ l. refl) (λ l. refl) c.self.inside.servers c.began.new.servers _ _ c.self.inside.pools.items c.self.inside.ranks (c.began.ensures ∙ ap (change_server c.args.id with_one_more) c.as_mut_slice.ensures.value) c.self.invariant
