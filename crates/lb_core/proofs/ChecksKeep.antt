@@ -27,13 +27,20 @@ use Rattle.lb_servers.specs.Spec.{lacks_pool, new_server, stated_pools}
 use Rattle.lb_table.specs.declared.entry.Waiting.{Waiting}
 use Rattle.lb_core.specs.declared.check.Check.{Check}
 use Rattle.lb_core.specs.declared.check.CheckSpec.{CheckSpec}
-use Rattle.lb_core.specs.Upstream.{ByNumber, IsChecked, IsTied, IsUpstream, is_check, new_check, server_of}
+use Rattle.lb_core.specs.Upstream.{ByNumber, IsChecked, IsTied, IsUpstream, Upstreams, is_check, new_check, server_of}
 use Rattle.lb_core.proofs.Tied.{eq_numbers, left_by, same_number, still_servers, tied_mark, tied_mode, tied_policy, tied_pool, tied_removed, tied_server}
 
 -- what holds of both arms holds of the choice
 pub one_of : {X : Type 0} (P : X → Type 0) (b : Bool) (x y : X) → P x → P y → P (if b then x else y)
 one_of P true x y first second = first
 one_of P false x y first second = second
+
+-- what is seen of servers and their health checks: the next number, the servers, and their checks
+abbrev pub Shown : Type 0
+Shown = ℕ × List Server × List Check
+
+abbrev pub shown : Upstreams → Shown
+shown ups = (ups.next_server, ups.servers, ups.checks)
 
 -- what the servers and their checks keep true
 abbrev pub Marks : List Loaded → List Check → Type 0
@@ -65,7 +72,7 @@ ended_keeps park after checks t new server ended tied is =
     same_marks park after checks t new (ap servers ended ∙ still_servers with_one_less server park.servers (λ l. refl)) tied is
 
 -- what an edit leaves goes with these checks
-abbrev Kept : {A : Type 0} → List Check → Backends × A → Type 0
+abbrev pub Kept : {A : Type 0} → List Check → Backends × A → Type 0
 Kept {A} checks done = Marks done.0.servers checks
 
 -- edits of the pools leave the servers
@@ -120,24 +127,33 @@ abbrev pub checks_with : CheckSpec → List Check → Result ServerId ParkFault 
 checks_with check checks (Ok server) = checks ++ new_check server check ∷ []
 checks_with check checks (Err fault) = checks
 
-abbrev KeptWith : CheckSpec → List Check → Backends × Result ServerId ParkFault → Type 0
+abbrev pub KeptWith : CheckSpec → List Check → Backends × Result ServerId ParkFault → Type 0
 KeptWith check checks done = Marks done.0.servers (checks_with check checks done.1)
 
--- a server added with its check, or refused
-pub added_keeps : (check : CheckSpec) (checks : List Check) (t : List Waiting) (park new : Backends) (spec : ServerSpec) (given : Result ServerId ParkFault) →
-    (new, given) ≡ added_server (lacks given) park spec → IsUpstream park checks t → IsUpstream new (checks_with check checks given) t
-added_keeps check checks t park new spec given done is =
-    let marks = marks_of checks t park is in
+-- a server added with its check
+pub more_marks : (check : CheckSpec) (checks : List Check) (park : Backends) (spec : ServerSpec) → AllByRecursion (λ l. l.server.id.0 < park.next) park.servers → Marks park.servers checks →
+    Marks (park.servers ++ new_server park.next park.pools spec ∷ []) (checks ++ new_check (record { 0 = park.next }) check ∷ [])
+more_marks check checks park spec given marks =
     let l : Loaded = new_server park.next park.pools spec in
-    let more : Marks (park.servers ++ l ∷ []) (checks ++ new_check (record { 0 = park.next }) check ∷ []) =
-    (by_number_more park.servers l is.tied.given is.by_number, checked_more park.servers checks l (new_check (record { 0 = park.next }) check) refl refl is.checked) in
-    with_tie new (checks_with check checks given) t (subst (λ (p : Backends). IsTied p t) (sym (left_by new given _ done)) (tied_server t (lacks given) park spec is.tied))
-    (subst (KeptWith check checks) (sym done)
-    (one_of (KeptWith check checks) (lacks_pool park.pools (stated_pools spec.pools)) (park, Err faults.NoSuchPool) _ marks
+    (by_number_more park.servers l given marks.0, checked_more park.servers checks l (new_check (record { 0 = park.next }) check) refl refl marks.1)
+
+-- or refused
+added_marks : (check : CheckSpec) (checks : List Check) (lacking : Bool) (park : Backends) (spec : ServerSpec) → AllByRecursion (λ l. l.server.id.0 < park.next) park.servers →
+    Marks park.servers checks → KeptWith check checks (added_server lacking park spec)
+added_marks check checks lacking park spec given marks =
+    let l : Loaded = new_server park.next park.pools spec in
+    let more : Marks (park.servers ++ l ∷ []) (checks ++ new_check (record { 0 = park.next }) check ∷ []) = more_marks check checks park spec given marks in
+    one_of (KeptWith check checks) (lacks_pool park.pools (stated_pools spec.pools)) (park, Err faults.NoSuchPool) _ marks
     (one_of (KeptWith check checks) (is_some (server_named park.servers spec.name)) (park, Err faults.NameTaken) _ marks
     (one_of (KeptWith check checks) (nat_le max_servers (length park.servers)) (park, Err faults.TooMany) _ marks
     (one_of (KeptWith check checks) (park.next == 2 ^ 64) (park, Err faults.NoMoreIds) _ marks
-    (one_of (KeptWith check checks) (lacks given) (park, Err faults.NoMemory) (record park { next = park.next + 1; servers = park.servers ++ l ∷ [] }, Ok (record { 0 = park.next })) marks more))))))
+    (one_of (KeptWith check checks) lacking (park, Err faults.NoMemory) (record park { next = park.next + 1; servers = park.servers ++ l ∷ [] }, Ok (record { 0 = park.next })) marks more))))
+
+pub added_keeps : (check : CheckSpec) (checks : List Check) (t : List Waiting) (park new : Backends) (spec : ServerSpec) (given : Result ServerId ParkFault) →
+    (new, given) ≡ added_server (lacks given) park spec → IsUpstream park checks t → IsUpstream new (checks_with check checks given) t
+added_keeps check checks t park new spec given done is =
+    with_tie new (checks_with check checks given) t (subst (λ (p : Backends). IsTied p t) (sym (left_by new given _ done)) (tied_server t (lacks given) park spec is.tied))
+    (subst (KeptWith check checks) (sym done) (added_marks check checks (lacks given) park spec is.tied.given (marks_of checks t park is)))
 
 -- servers that are left stand by number
 above_if : (n : ℕ) (keeps : Bool) (l : Loaded) (ls : List Loaded) → n < l.server.id.0 → Above n ls → Above n (cond keeps (l ∷ ls) ls)
@@ -181,14 +197,19 @@ abbrev KeptWithout : ServerId → List Check → Backends × Result (Unit {0}) P
 KeptWithout id checks done = Marks done.0.servers (checks_without id checks done.1)
 
 -- a server taken out with its check, or not there
+pub left_marks : (checks : List Check) (park : Backends) (id : ServerId) → Marks park.servers checks → Marks (filter (λ l. not (is_server id l)) park.servers) (filter (λ c. not (is_check id c)) checks)
+left_marks checks park id marks = (by_number_left _ park.servers marks.0, checked_left id park.servers checks marks.1)
+
+removed_marks : (checks : List Check) (park : Backends) (id : ServerId) → Marks park.servers checks → KeptWithout id checks (removed_server park id)
+removed_marks checks park id marks =
+    one_of (KeptWithout id checks) (list_any (is_server id) park.servers) (record park { servers = filter (λ l. not (is_server id l)) park.servers }, Ok tt) (park, Err faults.NoSuchServer)
+    (left_marks checks park id marks) marks
+
 pub removed_keeps : (checks : List Check) (t : List Waiting) (park new : Backends) (id : ServerId) (given : Result (Unit {0}) ParkFault) →
     (new, given) ≡ removed_server park id → IsUpstream park checks t → IsUpstream new (checks_without id checks given) t
 removed_keeps checks t park new id given done is =
     with_tie new (checks_without id checks given) t (subst (λ (p : Backends). IsTied p t) (sym (left_by new given _ done)) (tied_removed t park id is.tied))
-    (subst (KeptWithout id checks) (sym done)
-    (one_of (KeptWithout id checks) (list_any (is_server id) park.servers) (record park { servers = filter (λ l. not (is_server id l)) park.servers }, Ok tt) (park, Err faults.NoSuchServer)
-    (by_number_left _ park.servers is.by_number, checked_left id park.servers checks is.checked)
-    (marks_of checks t park is)))
+    (subst (KeptWithout id checks) (sym done) (removed_marks checks park id (marks_of checks t park is)))
 
 -- servers that are changed, but not in their numbers, stand by number
 above_still : (n : ℕ) (change : Loaded → Loaded) (id : ServerId) (ls : List Loaded) → ((l : Loaded) → (change l).server.id ≡ l.server.id) → Above n ls → Above n (change_server id change ls)
@@ -214,12 +235,16 @@ checked_mode mode id (l ∷ ls) (c ∷ cs) all =
     (all.0 ∙ sym (same_number (with_mode mode) (is_server id l) l refl), all.1 ∙ sym (same_mark mode (is_server id l) l), checked_mode mode id ls cs all.2)
 
 -- a server put into a mode, or not there
+pub put_marks : (checks : List Check) (mode : Mode) (park : Backends) (id : ServerId) → Marks park.servers checks → Marks (change_server id (with_mode mode) park.servers) checks
+put_marks checks mode park id marks = (by_number_still (with_mode mode) id park.servers (λ l. refl) marks.0, checked_mode mode id park.servers checks marks.1)
+
+mode_marks : (checks : List Check) (mode : Mode) (park : Backends) (id : ServerId) → Marks park.servers checks → Kept checks (changed_server (with_mode mode) park id)
+mode_marks checks mode park id marks =
+    one_of {X = Backends × Result (Unit {0}) ParkFault} (Kept checks) (list_any (is_server id) park.servers) (record park { servers = change_server id (with_mode mode) park.servers }, Ok tt) (park, Err faults.NoSuchServer)
+    (put_marks checks mode park id marks) marks
+
 pub mode_keeps : (checks : List Check) (t : List Waiting) (mode : Mode) (park : Backends) (id : ServerId) → IsUpstream park checks t → IsUpstream (changed_server (with_mode mode) park id).0 checks t
-mode_keeps checks t mode park id is =
-    with_tie (changed_server (with_mode mode) park id).0 checks t (tied_mode t mode park id is.tied)
-    (one_of {X = Backends × Result (Unit {0}) ParkFault} (Kept checks) (list_any (is_server id) park.servers) (record park { servers = change_server id (with_mode mode) park.servers }, Ok tt) (park, Err faults.NoSuchServer)
-    (by_number_still (with_mode mode) id park.servers (λ l. refl) is.by_number, checked_mode mode id park.servers checks is.checked)
-    (marks_of checks t park is))
+mode_keeps checks t mode park id is = with_tie (changed_server (with_mode mode) park id).0 checks t (tied_mode t mode park id is.tied) (mode_marks checks mode park id (marks_of checks t park is))
 
 -- the health after a change
 abbrev pub up_after : Changed → Bool → Bool
@@ -248,11 +273,15 @@ checked_set [] (c ∷ cs) at check after here same up lt all = absurd all
 checked_set (l ∷ ls) (c ∷ cs) zero check after here same up lt all = (same ∙ ap (λ (x : Check). x.server) (sym here) ∙ all.0, up ∙ ap (λ (x : Check). x.health.up) (sym here) ∙ all.1, all.2)
 checked_set (l ∷ ls) (c ∷ cs) (suc at) check after here same up lt all = (all.0, all.1, checked_set ls cs at check after here same up (omega (arith, lt)) all.2)
 
+pub check_marks : (checks : List Check) (ls : List Loaded) (at : ℕ) (check after : Check) → check ≡ get_or checks at check → after.server ≡ check.server → after.health.up ≡ check.health.up →
+    at < length checks → Marks ls checks → Marks ls (slice_set checks at after)
+check_marks checks ls at check after here same now lt marks = (marks.0, checked_set ls checks at check after (sym here) same now lt marks.1)
+
 pub check_keeps : (checks : List Check) (t : List Waiting) (park : Backends) (at : ℕ) (check after : Check) →
     check ≡ get_or checks at check → after.server ≡ check.server → after.health.up ≡ check.health.up → at < length checks →
     IsUpstream park checks t → IsUpstream park (slice_set checks at after) t
 check_keeps checks t park at check after here same now lt is =
-    with_tie park (slice_set checks at after) t is.tied (is.by_number, checked_set park.servers checks at check after (sym here) same now lt is.checked)
+    with_tie park (slice_set checks at after) t is.tied (check_marks checks park.servers at check after here same now lt (marks_of checks t park is))
 
 -- a server is marked, or stays
 marked_one : (up : Bool) (b : Bool) (l : Loaded) → b ≡ true → up ≡ (change_if b (marked up) l).server.marked_up
@@ -328,14 +357,19 @@ first_of P true x y is first = first
 first_of P false x y is first = absurd (cc is)
 
 -- the check of a server changed to this health, and the server marked so
+pub mark_marks : (checks : List Check) (up : Bool) (park : Backends) (server : ServerId) (at : ℕ) (check after : Check) →
+    Some at ≡ position (is_check server) checks → check ≡ get_or checks at check → after.server ≡ check.server → after.health.up ≡ up →
+    Marks park.servers checks → Kept (slice_set checks at after) (changed_server (marked up) park server)
+mark_marks checks up park server at check after place here same now marks =
+    let found = position-Some (is_check server) checks at check (sym place) in
+    let its : (get_or checks at check).server.0 ≡ server.0 = eq_numbers _ _ found.1 in
+    let own : check.server.0 ≡ server.0 = ap (λ (x : Check). x.server.0) here ∙ its in
+    first_of {X = Backends × Result (Unit {0}) ParkFault} (Kept (slice_set checks at after)) (list_any (is_server server) park.servers) (record park { servers = change_server server (marked up) park.servers }, Ok tt) (park, Err faults.NoSuchServer)
+    (is_there server park.servers checks at check found.0 its marks.1)
+    (by_number_still (marked up) server park.servers (λ l. refl) marks.0, checked_mark up server park.servers checks at check after (sym here) own same now found.0 marks.0 marks.1)
+
 pub mark_keeps : (checks : List Check) (t : List Waiting) (up : Bool) (park : Backends) (server : ServerId) (at : ℕ) (check after : Check) →
     Some at ≡ position (is_check server) checks → check ≡ get_or checks at check → after.server ≡ check.server → after.health.up ≡ up →
     IsUpstream park checks t → IsUpstream (changed_server (marked up) park server).0 (slice_set checks at after) t
 mark_keeps checks t up park server at check after place here same now is =
-    let found = position-Some (is_check server) checks at check (sym place) in
-    let its : (get_or checks at check).server.0 ≡ server.0 = eq_numbers _ _ found.1 in
-    let own : check.server.0 ≡ server.0 = ap (λ (x : Check). x.server.0) here ∙ its in
-    with_tie (changed_server (marked up) park server).0 (slice_set checks at after) t (tied_mark t up park server is.tied)
-    (first_of {X = Backends × Result (Unit {0}) ParkFault} (Kept (slice_set checks at after)) (list_any (is_server server) park.servers) (record park { servers = change_server server (marked up) park.servers }, Ok tt) (park, Err faults.NoSuchServer)
-    (is_there server park.servers checks at check found.0 its is.checked)
-    (by_number_still (marked up) server park.servers (λ l. refl) is.by_number, checked_mark up server park.servers checks at check after (sym here) own same now found.0 is.by_number is.checked))
+    with_tie (changed_server (marked up) park server).0 (slice_set checks at after) t (tied_mark t up park server is.tied) (mark_marks checks up park server at check after place here same now (marks_of checks t park is))

@@ -82,6 +82,7 @@ use Rattle.lb_health.specs.Health.{result_of}
 use Rattle.lb_health.specs.declared.health.Changed.{Changed}
 use Rattle.lb_health.specs.declared.health.Changed.TheVariants as changes
 use Rattle.lb_table.specs.declared.entry.Waiting.{Waiting}
+use Rattle.lb_core.proofs.ChecksKeep.{Shown, shown}
 use Rattle.lb_core.proofs.Refusals.{IsSeen, left_of, own_chain, seen_at, told_of}
 
 -- a pool that is changed, but not in its name
@@ -95,53 +96,57 @@ turn_keeps true p = refl
 turn_keeps false p = refl
 
 -- what routes see of what stands upstream
-abbrev Seen : Type 0
+abbrev pub Seen : Type 0
 Seen = ℕ × List RoutePool × List AttachedCache
 
-abbrev seen_of : Upstreams → Seen
+abbrev pub seen_of : Upstreams → Seen
 seen_of ups = (ups.next_cache, map route_of ups.pools, ups.caches)
 
 -- the routes that see this of it
 abbrev seen_by : Routes → Seen → Routes
 seen_by routes seen = record routes { next_cache = seen.0; pools = seen.1; caches = seen.2 }
 
+-- that, and the servers with their health checks
+abbrev pub whole_of : Upstreams → Seen × Shown
+whole_of ups = (seen_of ups, shown ups)
+
 -- forwarding changes nothing of it
-sent_names : (ups : Upstreams) (asked : Asked) (bytes : List ℕ) (view : QueryView) (routed : Routed) (ask : Option (CacheId × Key)) (server : ServerId) (id : Option ℕ) → seen_of (sent ups asked bytes view routed ask server id).0 ≡ seen_of ups
+sent_names : (ups : Upstreams) (asked : Asked) (bytes : List ℕ) (view : QueryView) (routed : Routed) (ask : Option (CacheId × Key)) (server : ServerId) (id : Option ℕ) → whole_of (sent ups asked bytes view routed ask server id).0 ≡ whole_of ups
 sent_names ups asked bytes view routed ask server None = refl
 sent_names ups asked bytes view routed ask server (Some id) = refl
 
 pick_names : (ups after : Upstreams) (asked : Asked) (bytes : List ℕ) (view : QueryView) (routed : Routed) (ask : Option (CacheId × Key)) (server : Option ServerId) (answer : Answer) →
-    PickForwards ups asked bytes view routed ask server answer after → seen_of after ≡ seen_of ups
-pick_names ups after asked bytes view routed ask None answer is = ap seen_of (left_of after answer _ is)
+    PickForwards ups asked bytes view routed ask server answer after → whole_of after ≡ whole_of ups
+pick_names ups after asked bytes view routed ask None answer is = ap whole_of (left_of after answer _ is)
 pick_names ups after asked bytes view routed ask (Some server) answer is =
-    ap seen_of (left_of after answer (sent (with_turn routed.pool ups) asked bytes view routed ask server is.0) is.2)
+    ap whole_of (left_of after answer (sent (with_turn routed.pool ups) asked bytes view routed ask server is.0) is.2)
     ∙ sent_names (with_turn routed.pool ups) asked bytes view routed ask server is.0
-    ∙ ap (λ (pools : List RoutePool). (ups.next_cache, pools, ups.caches)) (still_named turned_if routed.pool.0 ups.pools (λ p. turn_keeps (takes_turns (Some p.policy)) p))
+    ∙ ap (λ (pools : List RoutePool). ((ups.next_cache, pools, ups.caches), shown ups)) (still_named turned_if routed.pool.0 ups.pools (λ p. turn_keeps (takes_turns (Some p.policy)) p))
 
 found_names : (ups after : Upstreams) (asked : Asked) (bytes : List ℕ) (view : QueryView) (routed : Routed) (ask : CacheId × Key) (hit : Option (List ℕ × ℕ)) (answer : Answer) →
-    FoundAnswers ups asked bytes view routed ask hit answer after → seen_of after ≡ seen_of ups
+    FoundAnswers ups asked bytes view routed ask hit answer after → whole_of after ≡ whole_of ups
 found_names ups after asked bytes view routed ask None answer is = pick_names ups after asked bytes view routed (Some ask) (picked_of ups routed.pool) answer is
-found_names ups after asked bytes view routed ask (Some hit) answer is = ap seen_of (left_of after answer _ is.2)
+found_names ups after asked bytes view routed ask (Some hit) answer is = ap whole_of (left_of after answer _ is.2)
 
 ask_names : (ups after : Upstreams) (asked : Asked) (bytes : List ℕ) (view : QueryView) (routed : Routed) (ask : Option (CacheId × Key)) (answer : Answer) →
-    AskAnswers ups asked bytes view routed ask answer after → seen_of after ≡ seen_of ups
+    AskAnswers ups asked bytes view routed ask answer after → whole_of after ≡ whole_of ups
 ask_names ups after asked bytes view routed None answer is = pick_names ups after asked bytes view routed None (picked_of ups routed.pool) answer is
 ask_names ups after asked bytes view routed (Some ask) answer is = found_names ups after asked bytes view routed ask (looked_in ups.kept ask.0 ask.1 asked.moment) answer is
 
-pool_names : (ups after : Upstreams) (asked : Asked) (bytes : List ℕ) (view : QueryView) (routed : Routed) (answer : Answer) → PoolAnswers ups asked bytes view routed answer after → seen_of after ≡ seen_of ups
+pool_names : (ups after : Upstreams) (asked : Asked) (bytes : List ℕ) (view : QueryView) (routed : Routed) (answer : Answer) → PoolAnswers ups asked bytes view routed answer after → whole_of after ≡ whole_of ups
 pool_names ups after asked bytes view routed answer is = ask_names ups after asked bytes view routed (ask_of (cache_at ups.pools routed.pool.0) asked.kind bytes view routed) answer is
 
 rule_names : (ups after : Upstreams) (asked : Asked) (bytes : List ℕ) (view : QueryView) (walked : Walked) (rule : RuleId) (verdict : Verdict) (answer : Answer) →
-    RuleDecides ups asked bytes view walked rule verdict answer after → seen_of after ≡ seen_of ups
+    RuleDecides ups asked bytes view walked rule verdict answer after → whole_of after ≡ whole_of ups
 rule_names ups after asked bytes view walked rule verdicts.Allow answer is = pool_names ups after asked bytes view (to_pool walked default_pool) answer is
 rule_names ups after asked bytes view walked rule (verdicts.Pool pool) answer is = pool_names ups after asked bytes view (to_pool walked pool) answer is
-rule_names ups after asked bytes view walked rule verdicts.Drop answer is = ap seen_of (left_of after answer _ is)
-rule_names ups after asked bytes view walked rule (verdicts.Rcode rcode) answer is = ap seen_of (left_of after answer _ is)
-rule_names ups after asked bytes view walked rule verdicts.Tc answer is = ap seen_of (left_of after answer _ is)
-rule_names ups after asked bytes view walked rule (verdicts.Spoof addrs) answer is = ap seen_of (left_of after answer _ is)
+rule_names ups after asked bytes view walked rule verdicts.Drop answer is = ap whole_of (left_of after answer _ is)
+rule_names ups after asked bytes view walked rule (verdicts.Rcode rcode) answer is = ap whole_of (left_of after answer _ is)
+rule_names ups after asked bytes view walked rule verdicts.Tc answer is = ap whole_of (left_of after answer _ is)
+rule_names ups after asked bytes view walked rule (verdicts.Spoof addrs) answer is = ap whole_of (left_of after answer _ is)
 
-end_names : (ups after : Upstreams) (asked : Asked) (bytes : List ℕ) (view : QueryView) (walked : Walked) (rule : Option RuleId) (answer : Answer) →
-    EndDecides ups asked bytes view walked rule answer after → seen_of after ≡ seen_of ups
+pub end_names : (ups after : Upstreams) (asked : Asked) (bytes : List ℕ) (view : QueryView) (walked : Walked) (rule : Option RuleId) (answer : Answer) →
+    EndDecides ups asked bytes view walked rule answer after → whole_of after ≡ whole_of ups
 end_names ups after asked bytes view walked None answer is = pool_names ups after asked bytes view (to_pool walked default_pool) answer is
 end_names ups after asked bytes view walked (Some rule) answer is = rule_names ups after asked bytes view walked rule walked.verdict answer is
 
@@ -155,7 +160,7 @@ walk_follows true p new asked bytes view answer step = ap routes_of (left_of new
 walk_follows false p new asked bytes view answer step =
     let walked = walked_of p asked view in
     ap routes_of step.2
-    ∙ ap (seen_by (routes_of (with_passes asked walked p))) (end_names (upstreams_of p) step.0 asked bytes view walked walked.rule answer step.1)
+    ∙ ap (λ (w : Seen × Shown). seen_by (routes_of (with_passes asked walked p)) w.0) (end_names (upstreams_of p) step.0 asked bytes view walked walked.rule answer step.1)
 
 read_follows : (transfer mark : Bool) (p new : Plain) (asked : Asked) (bytes : List ℕ) (view : QueryView) (answer : Answer) →
     ReadSteps transfer mark p asked bytes view answer new → routes_of new ≡ passed_unless (transfer || mark) (routes_of p) asked view
@@ -171,20 +176,20 @@ query_follows p new now origin kind word bytes (Ok view) answer step = read_foll
 
 -- a reply changes nothing of it
 belongs_pools : (fits mark : Bool) (ups after : Upstreams) (place : Place) (moment : ℕ) (bytes : List ℕ) (view : ReplyView) (entry : Entry) (answer : Answer) →
-    BelongsOrNot fits mark ups place moment bytes view entry answer after → seen_of after ≡ seen_of ups
-belongs_pools true mark ups after place moment bytes view entry answer step = ap seen_of (left_of after answer _ step.3)
-belongs_pools false mark ups after place moment bytes view entry answer step = ap seen_of (left_of after answer _ step)
+    BelongsOrNot fits mark ups place moment bytes view entry answer after → whole_of after ≡ whole_of ups
+belongs_pools true mark ups after place moment bytes view entry answer step = ap whole_of (left_of after answer _ step.3)
+belongs_pools false mark ups after place moment bytes view entry answer step = ap whole_of (left_of after answer _ step)
 
 held_pools : (mark : Bool) (ups after : Upstreams) (place : Place) (moment : ℕ) (bytes : List ℕ) (view : ReplyView) (entry : Option Entry) (answer : Answer) →
-    HeldAgainst mark ups place moment bytes view entry answer after → seen_of after ≡ seen_of ups
-held_pools mark ups after place moment bytes view None answer step = ap seen_of (left_of after answer _ step)
+    HeldAgainst mark ups place moment bytes view entry answer after → whole_of after ≡ whole_of ups
+held_pools mark ups after place moment bytes view None answer step = ap whole_of (left_of after answer _ step)
 held_pools mark ups after place moment bytes view (Some entry) answer step =
     belongs_pools (belongs view entry.name entry.qtype entry.qclass) mark ups after place moment bytes view entry answer step
 
-reply_pools : (mark : Bool) (ups after : Upstreams) (server : ServerId) (lane : Lane) (moment : ℕ) (bytes : List ℕ) (reading : Result ReplyView ReplyFault) (answer : Answer) →
-    ReplySteps mark ups server lane moment bytes reading answer after → seen_of after ≡ seen_of ups
-reply_pools mark ups after server lane moment bytes (Err reply_faults.Short) answer step = ap seen_of (left_of after answer _ step)
-reply_pools mark ups after server lane moment bytes (Err reply_faults.NotReply) answer step = ap seen_of (left_of after answer _ step)
+pub reply_pools : (mark : Bool) (ups after : Upstreams) (server : ServerId) (lane : Lane) (moment : ℕ) (bytes : List ℕ) (reading : Result ReplyView ReplyFault) (answer : Answer) →
+    ReplySteps mark ups server lane moment bytes reading answer after → whole_of after ≡ whole_of ups
+reply_pools mark ups after server lane moment bytes (Err reply_faults.Short) answer step = ap whole_of (left_of after answer _ step)
+reply_pools mark ups after server lane moment bytes (Err reply_faults.NotReply) answer step = ap whole_of (left_of after answer _ step)
 reply_pools mark ups after server lane moment bytes (Ok view) answer step =
     held_pools mark ups after (at_place server lane view.id) moment bytes view (entry_at ups.outstanding (at_place server lane view.id)) answer step
 
@@ -406,9 +411,9 @@ edit_follows mark p now Show seen = refl
 edit_follows mark p now (SetTimeout timeout) seen = refl
 
 -- nor does a tick or a health result
-tick_pools : (ups after : Upstreams) (now : ℕ) (w : Option Waiting) (answer : Answer) → Ends ups now w answer after → seen_of after ≡ seen_of ups
-tick_pools ups after now None answer step = ap seen_of (left_of after answer _ step)
-tick_pools ups after now (Some w) answer step = ap seen_of (left_of after answer _ step.2)
+pub tick_pools : (ups after : Upstreams) (now : ℕ) (w : Option Waiting) (answer : Answer) → Ends ups now w answer after → whole_of after ≡ whole_of ups
+tick_pools ups after now None answer step = ap whole_of (left_of after answer _ step)
+tick_pools ups after now (Some w) answer step = ap whole_of (left_of after answer _ step.2)
 
 same_seen_if : {A : Type 0} (ups : Upstreams) (b : Bool) (x y : Backends × A) (seen : Seen) → seen_of (with_backends x.0 ups) ≡ seen → seen_of (with_backends y.0 ups) ≡ seen → seen_of (with_backends (if b then x else y).0 ups) ≡ seen
 same_seen_if ups true x y seen first second = first
@@ -438,12 +443,12 @@ step_follows p new (Query now origin kind word bytes) (OfReply reading) answer s
 step_follows p new (Query now origin kind word bytes) OfNone answer seen step = absurd step
 step_follows p new (Reply now server lane bytes) (OfReply reading) answer seen step =
     ap routes_of step.2
-    ∙ upstream_routes p (step.0, answer) (reply_pools (marked answer) (upstreams_of p) step.0 server lane p.moment bytes reading answer step.1)
+    ∙ upstream_routes p (step.0, answer) (ap (λ (w : Seen × Shown). w.0) (reply_pools (marked answer) (upstreams_of p) step.0 server lane p.moment bytes reading answer step.1))
 step_follows p new (Reply now server lane bytes) (OfQuery reading) answer seen step = absurd step
 step_follows p new (Reply now server lane bytes) OfNone answer seen step = absurd step
 step_follows p new (Tick now) OfNone answer seen step =
     ap routes_of step.2
-    ∙ upstream_routes p (step.0, answer) (tick_pools (upstreams_of p) step.0 p.moment (due p.moment p.outstanding) answer step.1)
+    ∙ upstream_routes p (step.0, answer) (ap (λ (w : Seen × Shown). w.0) (tick_pools (upstreams_of p) step.0 p.moment (due p.moment p.outstanding) answer step.1))
 step_follows p new (Tick now) (OfQuery reading) answer seen step = absurd step
 step_follows p new (Tick now) (OfReply reading) answer seen step = absurd step
 step_follows p new (HealthResult now server ok) OfNone answer seen step =

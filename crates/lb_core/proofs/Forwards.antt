@@ -18,9 +18,10 @@ use Rattle.lb_servers.specs.Pool.{cache_at}
 use Rattle.lb_cache.specs.Caches.{looked_in, name_of_key}
 use Rattle.lb_core.specs.declared.asked.Asked.{Asked}
 use Rattle.lb_core.specs.declared.asked.Routed.{Routed}
+use Rattle.lb_health.specs.declared.health.Changed.TheVariants as changes
 use Rattle.lb_core.specs.declared.answer.Answer.{Answer}
 use Rattle.lb_core.specs.declared.answer.Answer.TheVariants.{Forward}
-use Rattle.lb_core.specs.Answer.{is_refused, marked}
+use Rattle.lb_core.specs.Answer.{change_told, is_refused, marked}
 use Rattle.lb_core.specs.Upstream.{Upstreams, IsAsked, SendsBy, picked_of, with_entry, with_turn}
 use Rattle.lb_core.specs.Forward.{Forwards, PickForwards, entry_of, lane_of, sent, sent_of, with_id}
 use Rattle.lb_core.specs.Look.{AskAnswers, FoundAnswers, PoolAnswers, ask_of}
@@ -51,24 +52,24 @@ asked_by ups asked bytes view (Some ask) reads key = record { view = view; reads
 told_by : (new : Upstreams) (answer : Answer) (done : Upstreams × Answer) → (new, answer) ≡ done → answer ≡ done.1
 told_by new answer done is = ap (λ (d : Upstreams × Answer). d.1) is
 
--- neither a mark nor a refusal
+-- neither a mark nor a refusal, nor the change of a server
 abbrev IsPlain : Answer → Type 0
-IsPlain answer = (marked answer ≡ false) × (is_refused answer ≡ false)
+IsPlain answer = (marked answer ≡ false) × (is_refused answer ≡ false) × ((server : ServerId) → change_told server answer ≡ changes.No)
 
 sent_plain : (ups : Upstreams) (asked : Asked) (bytes : List ℕ) (view : QueryView) (routed : Routed) (ask : Option (CacheId × Key)) (server : ServerId) (id : Option ℕ) → IsPlain (sent ups asked bytes view routed ask server id).1
-sent_plain ups asked bytes view routed ask server None = (refl, refl)
-sent_plain ups asked bytes view routed ask server (Some id) = (refl, refl)
+sent_plain ups asked bytes view routed ask server None = (refl, refl, λ s. refl)
+sent_plain ups asked bytes view routed ask server (Some id) = (refl, refl, λ s. refl)
 
 picked_plain : (ups new : Upstreams) (asked : Asked) (bytes : List ℕ) (view : QueryView) (routed : Routed) (ask : Option (CacheId × Key)) (server : Option ServerId) (answer : Answer) →
     PickForwards ups asked bytes view routed ask server answer new → IsPlain answer
-picked_plain ups new asked bytes view routed ask None answer is = subst IsPlain (sym (told_by new answer _ is)) (refl, refl)
+picked_plain ups new asked bytes view routed ask None answer is = subst IsPlain (sym (told_by new answer _ is)) (refl, refl, λ s. refl)
 picked_plain ups new asked bytes view routed ask (Some server) answer is =
     subst IsPlain (sym (told_by new answer (sent (with_turn routed.pool ups) asked bytes view routed ask server is.0) is.2)) (sent_plain (with_turn routed.pool ups) asked bytes view routed ask server is.0)
 
 found_plain : (ups new : Upstreams) (asked : Asked) (bytes : List ℕ) (view : QueryView) (routed : Routed) (ask : CacheId × Key) (hit : Option (List ℕ × ℕ)) (answer : Answer) →
     FoundAnswers ups asked bytes view routed ask hit answer new → IsPlain answer
 found_plain ups new asked bytes view routed ask None answer is = picked_plain ups new asked bytes view routed (Some ask) (picked_of ups routed.pool) answer is
-found_plain ups new asked bytes view routed ask (Some hit) answer is = subst IsPlain (sym (told_by new answer _ is.2)) (refl, refl)
+found_plain ups new asked bytes view routed ask (Some hit) answer is = subst IsPlain (sym (told_by new answer _ is.2)) (refl, refl, λ s. refl)
 
 asked_plain : (ups new : Upstreams) (asked : Asked) (bytes : List ℕ) (view : QueryView) (routed : Routed) (ask : Option (CacheId × Key)) (answer : Answer) →
     AskAnswers ups asked bytes view routed ask answer new → IsPlain answer
@@ -82,12 +83,12 @@ ruled_plain : (ups new : Upstreams) (asked : Asked) (bytes : List ℕ) (view : Q
     RuleDecides ups asked bytes view walked rule verdict answer new → IsPlain answer
 ruled_plain ups new asked bytes view walked rule verdicts.Allow answer is = pool_plain ups new asked bytes view (to_pool walked default_pool) answer is
 ruled_plain ups new asked bytes view walked rule (verdicts.Pool pool) answer is = pool_plain ups new asked bytes view (to_pool walked pool) answer is
-ruled_plain ups new asked bytes view walked rule verdicts.Drop answer is = subst IsPlain (sym (told_by new answer _ is)) (refl, refl)
-ruled_plain ups new asked bytes view walked rule (verdicts.Rcode rcode) answer is = subst IsPlain (sym (told_by new answer _ is)) (refl, refl)
-ruled_plain ups new asked bytes view walked rule verdicts.Tc answer is = subst IsPlain (sym (told_by new answer _ is)) (refl, refl)
-ruled_plain ups new asked bytes view walked rule (verdicts.Spoof addrs) answer is = subst IsPlain (sym (told_by new answer _ is)) (refl, refl)
+ruled_plain ups new asked bytes view walked rule verdicts.Drop answer is = subst IsPlain (sym (told_by new answer _ is)) (refl, refl, λ s. refl)
+ruled_plain ups new asked bytes view walked rule (verdicts.Rcode rcode) answer is = subst IsPlain (sym (told_by new answer _ is)) (refl, refl, λ s. refl)
+ruled_plain ups new asked bytes view walked rule verdicts.Tc answer is = subst IsPlain (sym (told_by new answer _ is)) (refl, refl, λ s. refl)
+ruled_plain ups new asked bytes view walked rule (verdicts.Spoof addrs) answer is = subst IsPlain (sym (told_by new answer _ is)) (refl, refl, λ s. refl)
 
 pub ended_plain : (ups new : Upstreams) (asked : Asked) (bytes : List ℕ) (view : QueryView) (walked : Walked) (rule : Option RuleId) (answer : Answer) →
-    EndDecides ups asked bytes view walked rule answer new → (marked answer ≡ false) × (is_refused answer ≡ false)
+    EndDecides ups asked bytes view walked rule answer new → (marked answer ≡ false) × (is_refused answer ≡ false) × ((server : ServerId) → change_told server answer ≡ changes.No)
 ended_plain ups new asked bytes view walked None answer is = pool_plain ups new asked bytes view (to_pool walked default_pool) answer is
 ended_plain ups new asked bytes view walked (Some rule) answer is = ruled_plain ups new asked bytes view walked rule walked.verdict answer is

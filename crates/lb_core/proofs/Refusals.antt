@@ -1,5 +1,5 @@
 -- Refused events change nothing but the moment.
-use Rattle.std.proofs.Common.{◌≡◌, ℕ, Bool, true, false, List, [], ◌∷◌, map, max, Option, None, Some, Result, Ok, Err, refl, sym, ◌∙◌, ap, arith}
+use Rattle.std.proofs.Common.{◌≡◌, ℕ, Bool, true, false, List, [], ◌∷◌, map, max, Option, None, Some, Result, Ok, Err, refl, sym, ◌∙◌, ap, arith, subst}
 use Rattle.std.proofs.lemmas.Bool.{both_ways}
 use Rattle.lb_wire.specs.Belongs.{belongs}
 use Rattle.lb_wire.specs.declared.ids.CacheId.{CacheId}
@@ -41,7 +41,7 @@ use Rattle.lb_core.specs.declared.command.Command.TheVariants.{RuleAdd, RuleRemo
 use Rattle.lb_core.specs.declared.answer.Answer.{Answer}
 use Rattle.lb_core.specs.declared.answer.Note.{Note}
 use Rattle.lb_core.specs.declared.answer.Note.TheVariants as notes
-use Rattle.lb_core.specs.Answer.{is_refused, marked}
+use Rattle.lb_core.specs.Answer.{change_told, is_refused, marked}
 use Rattle.lb_core.specs.Plain.{Plain, at_plain, chain_of, upstreams_of, with_chain, with_upstreams}
 use Rattle.lb_core.specs.Upstream.{Upstreams, added_checked, attached_cache, attached_if, backends_of, checked_by, detached_if, loaded_by, on_backends, put_into, removed_checked, server_of, unchecked_by, with_backends}
 use Rattle.lb_core.specs.Edit.{attached_to, cache_told, detached_from, edit_of, expunged_from, expunged_of, place_or_end, pool_edited, rule_added, rule_by, rules_told, server_by, server_edited, servers_told, upstream_changed, upstream_edited, upstream_told}
@@ -67,7 +67,7 @@ seen_at twice now old = twice (max old.moment now) (max old.moment now) old.rule
 pub own_chain : (p : Plain) → IsSeen p → with_chain (chain_of p) p ≡ p
 own_chain p seen = ap (λ (rules : List Numbered). record p { rules = rules }) seen
 
-uncounted : (t : List Waiting) (servers : List Server) → map server_of (map (loaded_by t) servers) ≡ servers
+pub uncounted : (t : List Waiting) (servers : List Server) → map server_of (map (loaded_by t) servers) ≡ servers
 uncounted t [] = refl
 uncounted t (s ∷ servers) = ap (λ (ss : List Server). s ∷ ss) (uncounted t servers)
 
@@ -216,29 +216,32 @@ kept_query mark p new asked bytes (Err query_faults.NotQuery) answer step is = l
 kept_query mark p new asked bytes (Err query_faults.Malformed) answer step is = left_of new answer _ step
 kept_query mark p new asked bytes (Ok view) answer step is = kept_read (is_transfer view.qtype.0) mark p new asked bytes view answer step is
 
--- no reply is refused
+-- no reply is refused, nor does its answer tell the change of a server
+abbrev pub Untold : Answer → Type 0
+Untold answer = (is_refused answer ≡ false) × ((server : ServerId) → change_told server answer ≡ changes.No)
+
 taken_belongs : (fits mark : Bool) (ups after : Upstreams) (place : Place) (moment : ℕ) (bytes : List ℕ) (view : ReplyView) (entry : Entry) (answer : Answer) →
-    BelongsOrNot fits mark ups place moment bytes view entry answer after → is_refused answer ≡ false
-taken_belongs true mark ups after place moment bytes view entry answer step = ap is_refused (told_of after answer _ step.3)
-taken_belongs false mark ups after place moment bytes view entry answer step = ap is_refused (told_of after answer _ step)
+    BelongsOrNot fits mark ups place moment bytes view entry answer after → Untold answer
+taken_belongs true mark ups after place moment bytes view entry answer step = subst Untold (sym (told_of after answer _ step.3)) (refl, λ s. refl)
+taken_belongs false mark ups after place moment bytes view entry answer step = subst Untold (sym (told_of after answer _ step)) (refl, λ s. refl)
 
 taken_held : (mark : Bool) (ups after : Upstreams) (place : Place) (moment : ℕ) (bytes : List ℕ) (view : ReplyView) (entry : Option Entry) (answer : Answer) →
-    HeldAgainst mark ups place moment bytes view entry answer after → is_refused answer ≡ false
-taken_held mark ups after place moment bytes view None answer step = ap is_refused (told_of after answer _ step)
+    HeldAgainst mark ups place moment bytes view entry answer after → Untold answer
+taken_held mark ups after place moment bytes view None answer step = subst Untold (sym (told_of after answer _ step)) (refl, λ s. refl)
 taken_held mark ups after place moment bytes view (Some entry) answer step =
     taken_belongs (belongs view entry.name entry.qtype entry.qclass) mark ups after place moment bytes view entry answer step
 
-taken_reply : (mark : Bool) (ups after : Upstreams) (server : ServerId) (lane : Lane) (moment : ℕ) (bytes : List ℕ) (reading : Result ReplyView ReplyFault) (answer : Answer) →
-    ReplySteps mark ups server lane moment bytes reading answer after → is_refused answer ≡ false
-taken_reply mark ups after server lane moment bytes (Err reply_faults.Short) answer step = ap is_refused (told_of after answer _ step)
-taken_reply mark ups after server lane moment bytes (Err reply_faults.NotReply) answer step = ap is_refused (told_of after answer _ step)
+pub taken_reply : (mark : Bool) (ups after : Upstreams) (server : ServerId) (lane : Lane) (moment : ℕ) (bytes : List ℕ) (reading : Result ReplyView ReplyFault) (answer : Answer) →
+    ReplySteps mark ups server lane moment bytes reading answer after → Untold answer
+taken_reply mark ups after server lane moment bytes (Err reply_faults.Short) answer step = subst Untold (sym (told_of after answer _ step)) (refl, λ s. refl)
+taken_reply mark ups after server lane moment bytes (Err reply_faults.NotReply) answer step = subst Untold (sym (told_of after answer _ step)) (refl, λ s. refl)
 taken_reply mark ups after server lane moment bytes (Ok view) answer step =
     taken_held mark ups after (at_place server lane view.id) moment bytes view (entry_at ups.outstanding (at_place server lane view.id)) answer step
 
 -- no tick and no health result is refused
-taken_tick : (ups after : Upstreams) (now : ℕ) (w : Option Waiting) (answer : Answer) → Ends ups now w answer after → is_refused answer ≡ false
-taken_tick ups after now None answer step = ap is_refused (told_of after answer _ step)
-taken_tick ups after now (Some w) answer step = ap is_refused (told_of after answer _ step.2)
+pub taken_tick : (ups after : Upstreams) (now : ℕ) (w : Option Waiting) (answer : Answer) → Ends ups now w answer after → Untold answer
+taken_tick ups after now None answer step = subst Untold (sym (told_of after answer _ step)) (refl, λ s. refl)
+taken_tick ups after now (Some w) answer step = subst Untold (sym (told_of after answer _ step.2)) (refl, λ s. refl)
 
 taken_result : (server : ServerId) (change : Option Changed) → is_refused (result_told server change) ≡ false
 taken_result server None = refl
@@ -251,10 +254,10 @@ kept_step p new (Query now origin kind word bytes) (OfQuery reading) answer seen
 kept_step p new (Query now origin kind word bytes) (OfReply reading) answer seen step is = absurd step
 kept_step p new (Query now origin kind word bytes) OfNone answer seen step is = absurd step
 kept_step p new (Reply now server lane bytes) (OfReply reading) answer seen step is =
-    absurd (both_ways (is_refused answer) (taken_reply (marked answer) (upstreams_of p) step.0 server lane p.moment bytes reading answer step.1) is)
+    absurd (both_ways (is_refused answer) (taken_reply (marked answer) (upstreams_of p) step.0 server lane p.moment bytes reading answer step.1).0 is)
 kept_step p new (Reply now server lane bytes) (OfQuery reading) answer seen step is = absurd step
 kept_step p new (Reply now server lane bytes) OfNone answer seen step is = absurd step
-kept_step p new (Tick now) OfNone answer seen step is = absurd (both_ways (is_refused answer) (taken_tick (upstreams_of p) step.0 p.moment (due p.moment p.outstanding) answer step.1) is)
+kept_step p new (Tick now) OfNone answer seen step is = absurd (both_ways (is_refused answer) (taken_tick (upstreams_of p) step.0 p.moment (due p.moment p.outstanding) answer step.1).0 is)
 kept_step p new (Tick now) (OfQuery reading) answer seen step is = absurd step
 kept_step p new (Tick now) (OfReply reading) answer seen step is = absurd step
 kept_step p new (HealthResult now server ok) OfNone answer seen step is =

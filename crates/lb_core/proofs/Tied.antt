@@ -88,7 +88,7 @@ pub same_number : (change : Loaded → Loaded) (b : Bool) (l : Loaded) → (chan
 same_number change true l is = is
 same_number change false l is = refl
 
-given_still : (next : ℕ) (change : Loaded → Loaded) (id : ServerId) (servers : List Loaded) → ((l : Loaded) → (change l).server.id ≡ l.server.id) →
+pub given_still : (next : ℕ) (change : Loaded → Loaded) (id : ServerId) (servers : List Loaded) → ((l : Loaded) → (change l).server.id ≡ l.server.id) →
     AllByRecursion (λ l. l.server.id.0 < next) servers → AllByRecursion (λ l. l.server.id.0 < next) (change_server id change servers)
 given_still next change id [] keeps all = tt
 given_still next change id (l ∷ servers) keeps all =

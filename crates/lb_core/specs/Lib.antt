@@ -48,3 +48,4 @@ pub mod Step
 pub mod Provenance
 pub mod Runs
 pub mod Snapshot
+pub mod Laws

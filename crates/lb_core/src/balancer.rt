@@ -1,10 +1,10 @@
 //! The balancer and its step.
 
 ghost use Rattle.std.specs.Prelude.{◌≡◌, IfOk};
+ghost use Rattle.lb_core.specs.Laws.{AreLists, AreMarked};
 ghost use Rattle.lb_core.specs.Plain.{empty};
 ghost use Rattle.lb_core.specs.Snapshot.{snapshot_of, IsShown};
 ghost use Rattle.lb_core.specs.Step.{Answers};
-ghost use Rattle.lb_core.specs.Upstream.{ByNumber, IsChecked};
 
 use crate::answer::Answer;
 use crate::asked::Asked;
@@ -16,7 +16,7 @@ use crate::plain::Plain;
 use crate::query::answer_query;
 use crate::reply::answer_reply;
 use crate::upstream::Upstream;
-use lb_chain::{Chain, seen_have_own_limiters, seen_twice};
+use lb_chain::{Chain, seen_are_rules, seen_have_own_limiters, seen_twice};
 use std::alloc::{AllocError, Global};
 use std::marker::Model;
 
@@ -61,21 +61,33 @@ impl Balancer {
     }
 
     /// A law: each server has one health check with its number, and its mark is what its health says; the servers stand by
-    /// number. It does nothing.
+    /// number, each below the next. It does nothing.
     pub fn law_of_health(&self)
-        ensures numbers { ByNumber self.now.servers }
-        ensures checks { IsChecked self.now.servers self.now.checks }
+        ensures { AreMarked self.now }
     {
         self.upstream.law_of_health();
     }
 
-    /// A snapshot: all that the answers from now on depend on. Two balancers with equal snapshots answer alike ever after, by the
-    /// law `equal_snapshots_have_equal_runs`. The one error is want of memory.
+    /// A law: the order and the bounds of each list of the plain state. It does nothing.
+    pub fn law_of_lists(&self)
+        ensures { AreLists self.now }
+    {
+        // Laws, which do nothing.
+        seen_are_rules();
+        self.chain.law_of_list();
+        self.upstream.law_of_health();
+        self.upstream.law_of_lists();
+    }
+
+    /// A snapshot: all that the answers from now on depend on, its lists in the order of `law_of_lists`. Two balancers with equal
+    /// snapshots answer alike ever after, by the law `equal_snapshots_have_equal_runs`. The one error is want of memory.
     pub fn snapshot(&self, alloc: Global) -> Result<Plain, AllocError>
         ensures value { IfOk result (λ plain. plain ≡ snapshot_of self.now) }
         ensures shown { IsShown self.now }
+        ensures lists { AreLists self.now }
     {
         // Laws, which do nothing.
+        self.law_of_lists();
         self.chain.law_of_rules();
         seen_have_own_limiters();
         seen_twice();

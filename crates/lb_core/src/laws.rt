@@ -2,6 +2,7 @@
 //! nothing but bring it to the caller's proof.
 
 ghost use Rattle.std.specs.Thread.{IsSend, IsSync};
+ghost use Rattle.lb_core.specs.Laws.{MarksFollowResults};
 ghost use Rattle.lb_core.specs.Runs.{CachedAnswersAreKeptReplies, HitsComeFromReplies, OneRunPerMarks, TicksEndTheDue};
 ghost use Rattle.lb_core.specs.Snapshot.{EqualSnapshotsEqualRuns, EqualSnapshotsEqualStates};
 ghost use Rattle.lb_core.specs.Step.{RefusalsChangeNothing, RoutesFollow};
@@ -10,6 +11,7 @@ ghost use Rattle.lb_core.specs.contracts.event.Event as event;
 ghost use Rattle.lb_core.specs.contracts.plain.Plain as plain;
 
 use lb_chain::{chains_cross_threads, listed_alike_seen_alike, seen_twice};
+use lb_health::last_of_a_row_from;
 use lb_terms::terms_cross_threads;
 use lb_wire::{one_message, one_reading, one_reply_reading, one_survey};
 
@@ -61,6 +63,15 @@ pub fn hits_come_from_replies()
     ensures { HitsComeFromReplies }
 {
     routes_follow();
+}
+
+/// In every run a server's health, and its mark, follow from the results given since it was added, whatever edits, queries,
+/// replies and ticks stand between; and each answer that it came up or went down stands exactly where the last of so many
+/// results in a row does. By its mark it is up in mode auto; in the modes up and down, by these.
+pub fn marks_follow_results()
+    ensures { MarksFollowResults }
+{
+    last_of_a_row_from();
 }
 
 /// Equal snapshots are of equal states.

@@ -32,8 +32,8 @@ pub use command::{Command, StatedAction, StatedRule};
 pub use event::Event;
 pub use laws::{
     balancers_cross_threads, cached_answers_are_kept_replies, equal_snapshots_are_of_equal_states,
-    equal_snapshots_have_equal_runs, hits_come_from_replies, one_run_per_marks,
-    refusals_change_nothing, routes_follow, ticks_end_the_due,
+    equal_snapshots_have_equal_runs, hits_come_from_replies, marks_follow_results,
+    one_run_per_marks, refusals_change_nothing, routes_follow, ticks_end_the_due,
 };
 pub use plain::Plain;
 pub use runs::run;

@@ -1,19 +1,20 @@
 //! Runs over lists of events.
 
 ghost use Rattle.std.specs.Prelude.{◌≡◌, [], IfOk, IfErr, OnErr};
-ghost use Rattle.lb_core.specs.Provenance.{MeetsProvenance};
+ghost use Rattle.lb_core.specs.Provenance.{MeetsHits, MeetsProvenance};
 ghost use Rattle.lb_core.specs.Routes.{routes_of};
 ghost use Rattle.lb_core.specs.Runs.{IsRun};
 
 use crate::answer::Answer;
 use crate::balancer::Balancer;
 use crate::event::Event;
-use crate::laws::cached_answers_are_kept_replies;
+use crate::laws::{cached_answers_are_kept_replies, hits_come_from_replies};
 use std::alloc::{AllocError, Global};
 
 /// Answers the events in order. Room for the answers is taken first: where it is refused, the events come back and
 /// nothing is run. Where nothing was outstanding or kept when it began, each answer from a cache is that of a reply which was
-/// kept in this run, and where one serves a query it is given.
+/// kept in this run, and where one serves a query it is given; in any case it is that of a reply which was kept in this run or
+/// when it began.
 pub fn run(
     alloc: Global,
     balancer: &mut Balancer,
@@ -21,11 +22,13 @@ pub fn run(
 ) -> Result<Vec<Answer>, (AllocError, Vec<Event>)>
     ensures run { IfOk result (λ answers. IsRun balancer.old events.items answers.items balancer.new) }
     ensures provenance { IfOk result (λ answers. balancer.old.outstanding ≡ [] → balancer.old.kept ≡ [] → MeetsProvenance (routes_of balancer.old) events.items answers.items) }
+    ensures hits { IfOk result (λ answers. MeetsHits balancer.old events.items answers.items) }
     ensures back { IfErr result (λ e. e.1.items ≡ events.items) }
     ensures unchanged { OnErr result (balancer.new ≡ balancer.old) }
 {
-    // A law, which does nothing.
+    // Laws, which do nothing.
     cached_answers_are_kept_replies();
+    hits_come_from_replies();
     let mut answers = match Vec::with_capacity(alloc, events.len()) {
         Ok(answers) => answers,
         Err(error) => return Err((error, events)),

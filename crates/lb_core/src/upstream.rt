@@ -2,16 +2,16 @@
 //! number of its outstanding queries, and its mark is what its health says.
 
 ghost use Rattle.std.specs.Prelude.{◌≡◌, ◌<◌, ◌≤◌, ℕ, IfOk, IfSome, Some, length, map, not, option_map};
-ghost use Rattle.std.specs.List.{filter, position};
+ghost use Rattle.std.specs.List.{AllByRecursion, filter, position};
 ghost use Rattle.lb_wire.specs.Octets.{max_message};
-ghost use Rattle.lb_servers.specs.Park.{added_pool, changed_pool, changed_server, lacks};
+ghost use Rattle.lb_servers.specs.Park.{AreBackends, added_pool, changed_pool, changed_server, lacks};
 ghost use Rattle.lb_cache.specs.Cache.{lacks as lacks_kept};
 ghost use Rattle.lb_servers.specs.Pool.{cache_at, pool_named, with_policy, change_at};
 ghost use Rattle.lb_servers.specs.Server.{marked};
 ghost use Rattle.lb_table.specs.Place.{at_place};
-ghost use Rattle.lb_table.specs.Table.{due, entry_at};
-ghost use Rattle.lb_cache.specs.Caches.{cache_with, kept_in, looked_in, IsKeepable};
-ghost use Rattle.lb_core.specs.Upstream.{added_checked, attached_cache, detached_cache, expunged_cache, totals_of, backends_of, no_upstreams, on_backends, picked_of, put_into, removed_checked, server_of, ByNumber, IsAsked, IsChecked, SendsBy, takes_turns as takes_turns_of, turned_if, is_check};
+ghost use Rattle.lb_table.specs.Table.{AreWaiting, due, entry_at};
+ghost use Rattle.lb_cache.specs.Caches.{AreKept, cache_with, kept_in, looked_in, IsKeepable};
+ghost use Rattle.lb_core.specs.Upstream.{added_checked, attached_cache, caches_of, detached_cache, expunged_cache, totals_of, backends_of, no_upstreams, on_backends, picked_of, put_into, removed_checked, server_of, AreNumbered, ByNumber, IsAsked, IsChecked, SendsBy, takes_turns as takes_turns_of, turned_if, is_check};
 ghost use Rattle.lb_core.specs.Edit.{server_by};
 ghost use Rattle.lb_core.specs.Expiry.{without_expired};
 ghost use Rattle.lb_core.specs.Health.{result_taken};
@@ -74,13 +74,26 @@ impl Upstream {
     }
 
     /// A law: each server has one health check with its number, and its mark is what its health says; the servers stand by
-    /// number. It does nothing.
+    /// number, each below the next. It does nothing.
     pub(crate) fn law_of_health(&self)
         ensures numbers { ByNumber self.now.servers }
+        ensures below { AllByRecursion (λ s. s.id.0 < self.now.next_server) self.now.servers }
         ensures checks { IsChecked self.now.servers self.now.checks }
     {
         // Read, so that what these keep true together is at hand.
         let _ = self.checks.len();
+    }
+
+    /// A law: what the lists of servers, pools, caches, outstanding queries and kept replies keep true. It does nothing.
+    pub(crate) fn law_of_lists(&self)
+        ensures backends { AreBackends (backends_of self.now) }
+        ensures numbered { AreNumbered self.now.next_cache self.now.caches }
+        ensures outstanding { AreWaiting self.now.outstanding }
+        ensures kept { AreKept (caches_of self.now) }
+    {
+        self.park.law_of_list();
+        self.table.law_of_list();
+        self.caches.law_of_lists();
     }
 
     /// How long a query waits for its reply, in milliseconds.

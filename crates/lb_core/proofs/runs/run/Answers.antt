@@ -12,3 +12,7 @@ returns-clause-run c =
 pub returns-clause-provenance : goal.returns-clause-provenance
 returns-clause-provenance c = λ outstanding kept.
     c.cached_answers_are_kept_replies.ensures c.args.balancer.now c.loop-event.balancer c.args.events.items c.loop-event.answers.items outstanding kept (returns-clause-run c)
+
+pub returns-clause-hits : goal.returns-clause-hits
+returns-clause-hits c =
+    c.hits_come_from_replies.ensures c.args.balancer.now c.loop-event.balancer c.args.events.items c.loop-event.answers.items (returns-clause-run c)
