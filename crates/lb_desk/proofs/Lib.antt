@@ -1,5 +1,5 @@
 pub mod Crosses
 pub mod Numbers
-pub mod Receipts
+pub mod ReceiptsOf
 pub mod Runs
 pub mod Whole

@@ -5,13 +5,13 @@ use Rattle.std.proofs.lemmas.List.Elements.{All-append}
 use Rattle.lb_core.specs.declared.answer.Answer.{Answer}
 use Rattle.lb_core.specs.declared.event.Event.{Event}
 use Rattle.lb_core.specs.Plain.{Plain}
-use Rattle.lb_core.specs.Runs.{CachedAnswersAreKeptReplies, IsRun}
+use Rattle.lb_core.specs.Runs.{CachedAnswersAreKeptReplies, HitsComeFromReplies, IsRun}
 use Rattle.lb_core.specs.Snapshot.{IsShown, Snapshot, snapshot_of}
 use Rattle.lb_core.specs.Step.{Answers}
 use Rattle.lb_desk.specs.declared.entry.Entry.{Entry}
 use Rattle.lb_desk.specs.declared.entry.SeatId.{SeatId}
 use Rattle.lb_desk.specs.Book.{Keeps}
-use Rattle.lb_desk.specs.Entry.{Tells, TellsCaches, answers_of, entry, events_of}
+use Rattle.lb_desk.specs.Entry.{Tells, TellsCaches, TellsHits, answers_of, entry, events_of}
 
 -- one event more
 run_grown : (old mid new : Plain) (es : List Event) (answers : List Answer) (e : Event) (a : Answer) → IsRun old es answers mid → Answers mid e a new → IsRun old (es ++ e ∷ []) (answers ++ a ∷ []) new
@@ -72,4 +72,14 @@ caches_told law opening limit count log balancer none_outstanding none_kept keep
       provenance =
           law tells.start keeps.end (events_of log) (answers_of log) (ap (λ (s : Snapshot). s.outstanding) tells.opens ∙ none_outstanding)
           (ap (λ (s : Snapshot). s.kept) tells.opens ∙ none_kept) tells.run;
+    }
+
+-- a log that tells of a run tells which replies its hits come from
+pub hits_told : HitsComeFromReplies → (opening : Snapshot) (limit count : ℕ) (log : List Entry) (balancer : Plain) → Keeps opening limit count log balancer → TellsHits opening log
+hits_told law opening limit count log balancer keeps =
+    let tells = keeps.tells in record {
+      start = tells.start;
+      shown = tells.shown;
+      opens = tells.opens;
+      hits = law tells.start keeps.end (events_of log) (answers_of log) tells.run;
     }

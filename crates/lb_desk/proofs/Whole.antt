@@ -1,6 +1,7 @@
 -- A log that has every call has as many entries of each seat as the seat had calls.
-use Rattle.std.proofs.Common.{All, Bool, List, [], ap, arith, false, if◌then◌else◌, length, refl, sum_by, true, ◌+◌, ◌<◌, ◌==◌, ◌∷◌, ◌||◌, ◌≡◌, ◌≤◌, ℕ}
+use Rattle.std.proofs.Common.{All, Bool, List, [], ap, arith, false, if◌then◌else◌, length, refl, suc, sum_by, sym, true, zero, ◌+◌, ◌<◌, ◌==◌, ◌∷◌, ◌||◌, ◌≡◌, ◌≤◌, ℕ}
 use Rattle.std.proofs.lemmas.Bool.{false≢true}
+use Rattle.std.proofs.lemmas.Bool.Decides.{nat_tests}
 use Rattle.std.proofs.lemmas.List.Elements.{All-cons, All-head, All-tail}
 use Rattle.std.proofs.lemmas.List.Sums.{sum_by-cons}
 use Rattle.std.specs.List.{list_any}
@@ -47,6 +48,58 @@ some_hit k [] none = absurd (false≢true none)
 some_hit k (s ∷ seats) is =
     let more = some_one (k == s.number.0) (list_any (λ (s : Seated). k == s.number.0) seats) (hits k seats) is (some_hit k seats) in
     omega (arith, sum_by-cons (λ (s : Seated). one (k == s.number.0)) s seats)
+
+-- how often the numbers below a count are those of seats, in all
+abbrev hits_below : ℕ → List Seated → ℕ
+hits_below zero seats = 0
+hits_below (suc k) seats = hits k seats + hits_below k seats
+
+-- the same of one number
+abbrev ones_below : ℕ → ℕ → ℕ
+ones_below zero n = 0
+ones_below (suc k) n = one (k == n) + ones_below k n
+
+each_hit : (count : ℕ) (seats : List Seated) → AreAll count seats → count ≤ hits_below count seats
+each_hit zero seats all = omega arith
+each_hit (suc k) seats all =
+    let here = some_hit k seats (all k (omega arith)) in
+    let rest = each_hit k seats (λ n within. all n (omega arith)) in
+    omega arith
+
+not_one : (b : Bool) (rest : ℕ) → b ≡ false → rest ≡ 0 → one b + rest ≡ 0
+not_one true rest is none = absurd (false≢true (sym is))
+not_one false rest is none = omega arith
+
+none_below : (count n : ℕ) → count ≤ n → ones_below count n ≡ 0
+none_below zero n past = refl
+none_below (suc k) n past =
+    let other : (k == n) ≡ false = grind (arith, nat_tests) in
+    not_one (k == n) (ones_below k n) other (none_below k n (omega arith))
+
+at_most_one : (b : Bool) (rest : ℕ) → (b ≡ true → rest ≡ 0) → rest ≤ 1 → one b + rest ≤ 1
+at_most_one true rest none few = let is = none refl in omega arith
+at_most_one false rest none few = omega arith
+
+one_below : (count n : ℕ) → ones_below count n ≤ 1
+one_below zero n = omega arith
+one_below (suc k) n =
+    at_most_one (k == n) (ones_below k n) (λ is. let same : k ≡ n = grind (arith, nat_tests) in none_below k n (omega arith)) (one_below k n)
+
+hits_more : (count : ℕ) (s : Seated) (seats : List Seated) → hits_below count (s ∷ seats) ≡ ones_below count s.number.0 + hits_below count seats
+hits_more zero s seats = refl
+hits_more (suc k) s seats = omega (arith, sum_by-cons (λ (s : Seated). one (k == s.number.0)) s seats, hits_more k s seats)
+
+no_hits : (count : ℕ) → hits_below count [] ≡ 0
+no_hits zero = refl
+no_hits (suc k) = omega (arith, no_hits k)
+
+few_hits : (count : ℕ) (seats : List Seated) → hits_below count seats ≤ length seats
+few_hits count [] = omega (arith, no_hits count)
+few_hits count (s ∷ seats) = omega (arith, hits_more count s seats, one_below count s.number.0, few_hits count seats)
+
+-- where each number below a count is that of a seat, there are as many seats
+pub as_many : (count : ℕ) (seats : List Seated) → AreAll count seats → count ≤ length seats
+as_many count seats all = omega (arith, each_hit count seats all, few_hits count seats)
 
 -- each entry has a receipt at least
 all_held : (count place : ℕ) (log : List Entry) (seats : List Seated) → AreAll count seats → All (λ (e : Entry). e.seat.0 < count) log → length log ≤ held place log seats

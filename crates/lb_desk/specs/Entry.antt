@@ -3,7 +3,7 @@ use Rattle.std.specs.Prelude.{◌≡◌, ℕ, ◌+◌, ◌==◌, if◌then◌els
 use Rattle.lb_core.specs.declared.answer.Answer.{Answer}
 use Rattle.lb_core.specs.declared.event.Event.{Event}
 use Rattle.lb_core.specs.Plain.{Plain}
-use Rattle.lb_core.specs.Provenance.{MeetsProvenance}
+use Rattle.lb_core.specs.Provenance.{MeetsHits, MeetsProvenance}
 use Rattle.lb_core.specs.Routes.{routes_of}
 use Rattle.lb_core.specs.Runs.{IsRun}
 use Rattle.lb_core.specs.Snapshot.{IsShown, Snapshot, snapshot_of}
@@ -52,3 +52,10 @@ pub record TellsCaches (opening : Snapshot) (log : List Entry) : Type 0 where
   pub shown : IsShown start
   pub opens : snapshot_of start ≡ opening
   pub provenance : MeetsProvenance (routes_of start) (events_of log) (answers_of log)
+
+-- the octets of each hit of a log are those of a reply that still lives: one that the snapshot has, or one that the log itself tells of
+pub record TellsHits (opening : Snapshot) (log : List Entry) : Type 0 where
+  pub start : Plain
+  pub shown : IsShown start
+  pub opens : snapshot_of start ≡ opening
+  pub hits : MeetsHits start (events_of log) (answers_of log)

@@ -1,12 +1,14 @@
 //! What lies under the lock of a desk: the balancer, and a log of which each moment shows that it is true.
 
-ghost use Rattle.std.specs.Prelude.{All, IfOk, IsErrAnd, None, OnOk, Some, min, vec_capacity, vec_len, ◌++◌, ◌+◌, ◌-◌, ◌<◌, ◌^◌, ◌↔◌, ◌∷◌, ◌≡◌, ◌≤◌, []};
+ghost use Rattle.std.specs.Prelude.{All, IfErr, IfOk, IsErrAnd, IsOk, IsSome, IsTrue, None, OnErr, OnOk, Some, min, vec_capacity, vec_len, ◌++◌, ◌+◌, ◌-◌, ◌<◌, ◌^◌, ◌↔◌, ◌∷◌, ◌≡◌, ◌≢◌, ◌≤◌, []};
 ghost use Rattle.std.specs.Option.{ForSome};
 ghost use Rattle.lb_core.specs.Snapshot.{IsShown, snapshot_of};
 ghost use Rattle.lb_core.specs.Step.{Answers};
-ghost use Rattle.lb_desk.specs.Book.{Booked, IsReadyFor, Keeps};
+ghost use Rattle.lb_desk.specs.Book.{Booked, IsReadyFor, Keeps, ticket_of};
 ghost use Rattle.lb_desk.specs.Entry.{entry};
 ghost use Rattle.lb_desk.specs.declared.fault.DeskFault.TheVariants.{CountFull, NoMemory};
+
+mod ticket;
 
 use crate::audit::Audit;
 use crate::entry::{Entry, SeatId};
@@ -18,6 +20,7 @@ use std::alloc::{AllocError, Global};
 use std::marker::Model;
 use std::sync::ledger;
 use std::sync::ledger::Share;
+pub use ticket::{Answered, Receipts, Ticket};
 
 /// What lies under the lock of a desk: its balancer, and the log of the first calls. A contract sees how many calls were answered and
 /// how many the log has at most, the log, and for which event room is taken.
@@ -79,6 +82,46 @@ impl<J: Naming> Book<J> {
 }
 
 impl<J: Naming> Book<J> {
+    /// Answers an event: the whole of what a call does under the lock. One step of the balancer, which the book and the caller's share
+    /// count; while the log has room for it by its limit, the log has it under the seat's number, and the answer comes with a ticket
+    /// for its receipt. `receipts` are the caller's, which take room for one more where they have none, and `room` says whether that
+    /// was refused before. A refused event comes back, and nothing has changed.
+    #[inline(always)]
+    pub fn answer(
+        &mut self,
+        share: &mut Share<J>,
+        seat: SeatId,
+        event: Event,
+        receipts: &mut Receipts,
+        room: Result<(), AllocError>,
+    ) -> Result<Answered, (DeskFault, Event)>
+        requires part { 0 < share.old.parts }
+        requires seat { seat.0 < J.seats }
+        ensures step { IfOk result (λ r. Answers self.old.balancer event r.answer self.new.balancer) }
+        ensures logged { IfOk result (λ r. self.old.count < self.old.limit → (r.ticket ≡ Some (ticket_of self.old.count event)) × (self.new.log ≡ self.old.log ++ entry seat event r.answer ∷ []) × (self.new.ready ≡ None)) }
+        ensures unlogged { IfOk result (λ r. self.old.limit ≤ self.old.count → (r.ticket ≡ None) × (self.new.log ≡ self.old.log) × (self.new.ready ≡ self.old.ready)) }
+        ensures count { OnOk result (self.new.count ≡ self.old.count + 1) }
+        ensures limit { self.new.limit ≡ self.old.limit }
+        ensures share { OnOk result (share.new.amount ≡ share.old.amount + 1) }
+        ensures parts { share.new.parts ≡ share.old.parts }
+        ensures room { IfOk result (λ r. IsSome r.ticket → IsSome receipts.new.room) }
+        ensures kept { (receipts.new.kept.items ≡ receipts.old.kept.items) × (vec_len receipts.new.kept ≡ vec_len receipts.old.kept) }
+        ensures full { IsErrAnd result (λ fault. fault.0 ≡ CountFull) ↔ (self.old.count ≡ 2 ^ 64 - 1) }
+        ensures past { self.old.limit ≤ self.old.count → self.old.count < 2 ^ 64 - 1 → IsOk result }
+        ensures refused { IfErr result (λ fault. (fault.1 ≡ event) × (self.new ≡ self.old)) }
+        ensures lent { OnErr result (share.new ≡ share.old) }
+    {
+        let copy = match self.noted(receipts, &event, room) {
+            Ok(copy) => copy,
+            Err(refused) => return Err((DeskFault::from(refused), event)),
+        };
+        if let Err(fault) = self.ready(&event) {
+            return Err((fault, event));
+        }
+        let (answer, place) = self.take(share, seat, event);
+        Ok(Answered::new(answer, place, copy))
+    }
+
     /// Takes room for the entry of a call of this event, where the log has room for it by its limit. Nothing else changes.
     #[inline(always)]
     pub fn ready(&mut self, event: &Event) -> Result<(), DeskFault>
@@ -86,6 +129,8 @@ impl<J: Naming> Book<J> {
         ensures memory { IsErrAnd result (λ fault. fault ≡ NoMemory) → self.old.count < self.old.limit }
         ensures ready { OnOk result (IsReadyFor event.now self.new) }
         ensures same { self.new ≡ record self.old { ready = self.new.ready } }
+        ensures past { self.old.limit ≤ self.old.count → self.new ≡ self.old }
+        ensures refused { OnErr result (self.new ≡ self.old) }
     {
         if self.count == u64::MAX {
             return Err(DeskFault::CountFull);
@@ -93,28 +138,25 @@ impl<J: Naming> Book<J> {
         if self.count >= self.limit {
             return Ok(());
         }
-        match room_for(self.alloc, &mut self.log, event) {
-            Ok(spare) => {
-                self.spare = Some(spare);
-                Ok(())
-            }
-            Err(_) => Err(DeskFault::NoMemory),
-        }
+        let spare = room_for(self.alloc, &mut self.log, event)?;
+        self.spare = Some(spare);
+        Ok(())
     }
 
     /// Answers an event by one step of the balancer. The call is counted, in the book and in the caller's share, and the log has it,
-    /// under the seat's number, where its limit allows. The place is how many calls there were before.
+    /// under the seat's number, where its limit allows; the room that was taken for it is spent. The place is how many calls there
+    /// were before.
     #[inline(always)]
     pub fn take(&mut self, share: &mut Share<J>, seat: SeatId, event: Event) -> (Answer, u64)
         requires part { 0 < share.old.parts }
         requires seat { seat.0 < J.seats }
-        requires room { self.old.count < 2 ^ 64 - 1 }
         requires ready { IsReadyFor event self.old }
         ensures step { Answers self.old.balancer event result.0 self.new.balancer }
         ensures place { result.1 ≡ self.old.count }
         ensures count { self.new.count ≡ self.old.count + 1 }
         ensures log { self.old.count < self.old.limit → self.new.log ≡ self.old.log ++ entry seat event result.0 ∷ [] }
-        ensures past { self.old.limit ≤ self.old.count → self.new.log ≡ self.old.log }
+        ensures spent { self.old.count < self.old.limit → self.new.ready ≡ None }
+        ensures past { self.old.limit ≤ self.old.count → (self.new.log ≡ self.old.log) × (self.new.ready ≡ self.old.ready) }
         ensures limit { self.new.limit ≡ self.old.limit }
         ensures share { share.new.amount ≡ share.old.amount + 1 }
         ensures parts { share.new.parts ≡ share.old.parts }
@@ -128,6 +170,25 @@ impl<J: Naming> Book<J> {
 }
 
 impl<J: Naming> Book<J> {
+    /// A copy of the event for its receipt, where the log has room for the call by its limit; then room for the receipt is there too.
+    #[inline(always)]
+    fn noted(
+        &self,
+        receipts: &mut Receipts,
+        event: &Event,
+        room: Result<(), AllocError>,
+    ) -> Result<Option<Event>, AllocError>
+        ensures logged { IfOk result (λ copy. self.now.count < self.now.limit → (copy ≡ Some event.now) × IsSome receipts.new.room) }
+        ensures past { self.now.limit ≤ self.now.count → result ≡ Ok None }
+        ensures refused { OnErr result (self.now.count ≢ 2 ^ 64 - 1) }
+        ensures kept { (receipts.new.kept.items ≡ receipts.old.kept.items) × (vec_len receipts.new.kept ≡ vec_len receipts.old.kept) }
+    {
+        if self.is_full() {
+            return Ok(None);
+        }
+        Ok(Some(receipts.noted(self.alloc, event, room)?))
+    }
+
     /// A call that the log has.
     fn take_logged(&mut self, share: &mut Share<J>, seat: SeatId, event: Event) -> Answer
         requires part { 0 < share.old.parts }
@@ -137,6 +198,7 @@ impl<J: Naming> Book<J> {
         ensures step { Answers self.old.balancer event result self.new.balancer }
         ensures count { self.new.count ≡ self.old.count + 1 }
         ensures log { self.new.log ≡ self.old.log ++ entry seat event result ∷ [] }
+        ensures spent { self.new.ready ≡ None }
         ensures limit { self.new.limit ≡ self.old.limit }
         ensures share { share.new.amount ≡ share.old.amount + 1 }
         ensures parts { share.new.parts ≡ share.old.parts }
@@ -172,6 +234,7 @@ impl<J: Naming> Book<J> {
         ensures step { Answers self.old.balancer event result self.new.balancer }
         ensures count { self.new.count ≡ self.old.count + 1 }
         ensures log { self.new.log ≡ self.old.log }
+        ensures ready { self.new.ready ≡ self.old.ready }
         ensures limit { self.new.limit ≡ self.old.limit }
         ensures share { share.new.amount ≡ share.old.amount + 1 }
         ensures parts { share.new.parts ≡ share.old.parts }
@@ -195,19 +258,14 @@ impl<J: Naming> Book<J> {
         self.log.as_slice()
     }
 
-    /// How many calls were answered.
-    pub(crate) fn count(&self) -> u64
-        ensures { result ≡ self.now.count }
+    /// Whether the log has all that its limit allows.
+    #[inline(always)]
+    pub(crate) fn is_full(&self) -> bool
+        ensures full { IsTrue result ↔ (self.now.limit ≤ self.now.count) }
+        ensures last { self.now.count ≡ 2 ^ 64 - 1 → IsTrue result }
+        ensures named { self.now.limit ≡ J.limit }
     {
-        self.count
-    }
-
-    /// How many calls the log has at most.
-    pub(crate) fn limit(&self) -> u64
-        ensures limit { result ≡ self.now.limit }
-        ensures named { result ≡ J.limit }
-    {
-        self.limit
+        self.count >= self.limit
     }
 
     /// What the book leaves, once all shares of its calls are in one.

@@ -1,21 +1,24 @@
 //! The desk: one balancer that many threads call.
 
-ghost use Rattle.std.specs.Prelude.{All, IfErr, IfOk, IfSome, IsErrAnd, IsSome, IsTrue, OnErr, OnOk, OnSome, length, map, min, sum_by, vec_len, ◌++◌, ◌+◌, ◌-◌, ◌<◌, ◌^◌, ◌⊎◌, ◌∷◌, ◌≡◌, ◌≢◌, ◌↔◌, ◌≤◌, ℕ, []};
-ghost use Rattle.std.specs.List.{range_with_len};
+ghost use Rattle.std.specs.Prelude.{All, IfErr, IfOk, IfSome, IsErrAnd, IsSome, IsTrue, OnErr, OnOk, length, map, min, sum_by, vec_len, ◌++◌, ◌+◌, ◌-◌, ◌<◌, ◌==◌, ◌^◌, ◌⊎◌, ◌∷◌, ◌≡◌, ◌↔◌, ◌≤◌, ℕ, []};
+ghost use Rattle.std.specs.List.{list_any, range_with_len};
 ghost use Rattle.lb_core.specs.Snapshot.{snapshot_of};
 ghost use Rattle.lb_desk.specs.Book.{Keeps};
-ghost use Rattle.lb_desk.specs.Entry.{TellsCaches, receipt, receipts_of};
+ghost use Rattle.lb_desk.specs.Entry.{TellsCaches, TellsHits, receipt, receipts_of};
 ghost use Rattle.lb_desk.specs.Seat.{AreAll};
 ghost use Rattle.lb_desk.specs.declared.fault.CloseFault.TheVariants.{MissingSeat};
+ghost use Rattle.lb_desk.specs.declared.fault.DeskFault.TheVariants.{CountFull};
 
 use crate::agree::all_agree;
 use crate::audit::Audit;
-use crate::book::Book;
+use crate::book::{Answered, Book, Receipts};
 use crate::entry::SeatId;
 use crate::fault::{CloseFault, DeskFault};
-use crate::naming::Naming;
-use crate::seat::{Receipts, Seat};
-use lb_core::{Answer, Balancer, Event, Plain, cached_answers_are_kept_replies};
+use crate::naming::{Naming, Parted};
+use crate::seat::Seat;
+use lb_core::{
+    Answer, Balancer, Event, Plain, cached_answers_are_kept_replies, hits_come_from_replies,
+};
 use std::alloc::{AllocError, Global};
 use std::sync::atomic::{AtomicBool, Ordering};
 use std::sync::ledger::{Blank, Share};
@@ -28,8 +31,9 @@ pub struct Desk<J: Naming> {
     book: Mutex<Book<J>>,
     opening: Plain,
     seats: usize,
-    /// Whether the log has all that its limit allows: a hint, so that no room is taken in vain.
+    /// Whether the log has all that its limit allows: a hint, so that no room is taken in vain. No answer depends on it.
     is_full: AtomicBool,
+    parted: Parted<J>,
     ghost seated: { seats ≡ J.seats },
     ghost opened: { opening ≡ J.opening },
 }
@@ -65,6 +69,7 @@ impl<J: Naming> Desk<J> {
             opening,
             seats: usize::from(seats),
             is_full: AtomicBool::new(limit == 0),
+            parted: Parted::new(),
         };
         Ok((desk, all))
     }
@@ -78,8 +83,10 @@ impl<J: Naming> Desk<J> {
 }
 
 impl<J: Naming> Desk<J> {
-    /// One call, by any thread: one step of the balancer. The seat counts it, and has a receipt of it where the log has the call. A
-    /// refused event comes back, and nothing was asked of the balancer.
+    /// One call, by any thread: one step of the balancer. The seat counts it, and has a receipt of it where the log has the call: what
+    /// the book answers carries the ticket of a logged call, and only the seat's receipts can use that up, so that no receipt can be
+    /// left out. A refused event comes back, and nothing was asked of the balancer. Want of memory is met only while the log takes
+    /// calls.
     #[inline(always)]
     pub fn call<R: Wait>(
         &self,
@@ -90,54 +97,27 @@ impl<J: Naming> Desk<J> {
         ensures number { seat.new.number ≡ seat.old.number }
         ensures calls { OnOk result (seat.new.calls ≡ seat.old.calls + 1) }
         ensures receipts { IfOk result (λ answer. (seat.new.receipts ≡ seat.old.receipts) ⊎ ((place : ℕ) × (place < J.limit) × (seat.new.receipts ≡ seat.old.receipts ++ receipt place event answer ∷ []))) }
+        ensures full { seat.old.calls ≡ 2 ^ 64 - 1 → IsErrAnd result (λ fault. fault.0 ≡ CountFull) }
         ensures back { IfErr result (λ fault. fault.1 ≡ event) }
         ensures same { OnErr result (seat.new ≡ seat.old) }
     {
-        if seat.calls == u64::MAX {
-            return Err((DeskFault::CountFull, event));
-        }
-        if self.is_full.load(Ordering::SeqCst) {
-            self.call_past(rt, seat, event)
-        } else {
-            self.call_logged(rt, seat, event)
-        }
+        self.call_hinted(rt, seat, event, self.is_full.load(Ordering::SeqCst))
     }
 
-    /// A call that the log has no room for by its limit.
+    /// The same call, by the caller's own hint whether the log is full. No answer depends on it: it says alone whether room for the
+    /// receipt is taken before the lock, or under it where the log takes the call after all. `call` takes the desk's hint.
     #[inline(always)]
-    fn call_past<R: Wait>(
+    pub fn call_hinted<R: Wait>(
         &self,
         rt: &R,
         seat: &mut Seat<J>,
         event: Event,
+        is_full: bool,
     ) -> Result<Answer, (DeskFault, Event)>
-        requires { seat.old.calls < 2 ^ 64 - 1 }
-        ensures done { OnOk result (seat.new ≡ record seat.old { calls = seat.old.calls + 1 }) }
-        ensures back { IfErr result (λ fault. fault.1 ≡ event) }
-        ensures same { OnErr result (seat.new ≡ seat.old) }
-    {
-        let Seat {
-            number,
-            share,
-            calls,
-            ..
-        } = seat;
-        let (answer, _) = self.answered(rt, share, *number, event, false)?;
-        *calls += 1;
-        Ok(answer)
-    }
-
-    /// A call that the log may have room for.
-    fn call_logged<R: Wait>(
-        &self,
-        rt: &R,
-        seat: &mut Seat<J>,
-        event: Event,
-    ) -> Result<Answer, (DeskFault, Event)>
-        requires { seat.old.calls < 2 ^ 64 - 1 }
         ensures number { seat.new.number ≡ seat.old.number }
         ensures calls { OnOk result (seat.new.calls ≡ seat.old.calls + 1) }
         ensures receipts { IfOk result (λ answer. (seat.new.receipts ≡ seat.old.receipts) ⊎ ((place : ℕ) × (place < J.limit) × (seat.new.receipts ≡ seat.old.receipts ++ receipt place event answer ∷ []))) }
+        ensures full { seat.old.calls ≡ 2 ^ 64 - 1 → IsErrAnd result (λ fault. fault.0 ≡ CountFull) }
         ensures back { IfErr result (λ fault. fault.1 ≡ event) }
         ensures same { OnErr result (seat.new ≡ seat.old) }
     {
@@ -147,19 +127,16 @@ impl<J: Naming> Desk<J> {
             calls,
             receipts,
         } = seat;
-        let copy = receipts.prepare(self.alloc, &event).ok();
-        let (answer, place) = self.answered(rt, share, *number, event, copy.is_some())?;
-        *calls += 1;
-        match (copy, place) {
-            (Some(copy), Some(place)) => receipts.keep(self.alloc, place, copy, &answer),
-            // The log has all that it ever will.
-            _ => receipts.room = None,
+        if *calls == u64::MAX {
+            return Err((DeskFault::CountFull, event));
         }
-        Ok(answer)
+        let room = prepared(receipts, self.alloc, is_full);
+        let answered = self.answered(rt, share, *number, event, receipts, room)?;
+        *calls += 1;
+        Ok(receipts.keep(self.alloc, answered))
     }
 
-    /// What a call does under the lock. The place is that of its entry in the log, where the log has it; then room for the receipt is
-    /// wanted.
+    /// What a call does under the lock. The call that fills the log says so to those that follow.
     #[inline(always)]
     fn answered<R: Wait>(
         &self,
@@ -167,59 +144,66 @@ impl<J: Naming> Desk<J> {
         share: &mut Share<J>,
         number: SeatId,
         event: Event,
-        has_room: bool,
-    ) -> Result<(Answer, Option<u64>), (DeskFault, Event)>
+        receipts: &mut Receipts,
+        room: Result<(), AllocError>,
+    ) -> Result<Answered, (DeskFault, Event)>
         requires part { 0 < share.old.parts }
         requires seat { number.0 < J.seats }
         ensures share { OnOk result (share.new.amount ≡ share.old.amount + 1) }
         ensures parts { share.new.parts ≡ share.old.parts }
-        ensures place { IfOk result (λ r. IfSome r.1 (λ place. (place < J.limit) × IsTrue has_room)) }
+        ensures ticket { IfOk result (λ r. IfSome r.ticket (λ ticket. (ticket.place < J.limit) × (ticket.event ≡ event))) }
+        ensures room { IfOk result (λ r. IsSome r.ticket → IsSome receipts.new.room) }
+        ensures kept { (receipts.new.kept.items ≡ receipts.old.kept.items) × (vec_len receipts.new.kept ≡ vec_len receipts.old.kept) }
         ensures back { IfErr result (λ fault. fault.1 ≡ event) }
         ensures same { OnErr result (share.new ≡ share.old) }
     {
         let mut guard = self.book.lock(rt);
         let book = &mut *guard;
-        if let Err(fault) = book.ready(&event) {
-            return Err((fault, event));
-        }
-        let limit = book.limit();
-        let is_logged = book.count() < limit;
-        if is_logged && !has_room {
-            return Err((DeskFault::NoMemory, event));
-        }
-        let (answer, place) = book.take(share, number, event);
-        if !is_logged {
-            return Ok((answer, None));
-        }
-        if place + 1 == limit {
+        let answered = book.answer(share, number, event, receipts, room)?;
+        if book.is_full() && answered.is_logged() {
             self.is_full.store(true, Ordering::SeqCst);
         }
-        Ok((answer, Some(place)))
+        Ok(answered)
     }
+}
+
+/// Takes room for a receipt before the lock, unless the log is said to be full.
+#[inline(always)]
+fn prepared(receipts: &mut Receipts, alloc: Global, is_full: bool) -> Result<(), AllocError>
+    ensures { (receipts.new.kept.items ≡ receipts.old.kept.items) × (vec_len receipts.new.kept ≡ vec_len receipts.old.kept) }
+{
+    if is_full {
+        return Ok(());
+    }
+    receipts.prepare(alloc)
 }
 
 impl<J: Naming> Desk<J> {
     /// Ends the desk, once its callers have ended: its log, which is true, and in which each seat's receipts are its entries. The desk
-    /// and its seats are spent either way.
+    /// and its seats are spent either way. As none of a desk's seats can be made twice, a number that stands twice means that another
+    /// seat is missing.
     pub fn close(self, seats: Vec<Seat<J>>) -> Result<Audit, CloseFault>
-        requires parts { (J.parts ≡ J.seats) × (0 < J.seats) }
-        ensures missing { IsErrAnd result (λ fault. fault ≡ MissingSeat) ↔ (vec_len seats ≢ J.seats) }
+        ensures missing { IsErrAnd result (λ fault. fault ≡ MissingSeat) ↔ (AreAll J.seats seats.items → ⊥) }
         ensures count { IfOk result (λ audit. audit.count ≡ sum_by (λ s. s.calls) seats.items) }
         ensures filled { IfOk result (λ audit. vec_len audit.log ≡ min audit.count J.limit) }
         ensures seated { IfOk result (λ audit. All (λ e. e.seat.0 < J.seats) audit.log.items) }
         ensures told { IfOk result (λ audit. ∥ Keeps J.opening J.limit audit.count audit.log.items audit.balancer ∥₁) }
         ensures caches { IfOk result (λ audit. J.opening.outstanding ≡ [] → J.opening.kept ≡ [] → ∥ TellsCaches J.opening audit.log.items ∥₁) }
+        ensures hits { IfOk result (λ audit. ∥ TellsHits J.opening audit.log.items ∥₁) }
         ensures receipts { IfOk result (λ audit. All (λ s. s.receipts ≡ receipts_of s.number audit.log.items) seats.items) }
-        ensures whole { IfOk result (λ audit. audit.count ≤ J.limit → AreAll J.seats seats.items → All (λ s. length s.receipts ≡ s.calls) seats.items) }
+        ensures whole { IfOk result (λ audit. audit.count ≤ J.limit → All (λ s. length s.receipts ≡ s.calls) seats.items) }
     {
-        // Laws, which do nothing.
-        cached_answers_are_kept_replies();
         let Desk {
             book,
             seats: number,
+            parted,
             ..
         } = self;
-        if seats.len() != number {
+        // Laws, which do nothing.
+        cached_answers_are_kept_replies();
+        hits_come_from_replies();
+        parted.law_of_parts();
+        if !are_all(seats.as_slice(), number) {
             return Err(CloseFault::MissingSeat);
         }
         few_receipts(seats.as_slice());
@@ -231,6 +215,28 @@ impl<J: Naming> Desk<J> {
     }
 }
 
+/// Whether each number below a count is that of one of the seats.
+fn are_all<J: Naming>(seats: &[Seat<J>], count: usize) -> bool
+    ensures all { IsTrue result → AreAll count seats.now }
+    ensures found { AreAll count seats.now → IsTrue result }
+{
+    for number in 0..count {
+        if !has_number(seats, number) {
+            return false;
+        }
+    }
+    true
+}
+
+/// Whether a number is that of one of the seats.
+fn has_number<J: Naming>(seats: &[Seat<J>], number: usize) -> bool
+    ensures { result ≡ list_any (λ s. number == s.number.0) seats.now }
+{
+    seats
+        .iter()
+        .any(|seat| number == usize::from(seat.number().0))
+}
+
 /// A law: no seat has more receipts than calls.
 fn few_receipts<J: Naming>(seats: &[Seat<J>])
     ensures { All (λ s. length s.receipts ≤ s.calls) seats.now }
@@ -240,10 +246,12 @@ fn few_receipts<J: Naming>(seats: &[Seat<J>])
     }
 }
 
-/// The shares of all seats in one.
+/// The shares of all seats in one. There are no more of them than the ledger has parts.
 fn gathered<J: Naming>(mut seats: Vec<Seat<J>>) -> Share<J>
-    requires { 0 < vec_len seats }
+    requires some { 0 < vec_len seats }
+    requires one { 0 < J.parts }
     ensures parts { result.parts ≡ vec_len seats }
+    ensures apart { vec_len seats ≤ J.parts }
     ensures amount { result.amount ≡ sum_by (λ s. s.calls) seats.items }
 {
     let Some(Seat { share: mut all, .. }) = seats.pop() else {

@@ -3,6 +3,7 @@
 ghost use Rattle.std.specs.Prelude.{◌≡◌};
 ghost use Rattle.lb_desk.specs.Fault.{close_fault_number, desk_fault_number};
 
+use std::alloc::AllocError;
 use thiserror::Error;
 
 /// Why a call is refused. Nothing was asked of the balancer.
@@ -25,6 +26,16 @@ impl DeskFault {
             DeskFault::CountFull => 1,
             DeskFault::NoMemory => 2,
         }
+    }
+}
+
+impl From<AllocError> for DeskFault {
+    ghost use Rattle.lb_desk.specs.declared.fault.DeskFault.TheVariants as calling;
+
+    ghost from_gives = { λ _ e. e ≡ calling.NoMemory };
+
+    fn from(_refused: AllocError) -> DeskFault {
+        DeskFault::NoMemory
     }
 }
 

@@ -13,7 +13,7 @@ mod seat;
 mod spare;
 
 pub use audit::Audit;
-pub use book::Book;
+pub use book::{Answered, Book, Receipts, Ticket};
 pub use desk::Desk;
 pub use entry::{Entry, Receipt, SeatId};
 pub use fault::{CloseFault, DeskFault};

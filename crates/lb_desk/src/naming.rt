@@ -1,10 +1,10 @@
 //! Which desk a book, a seat or a desk is of.
 
-ghost use Rattle.std.specs.Prelude.{ℕ};
+ghost use Rattle.std.specs.Prelude.{ℕ, ◌<◌, ◌≡◌};
 ghost use Rattle.lb_core.specs.Plain.{empty};
 ghost use Rattle.lb_core.specs.Snapshot.{Snapshot, snapshot_of};
 
-use std::marker::Brand;
+use std::marker::{Brand, PhantomData};
 use std::sync::ledger::Ledger;
 
 /// The name of a desk: a type that each program picks for it, so that no seat of one desk can be lent to another. The ledger that
@@ -26,4 +26,30 @@ impl Naming for Brand {
     ghost limit = { 0 };
 
     ghost opening = { snapshot_of empty };
+}
+
+/// That the ledger of a desk has a part for each of its seats, of which there is one at least. It takes no octet: a field of its own,
+/// as the toolchain refuses what is said of a ledger beside a field that holds one.
+#[derive(Drop)]
+pub(crate) struct Parted<J: Naming> {
+    of: PhantomData<J>,
+    ghost parted: { (J.parts ≡ J.seats) × (0 < J.seats) },
+}
+
+impl<J: Naming> Parted<J> {
+    /// For a desk of which it is known.
+    pub(crate) fn new() -> Parted<J>
+        requires { (J.parts ≡ J.seats) × (0 < J.seats) }
+    {
+        Parted { of: PhantomData }
+    }
+
+    /// A law, which says it. It does nothing.
+    pub(crate) fn law_of_parts(&self)
+        ensures parts { J.parts ≡ J.seats }
+        ensures some { 0 < J.seats }
+    {
+        // Read, so that what it keeps true is at hand.
+        let _ = &self.of;
+    }
 }

@@ -1,14 +1,11 @@
 //! Seats: the right of one caller to call a desk, with the receipts of its calls.
 
-ghost use Rattle.std.specs.Prelude.{IfOk, IsSome, OnOk, length, vec_capacity, vec_len, ◌++◌, ◌+◌, ◌<◌, ◌∷◌, ◌≡◌, ◌≤◌, []};
-ghost use Rattle.std.specs.Option.{ForSome};
-ghost use Rattle.lb_desk.specs.Entry.{receipt};
+ghost use Rattle.std.specs.Prelude.{length, vec_len, ◌<◌, ◌≡◌, ◌≤◌, []};
 
+use crate::book::Receipts;
 use crate::entry::{Receipt, SeatId};
 use crate::naming::Naming;
-use crate::spare::Room;
-use lb_core::{Answer, Event};
-use std::alloc::{AllocError, Global};
+use std::alloc::Global;
 use std::marker::Model;
 use std::sync::ledger::Share;
 
@@ -50,10 +47,7 @@ impl<J: Naming> Seat<J> {
             number,
             share,
             calls: 0,
-            receipts: Receipts {
-                kept: Vec::new(alloc),
-                room: None,
-            },
+            receipts: Receipts::new(alloc),
         }
     }
 
@@ -84,45 +78,5 @@ impl<J: Naming> Seat<J> {
         ensures { result.now ≡ self.now.receipts }
     {
         self.receipts.kept.as_slice()
-    }
-}
-
-/// The receipts of a seat, and room for one more.
-#[derive(Drop)]
-pub(crate) struct Receipts {
-    pub(crate) kept: Vec<Receipt>,
-    pub(crate) room: Option<Room>,
-    ghost roomy: { ForSome room (λ _. vec_len kept < vec_capacity kept) },
-}
-
-impl Receipts {
-    /// Takes room for one more receipt, where none is there, and a copy of its event. The one error is want of memory.
-    pub(crate) fn prepare(&mut self, alloc: Global, event: &Event) -> Result<Event, AllocError>
-        ensures copy { IfOk result (λ copy. copy ≡ event.now) }
-        ensures room { OnOk result (IsSome self.new.room) }
-        ensures same { self.new.kept.items ≡ self.old.kept.items }
-        ensures len { vec_len self.new.kept ≡ vec_len self.old.kept }
-    {
-        if self.room.is_none() {
-            self.kept.reserve(1)?;
-            self.room = Some(Room::take(alloc)?);
-        }
-        event.copy(alloc)
-    }
-
-    /// Keeps a receipt, for which room was taken.
-    pub(crate) fn keep(&mut self, alloc: Global, place: u64, event: Event, answer: &Answer)
-        requires { IsSome self.old.room }
-        ensures kept { self.new.kept.items ≡ self.old.kept.items ++ receipt place event answer.now ∷ [] }
-        ensures len { vec_len self.new.kept ≡ vec_len self.old.kept + 1 }
-    {
-        let Some(room) = self.room.take() else {
-            unreachable!()
-        };
-        self.kept.push_reserved(Receipt {
-            place,
-            event,
-            answer: room.copied(alloc, answer),
-        });
     }
 }

@@ -23,8 +23,8 @@ impl Room {
         })
     }
 
-    /// A copy of the answer, with a block of its own size for its octets, and the room is given back; where memory is wanting for
-    /// that block, it is in the room, of which the rest is given back.
+    /// A copy of the answer, with a block of its own size for its octets, and the room is given back; only where that block was
+    /// refused it is in the room, of which the rest is given back.
     pub(crate) fn copied(self, alloc: Global, answer: &Answer) -> Answer
         ensures { result ≡ answer.now }
     {

@@ -1,7 +1,7 @@
 use Rattle.std.proofs.Common.{Some, ap, refl, rules, sym, ◌++◌, ◌∙◌}
 use Rattle.std.proofs.lemmas.Option.{slice_get-get_or}
 use Rattle.lb_desk.specs.Entry.{receipt_at}
-use Rattle.lb_desk.proofs.Receipts.{lost, receipts_next}
+use Rattle.lb_desk.proofs.ReceiptsOf.{lost, receipts_next}
 use Rattle.lb_desk.proofs.agree.agrees.Goals as goal
 
 pub loop-place-preserved : goal.loop-place-preserved

@@ -1,19 +1,42 @@
-use Rattle.std.proofs.Common.{All, arith, length, rules, sum_by, ◌≡◌, ◌≤◌}
+use Rattle.std.proofs.Common.{All, List, arith, length, refl, rules, subst, sum_by, ◌≡◌, ◌≤◌}
 use Rattle.std.proofs.Math.Logic.{∥∥₁_map}
 use Rattle.lb_desk.specs.Entry.{receipts_of}
-use Rattle.lb_desk.specs.Seat.{Seated}
-use Rattle.lb_desk.proofs.Runs.{caches_told}
-use Rattle.lb_desk.proofs.Whole.{whole}
+use Rattle.lb_desk.specs.Seat.{AreAll, Seated}
+use Rattle.lb_desk.proofs.Runs.{caches_told, hits_told}
+use Rattle.lb_desk.proofs.Whole.{as_many, whole}
 use Rattle.lb_desk.proofs.desk.Desk.close.Goals as goal
+
+pub gathered-requires-clause-some : goal.gathered-requires-clause-some
+gathered-requires-clause-some g c =
+    let many = as_many _ _ (c.if-not-are_all.ensures.all refl) in
+    let number = c.args.self.seated in
+    let len = c.as_slice.ensures.len in
+    let some = c.law_of_parts.ensures.some in
+    omega (arith, many, number, len, some)
+
+pub closed-requires : goal.closed-requires
+closed-requires g c =
+    let many = as_many _ _ (c.if-not-are_all.ensures.all refl) in
+    let number = c.args.self.seated in
+    let len = c.as_slice.ensures.len in
+    let law = c.law_of_parts.ensures.parts in
+    let parts = c.gathered.ensures.parts in
+    let apart = c.gathered.ensures.apart in
+    record { parts = omega (arith, many, number, len, law, parts, apart) }
 
 pub returns-clause-caches : goal.returns-clause-caches
 returns-clause-caches g c none_outstanding none_kept =
     ∥∥₁_map c.closed.ensures.told (caches_told c.cached_answers_are_kept_replies.ensures _ _ _ _ _ none_outstanding none_kept)
 
+pub returns-clause-hits : goal.returns-clause-hits
+returns-clause-hits g c = ∥∥₁_map c.closed.ensures.told (hits_told c.hits_come_from_replies.ensures _ _ _ _ _)
+
 pub returns-clause-whole : goal.returns-clause-whole
-returns-clause-whole g c within all =
+returns-clause-whole g c within =
     let seats = c.args.seats.items in
     let log = c.closed.result.log.items in
+    let all : AreAll g.J.Naming.seats seats =
+    subst (λ n. AreAll n seats) c.args.self.seated (subst (λ (l : List Seated). AreAll c.args.self.seats l) c.as_slice.ensures.value (c.if-not-are_all.ensures.all refl)) in
     let few : All (λ (s : Seated). length s.receipts ≤ s.calls) seats = search rules in
     let kept : All (λ (s : Seated). s.receipts ≡ receipts_of s.number log) seats = search rules in
     let filled = c.closed.ensures.filled in
