@@ -51,7 +51,7 @@ ends {A} {S} one comma left_in front most i s t u x total lt h k so_far =
 -- one that does not read
 pub fails : {A S : Type 0} (e : Unread) (one : S → Result (A × S) CommandFault) (comma : S → Bool × S) (left_in : S → Left) (front : List A) (left : ℕ) (s : S) (total : Result (List A × S) CommandFault) → Fails e (one s)
     → with_front front (listed one comma left_in left s) ≡ total → Fails e total
-fails unread.NoMemory one comma left_in front left s total h so_far = tt
+fails (unread.NoMemory refused) one comma left_in front left s total h so_far = tt
 fails {A} {S} (unread.Fault f) one comma left_in front left s total h so_far =
     let nothing : with_front front (listed one comma left_in left s) ≡ Err f = rw (failed one comma left_in left s f h) refl in
     sym so_far ∙ nothing

@@ -60,7 +60,7 @@ goes_on i stated left option x total lt h k so_far =
 -- one comes and does not read
 pub fails : (e : Unread) (i : ℕ) (stated : Stated) (left : Left) (option : ServerOption) (total : Result (Stated × Left) CommandFault) → i < 300000 → looked_up option_words (first_of left).text ≡ Some option → Fails e (behind_option option stated (behind_first left))
     → options_at (300000 - i) stated left ≡ total → Fails e total
-fails unread.NoMemory i stated left option total lt h k so_far = tt
+fails (unread.NoMemory refused) i stated left option total lt h k so_far = tt
 fails (unread.Fault f) i stated left option total lt h k so_far =
     let n : 300000 - i ≡ suc (300000 - (i + 1)) = omega arith in
     sym so_far ∙ rw n (unread_one (300000 - (i + 1)) stated left option f h k)

@@ -53,5 +53,5 @@ behind_form (suc depth) (suc nodes) left rest form deep some h =
 -- a part that holds no terms leaves as many as there were
 pub reads_alone : (result : Result Term Unread) (words : Left) (nodes : ℕ) (read : Result (Selector × Left) CommandFault) → Reads selector_of result words read → Reads selector_of result (nodes, words) (alone nodes read)
 reads_alone (Ok term) words nodes read h = rw h refl
-reads_alone (Err unread.NoMemory) words nodes read h = tt
+reads_alone (Err (unread.NoMemory refused)) words nodes read h = tt
 reads_alone (Err (unread.Fault f)) words nodes read h = rw h refl

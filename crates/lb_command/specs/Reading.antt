@@ -14,7 +14,7 @@ abbrev pub ◌>>=◌ : {A B : Type 0} → Result A CommandFault → (A → Resul
 
 -- a reader that fails gives the fault that reading gives, unless memory is wanting
 abbrev pub Fails : {Y : Type 0} → Unread → Result Y CommandFault → Type 0
-Fails unread.NoMemory read = Unit {0}
+Fails (unread.NoMemory refused) read = Unit {0}
 Fails (unread.Fault f) read = read ≡ Err f
 
 -- what a reader gives, seen so, and what it leaves are what reading gives

@@ -444,6 +444,6 @@ pub fn read_command(alloc: Global, line: &str) -> Result<Command, CommandFault>
     match whole_command(alloc, &mut words) {
         Ok(command) => Ok(command),
         Err(Unread::Fault(fault)) => Err(fault),
-        Err(Unread::NoMemory) => Err(words.no_memory()),
+        Err(Unread::NoMemory(refused)) => Err(words.no_memory(refused)),
     }
 }

@@ -163,6 +163,6 @@ pub fn read_event_line(alloc: Global, line: &str) -> Result<Event, CommandFault>
     match whole_event(alloc, &mut words) {
         Ok(event) => Ok(event),
         Err(Unread::Fault(fault)) => Err(fault),
-        Err(Unread::NoMemory) => Err(words.no_memory()),
+        Err(Unread::NoMemory(refused)) => Err(words.no_memory(refused)),
     }
 }

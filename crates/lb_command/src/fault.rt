@@ -80,6 +80,17 @@ impl FaultKind {
     }
 }
 
+impl From<AllocError> for FaultKind {
+    ghost use Rattle.std.specs.Prelude.{◌≡◌};
+    ghost use Rattle.lb_command.specs.declared.fault.FaultKind.TheVariants as kinds;
+
+    ghost from_gives = { λ _ kind. kind ≡ kinds.NoMemory };
+
+    fn from(_refused: AllocError) -> FaultKind {
+        FaultKind::NoMemory
+    }
+}
+
 /// The first fault of a line, from the left.
 #[derive(Clone, Copy, Debug, PartialEq, Eq)]
 pub struct CommandFault {
@@ -105,27 +116,28 @@ impl CommandFault {
 #[derive(Clone, Copy, Debug)]
 pub(crate) enum Unread {
     Fault(CommandFault),
-    NoMemory,
+    /// What was refused, for the fault of the line that is made of it.
+    NoMemory(AllocError),
 }
 
 impl From<AllocError> for Unread {
     ghost use Rattle.std.specs.Prelude.{◌≡◌};
     ghost use Rattle.lb_command.specs.declared.fault.Unread.TheVariants as unread;
 
-    ghost from_gives = { λ _ e. e ≡ unread.NoMemory };
+    ghost from_gives = { λ refused e. e ≡ unread.NoMemory refused };
 
-    fn from(_error: AllocError) -> Unread {
-        Unread::NoMemory
+    fn from(refused: AllocError) -> Unread {
+        Unread::NoMemory(refused)
     }
 }
 
 impl<T: Drop> From<AllocFailed<T>> for Unread {
-    ghost use Rattle.std.specs.Prelude.{◌≡◌};
+    ghost use Rattle.std.specs.Prelude.{◌≡◌, alloc_error};
     ghost use Rattle.lb_command.specs.declared.fault.Unread.TheVariants as unread;
 
-    ghost from_gives = { λ _ e. e ≡ unread.NoMemory };
+    ghost from_gives = { λ _ e. e ≡ unread.NoMemory alloc_error };
 
-    fn from(_error: AllocFailed<T>) -> Unread {
-        Unread::NoMemory
+    fn from(refused: AllocFailed<T>) -> Unread {
+        Unread::NoMemory(AllocError::from(refused))
     }
 }

@@ -119,7 +119,7 @@ pub fn read_setup_line(alloc: Global, line: &str) -> Result<SetupLine, CommandFa
     match whole_setup(alloc, &mut words) {
         Ok(line) => Ok(line),
         Err(Unread::Fault(fault)) => Err(fault),
-        Err(Unread::NoMemory) => Err(words.no_memory()),
+        Err(Unread::NoMemory(refused)) => Err(words.no_memory(refused)),
     }
 }
 

@@ -1,7 +1,10 @@
 //! What a word says: names, addresses, masks, numbers, octets, and the words of tables.
 
-ghost use Rattle.std.specs.Prelude.{◌≡◌, ◌≤◌, IfOk, IfSome, None, Some, if◌then◌else◌, map, option_map};
+ghost use Rattle.std.specs.Prelude.{◌≡◌, ◌≤◌, ◌*◌, ◌/◌, IfOk, IfSome, None, Some, if◌then◌else◌, length, map, option_map};
 ghost use Rattle.std.specs.List.{list_all};
+ghost use Rattle.std.specs.Result.{result_ok};
+ghost use Rattle.hex.specs.Hex.{decode_of};
+ghost use Rattle.lb_wire.specs.Octets.{max_message};
 ghost use Rattle.lb_command.specs.Line.{is_word_byte};
 ghost use Rattle.lb_command.specs.Values.{addr_of, count_of, hex_of, ident_of, in_range, kind_of, looked_up, mask_of, mode_of, name_of, outcome_of, policy_of, pool_of, protocol_of, type_kind, type_of, worded};
 
@@ -9,7 +12,6 @@ use crate::answers::{kind_word, mode_word, policy_word};
 use crate::fault::FaultKind;
 use crate::setup::Protocol;
 use crate::words::is_word_byte;
-use hex::FromHexError;
 use lb_cache::{MaxEntries, MaxTtl, Shards};
 use lb_core::Timeout;
 use lb_masks::{Mask, decimal_up_to, parse_addr};
@@ -240,9 +242,21 @@ pub(crate) fn hex_of(alloc: Global, text: &[u8]) -> Result<Option<Octets>, Alloc
     if text.is_empty() || text.len() > 2 * MAX_MESSAGE {
         return Ok(None);
     }
-    match hex::decode(alloc, text) {
-        Ok(bytes) => Ok(Some(Octets::from_vec(bytes))),
-        Err(FromHexError::OutOfMemory) => Err(AllocError),
+    if text.len() % 2 != 0 {
+        return Ok(None);
+    }
+    pairs_of(alloc, text)
+}
+
+/// The octets that pairs of hexadecimal digits spell, in room that is taken first. The one error is want of memory.
+fn pairs_of(alloc: Global, text: &[u8]) -> Result<Option<Octets>, AllocError>
+    requires pairs { length text.now ≡ 2 * (length text.now / 2) }
+    requires short { length text.now / 2 ≤ max_message }
+    ensures { IfOk result (λ octets. octets ≡ result_ok (decode_of text.now)) }
+{
+    let mut bytes = Vec::from_elem(alloc, 0u8, text.len() / 2)?;
+    match hex::decode_to_slice(text, bytes.as_mut_slice()) {
+        Ok(()) => Ok(Some(Octets::from_vec(bytes))),
         Err(_) => Ok(None),
     }
 }

@@ -9,6 +9,7 @@ ghost use Rattle.lb_command.specs.Reading.{Gives, Reads, due, ended, extra_at, f
 
 use crate::fault::{CommandFault, FaultKind, Unread};
 use lb_masks::decimal_up_to;
+use std::alloc::AllocError;
 use std::marker::Model;
 
 /// Whether a byte is a sign.
@@ -190,13 +191,13 @@ impl<'a> Words<'a> {
         Token { text, place }
     }
 
-    /// Want of memory at the word that was taken last.
-    pub(crate) fn no_memory(&self) -> CommandFault
+    /// That memory was refused at the word that was taken last.
+    pub(crate) fn no_memory(&self, refused: AllocError) -> CommandFault
         ensures { result.kind ≡ NoMemory }
     {
         CommandFault {
             place: self.hand,
-            kind: FaultKind::NoMemory,
+            kind: FaultKind::from(refused),
         }
     }
 
