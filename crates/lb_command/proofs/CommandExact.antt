@@ -19,7 +19,7 @@ use Rattle.lb_core.specs.declared.command.Command.TheVariants.{RuleAdd, RuleRemo
 use Rattle.lb_core.specs.declared.command.StatedRule.{StatedRule}
 use Rattle.lb_command.specs.Line.{Left, behind_first, first_of}
 use Rattle.lb_command.specs.Reading.{◌>>=◌, due, optional, or_left_out, taken}
-use Rattle.lb_command.specs.Values.{addr_of, ident_of, in_range, looked_up, mode_of, name_of, number_of, policy_of, pool_of, type_of}
+use Rattle.lb_command.specs.Values.{addr_of, ident_of, in_range, looked_up, mode_of, name_of, number_of, policy_of, pool_of, port_of, type_of}
 use Rattle.lb_command.specs.Terms.{checked_at}
 use Rattle.lb_command.specs.Actions.{action_at}
 use Rattle.lb_command.specs.Commands.{Stated, behind_cache_verb, behind_extent, behind_pool_verb, behind_rule_verb, behind_server_verb, behind_verb, by_name_at, by_suffix_at, cache_at, cache_attach_at, cache_detach_at, cache_verb_words, check_of, command_at, expunge_at, extent_words, nothing_stated, options_at, place_at, pool_add_at, pool_at, pool_policy_at, pool_verb_words, rule_add_at, rule_at, rule_id, rule_move_at, rule_remove_at, rule_verb_words, server_add_at, server_at, server_mode_at, server_remove_at, server_verb_words, spec_of, timeout_at, verb_words}
@@ -109,7 +109,7 @@ unfolding server_add_at
 server_add_found line inner s t y w v h =
     let a = says_step kinds.BadName ident_of s _ (y, t) refl h in
     let b = says_step kinds.BadAddress addr_of a.1 _ (y, t) refl a.3 in
-    let c = says_step kinds.BadNumber (in_range 1 65535) b.1 _ (y, t) refl b.3 in
+    let c = says_step kinds.BadNumber port_of b.1 _ (y, t) refl b.3 in
     let o = step (options_at 300000 nothing_stated) (λ (new : Stated) s t. MakeAll nothing_stated s new t) c.1 _ (y, t) (λ s t new g. options_found 300000 nothing_stated new s t (omega arith) g) c.3 in
     let made : server (spec_of a.0 b.0 c.0 o.0) (check_of o.0) s o.1 = (o.2.0, ap (λ (z : Stated). spec_of a.0 b.0 c.0 z) o.2.1, ap check_of o.2.1, (a.1, a.2, (b.1, b.2, (c.1, c.2, o.2.2)))) in
     carried (λ (z : Command) (u : Left). Commands z line u) (ServerAdd (spec_of a.0 b.0 c.0 o.0) (check_of o.0)) y o.1 t o.3 ((inner, w, (s, v, made)), o.2.3)
@@ -319,9 +319,9 @@ server_add_again s t spec check h few enough none =
     let pools : length stated.pools ≤ 8 = subst (λ (z : ServerSpec). length z.pools ≤ 8) h.1 few in
     let a = (says_keeps ident_of spec.name s h.3.0 h.3.1).1 in
     let b = (says_keeps addr_of spec.addr h.3.0 h.3.2.0 h.3.2.1).1 in
-    let c = (says_keeps (in_range 1 65535) spec.port h.3.2.0 h.3.2.2.0 h.3.2.2.1).1 in
+    let c = (says_keeps port_of spec.port h.3.2.0 h.3.2.2.0 h.3.2.2.1).1 in
     let read = options_again h.0 300000 nothing_stated h.3.2.2.0 t h.3.2.2.2 none (omega (arith, a, b, c, enough)) pools in
-    rw (says_again kinds.BadName ident_of s h.3.0 spec.name h.3.1, says_again kinds.BadAddress addr_of h.3.0 h.3.2.0 spec.addr h.3.2.1, says_again kinds.BadNumber (in_range 1 65535) h.3.2.0 h.3.2.2.0 spec.port h.3.2.2.1, read)
+    rw (says_again kinds.BadName ident_of s h.3.0 spec.name h.3.1, says_again kinds.BadAddress addr_of h.3.0 h.3.2.0 spec.addr h.3.2.1, says_again kinds.BadNumber port_of h.3.2.0 h.3.2.2.0 spec.port h.3.2.2.1, read)
     (ap (λ (z : ServerSpec). Ok (ServerAdd z (check_of stated), t)) (sym h.1) ∙ ap (λ (z : CheckSpec). Ok (ServerAdd spec z, t)) (sym h.2))
 
 server_remove_again : (s t : Left) (name : List ℕ) → says ident_of name s t → server_remove_at s ≡ Ok (ServerRemove name, t)

@@ -18,7 +18,7 @@ use Rattle.lb_core.specs.declared.event.Event.TheVariants.{Query, Reply, Tick, H
 use Rattle.lb_command.specs.Line.{Left, Seen, begins_word, in_front, is_word_byte, seen, whole, words_of}
 use Rattle.lb_command.specs.Grammar.{Choice, Part, ◌▷◌, action, bracketed, choice, comma_list, command, covered, event, in_front_of, lengths, optional_type, options, order, pool, fall, rise, resolve, other_terms, others, place, says, server, setup, term, terms, word}
 use Rattle.lb_masks.specs.Number.{number_up_to}
-use Rattle.lb_command.specs.Values.{addr_of, count_of, hex_of, ident_of, in_range, kind_of, mask_of, mode_of, name_of, number_of, outcome_of, policy_of, pool_of, protocol_of, rcode_of, type_of, word_number}
+use Rattle.lb_command.specs.Values.{addr_of, count_of, hex_of, ident_of, in_range, kind_of, mask_of, mode_of, name_of, number_of, outcome_of, policy_of, pool_of, port_of, protocol_of, rcode_of, type_of, word_number}
 use Rattle.lb_command.specs.declared.setup.SetupLine.{SetupLine}
 use Rattle.lb_command.specs.declared.setup.SetupLine.TheVariants as setups
 use Rattle.lb_command.proofs.Lexing.{at_end, before}
@@ -130,9 +130,9 @@ options_keep (c ∷ choices) = then_keeps (choice c) (options choices) (choice_k
 
 server_keeps : (spec : ServerSpec) (check : CheckSpec) → Keeps (server spec check)
 server_keeps spec check s t h =
-    behind_value ident_of spec.name (says addr_of spec.addr ▷ says (in_range 1 65535) spec.port ▷ options h.0)
-    (behind_value addr_of spec.addr (says (in_range 1 65535) spec.port ▷ options h.0)
-    (behind_value (in_range 1 65535) spec.port (options h.0) (options_keep h.0))) s t h.3
+    behind_value ident_of spec.name (says addr_of spec.addr ▷ says port_of spec.port ▷ options h.0)
+    (behind_value addr_of spec.addr (says port_of spec.port ▷ options h.0)
+    (behind_value port_of spec.port (options h.0) (options_keep h.0))) s t h.3
 
 type_keeps : (q : Option RecordType) → Keeps (optional_type q)
 type_keeps None = same
@@ -186,9 +186,9 @@ event_keeps (Edit now c) s t h = behind_word (codes "edit") (says number_of now 
 
 pub setup_keeps : (l : SetupLine) → Keeps (setup l)
 setup_keeps (setups.Listen listener) =
-    behind_word (codes "listen") (says protocol_of listener.protocol ▷ says addr_of listener.addr ▷ says (in_range 1 65535) listener.port)
-    (behind_value protocol_of listener.protocol (says addr_of listener.addr ▷ says (in_range 1 65535) listener.port)
-    (behind_value addr_of listener.addr (says (in_range 1 65535) listener.port) (says_keeps (in_range 1 65535) listener.port)))
+    behind_word (codes "listen") (says protocol_of listener.protocol ▷ says addr_of listener.addr ▷ says port_of listener.port)
+    (behind_value protocol_of listener.protocol (says addr_of listener.addr ▷ says port_of listener.port)
+    (behind_value addr_of listener.addr (says port_of listener.port) (says_keeps port_of listener.port)))
 setup_keeps (setups.Log n) = behind_word (codes "log") (says (number_up_to 10 1000000) n) (says_keeps (number_up_to 10 1000000) n)
 setup_keeps (setups.Edit c) = command_keeps c
 

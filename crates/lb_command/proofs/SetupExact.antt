@@ -7,7 +7,7 @@ use Rattle.lb_core.specs.declared.command.Command.{Command}
 use Rattle.lb_core.specs.declared.command.Command.TheVariants.{RuleAdd, RuleRemove, RuleMove, ServerAdd, ServerRemove, ServerMode, PoolAdd, PoolPolicy, CacheAttach, CacheDetach, Expunge, SetTimeout, Show}
 use Rattle.lb_command.specs.Line.{Left}
 use Rattle.lb_command.specs.Reading.{taken}
-use Rattle.lb_command.specs.Values.{addr_of, in_range, protocol_of}
+use Rattle.lb_command.specs.Values.{addr_of, port_of, protocol_of}
 use Rattle.lb_command.specs.Commands.{command_at}
 use Rattle.lb_command.specs.Setup.{edit_line_at, listen_at, log_at, setup_at}
 use Rattle.lb_command.specs.Grammar.{AllowedSetup, ◌▷◌, command, says, setup, word}
@@ -28,7 +28,7 @@ unfolding listen_at
 listen_found line s t y w h =
     let a = says_step kinds.UnknownWord protocol_of s _ (y, t) refl h in
     let b = says_step kinds.BadAddress addr_of a.1 _ (y, t) refl a.3 in
-    let c = says_step kinds.BadNumber (in_range 1 65535) b.1 _ (y, t) refl b.3 in
+    let c = says_step kinds.BadNumber port_of b.1 _ (y, t) refl b.3 in
     let listener : Listener = record { protocol = a.0; addr = b.0; port = c.0 } in
     carried (λ (z : SetupLine) (u : Left). Setups z line u) (Listen listener) y c.1 t c.3 ((s, w, (a.1, a.2, (b.1, b.2, c.2))), tt)
 
@@ -58,10 +58,10 @@ setup_part_found s t y h =
       ]
     ]
 
-listen_again : (s t : Left) (listener : Listener) → (says protocol_of listener.protocol ▷ says addr_of listener.addr ▷ says (in_range 1 65535) listener.port) s t → listen_at s ≡ Ok (Listen listener, t)
+listen_again : (s t : Left) (listener : Listener) → (says protocol_of listener.protocol ▷ says addr_of listener.addr ▷ says port_of listener.port) s t → listen_at s ≡ Ok (Listen listener, t)
 unfolding listen_at
 listen_again s t listener h =
-    rw (says_again kinds.UnknownWord protocol_of s h.0 listener.protocol h.1, says_again kinds.BadAddress addr_of h.0 h.2.0 listener.addr h.2.1, says_again kinds.BadNumber (in_range 1 65535) h.2.0 t listener.port h.2.2) refl
+    rw (says_again kinds.UnknownWord protocol_of s h.0 listener.protocol h.1, says_again kinds.BadAddress addr_of h.0 h.2.0 listener.addr h.2.1, says_again kinds.BadNumber port_of h.2.0 t listener.port h.2.2) refl
 
 log_again : (s t : Left) (n : ℕ) → says (number_up_to 10 1000000) n s t → log_at s ≡ Ok (Log n, t)
 unfolding log_at

@@ -31,6 +31,7 @@ use Rattle.lb_core.specs.declared.answer.IgnoreReason.TheVariants as ignores
 use Rattle.lb_core.specs.declared.answer.Note.{Note}
 use Rattle.lb_core.specs.declared.answer.Note.TheVariants.{RuleAdded, RuleRemoved, RuleMoved, ServerAdded, ServerRemoved, ServerMode, PoolAdded, PoolPolicy, CacheAttached, CacheDetached, Expunged, TimeoutSet, Shown, ServerUp, ServerDown}
 use Rattle.lb_core.specs.declared.answer.Totals.{Totals}
+use Rattle.lb_core.specs.declared.answer.EditFault.{EditFault}
 use Rattle.lb_core.specs.declared.answer.EditFault.TheVariants.{Rules, Servers, NoCache}
 
 -- octets as digits in lower case, and none as a dash
@@ -146,6 +147,12 @@ servers_text park_faults.TooMany = codes "refused servers 4 TooMany"
 servers_text park_faults.NoMemory = codes "refused servers 5 NoMemory"
 servers_text park_faults.NoMoreIds = codes "refused servers 6 NoMoreIds"
 
+-- a refused edit
+abbrev pub refusal_text : EditFault → List ℕ
+refusal_text (Rules fault) = rules_text fault
+refusal_text (Servers fault) = servers_text fault
+refusal_text NoCache = codes "refused cache 1 NoCache"
+
 -- the line of an answer, without its line feed
 abbrev pub line_of : Answer → List ℕ
 line_of (Dropped reason) = codes "dropped " ++ drop_text reason
@@ -156,9 +163,7 @@ line_of (Expired origin bytes) = expired_text origin bytes
 line_of Quiet = codes "quiet"
 line_of (Ignored reason) = codes "ignored " ++ ignored_text reason
 line_of (Edited note) = edited_text note
-line_of (Refused (Rules fault)) = rules_text fault
-line_of (Refused (Servers fault)) = servers_text fault
-line_of (Refused NoCache) = codes "refused cache 1 NoCache"
+line_of (Refused fault) = refusal_text fault
 line_of (NoMemory bytes) = codes "nomemory " ++ hex_text bytes
 
 -- what a note tells: the whole line of an edit, and the first word of the line of any other answer

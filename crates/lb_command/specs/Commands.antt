@@ -1,6 +1,7 @@
 -- Reading commands. A part's name tells what stands there, behind the words that begin it.
 use Rattle.std.specs.Prelude.{if◌then◌else◌, ℕ, zero, suc, Bool, true, false, nat_lt, Option, Some, None, Result, Ok, List, [], ◌∷◌, ◌++◌, length, codes}
 use Rattle.std.specs.declared.num.NonZeroU8.{NonZeroU8}
+use Rattle.std.specs.declared.num.NonZeroU16.{NonZeroU16}
 use Rattle.lb_wire.specs.declared.addr.Addr.{Addr}
 use Rattle.lb_wire.specs.declared.ids.RuleId.{RuleId}
 use Rattle.lb_servers.specs.declared.pool.PoolName.{PoolName}
@@ -12,7 +13,7 @@ use Rattle.lb_core.specs.declared.command.Command.{Command}
 use Rattle.lb_core.specs.declared.command.Command.TheVariants.{RuleAdd, RuleRemove, RuleMove, ServerAdd, ServerRemove, ServerMode, PoolAdd, PoolPolicy, CacheAttach, CacheDetach, Expunge, SetTimeout, Show}
 use Rattle.lb_command.specs.Line.{Left, first_of, behind_first, whole}
 use Rattle.lb_command.specs.Reading.{◌>>=◌, due, ended, optional, taken, too_many, within}
-use Rattle.lb_command.specs.Values.{addr_of, count_of, ident_of, in_range, looked_up, mode_of, name_of, number_of, one, policy_of, pool_of, type_of, word_number}
+use Rattle.lb_command.specs.Values.{addr_of, count_of, ident_of, in_range, looked_up, mode_of, name_of, number_of, one, policy_of, pool_of, port_of, type_of, word_number}
 use Rattle.lb_command.specs.Terms.{checked_at}
 use Rattle.lb_command.specs.Actions.{action_at}
 use Rattle.lb_command.specs.declared.fault.CommandFault.{CommandFault}
@@ -134,7 +135,7 @@ options_at zero stated left = Ok (stated, left)
 options_at (suc fuel) stated left = with_option (looked_up option_words (first_of left).text) (options_at fuel) stated left
 
 -- a server as it is stated
-abbrev pub spec_of : List ℕ → Addr → ℕ → Stated → ServerSpec
+abbrev pub spec_of : List ℕ → Addr → NonZeroU16 → Stated → ServerSpec
 spec_of name addr port stated = record { name = name; addr = addr; port = port; order = stated.order; pools = stated.pools }
 
 abbrev pub check_of : Stated → CheckSpec
@@ -145,7 +146,7 @@ unfoldable pub server_add_at : Left → Result (Command × Left) CommandFault
 server_add_at left = do
   name ← due kinds.BadName ident_of left
   addr ← due kinds.BadAddress addr_of name.1
-  port ← due kinds.BadNumber (in_range 1 65535) addr.1
+  port ← due kinds.BadNumber port_of addr.1
   stated ← options_at 300000 nothing_stated port.1
   Ok (ServerAdd (spec_of name.0 addr.0 port.0 stated.0) (check_of stated.0), stated.1)
 

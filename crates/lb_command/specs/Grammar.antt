@@ -20,7 +20,7 @@ use Rattle.lb_core.specs.declared.event.Event.{Event}
 use Rattle.lb_core.specs.declared.event.Event.TheVariants.{Query, Reply, Tick, HealthResult, Edit}
 use Rattle.lb_command.specs.Line.{Left, Seen, seen, whole}
 use Rattle.lb_command.specs.Reading.{max_line}
-use Rattle.lb_command.specs.Values.{addr_of, count_of, hex_of, ident_of, in_range, kind_of, mask_of, mode_of, name_of, number_of, outcome_of, policy_of, pool_of, protocol_of, rcode_of, type_of, word_number}
+use Rattle.lb_command.specs.Values.{addr_of, count_of, hex_of, ident_of, in_range, kind_of, mask_of, mode_of, name_of, number_of, outcome_of, policy_of, pool_of, port_of, protocol_of, rcode_of, type_of, word_number}
 use Rattle.lb_command.specs.Commands.{Stated, check_of, nothing_stated, spec_of}
 use Rattle.lb_command.specs.Events.{lane_of, told_origin}
 use Rattle.lb_command.specs.declared.setup.SetupLine.{SetupLine}
@@ -156,7 +156,7 @@ abbrev pub server : ServerSpec → CheckSpec → Part
 server spec check left rest =
     (choices : List Choice)
     × (spec ≡ spec_of spec.name spec.addr spec.port (all_chosen nothing_stated choices)) × (check ≡ check_of (all_chosen nothing_stated choices))
-    × (says ident_of spec.name ▷ says addr_of spec.addr ▷ says (in_range 1 65535) spec.port ▷ options choices) left rest
+    × (says ident_of spec.name ▷ says addr_of spec.addr ▷ says port_of spec.port ▷ options choices) left rest
 
 -- [TYPE]
 abbrev pub optional_type : Option RecordType → Part
@@ -213,7 +213,7 @@ event (Edit now c) left rest = (word (codes "edit") ▷ number now ▷ command c
 
 abbrev pub setup : SetupLine → Part
 -- listen udp|tcp|doh|console ADDR PORT
-setup (setups.Listen listener) = word (codes "listen") ▷ says protocol_of listener.protocol ▷ says addr_of listener.addr ▷ says (in_range 1 65535) listener.port
+setup (setups.Listen listener) = word (codes "listen") ▷ says protocol_of listener.protocol ▷ says addr_of listener.addr ▷ says port_of listener.port
 -- log N
 setup (setups.Log n) = word (codes "log") ▷ says (number_up_to 10 1000000) n
 -- COMMAND

@@ -3,7 +3,7 @@ use Rattle.std.specs.Prelude.{if◌then◌else◌, ℕ, Bool, Result, Ok, List, 
 use Rattle.lb_masks.specs.Number.{number_up_to}
 use Rattle.lb_command.specs.Line.{Left, first_of, whole}
 use Rattle.lb_command.specs.Reading.{◌>>=◌, due, ended, taken, within}
-use Rattle.lb_command.specs.Values.{addr_of, in_range, protocol_of}
+use Rattle.lb_command.specs.Values.{addr_of, port_of, protocol_of}
 use Rattle.lb_command.specs.Commands.{command_at}
 use Rattle.lb_command.specs.declared.fault.CommandFault.{CommandFault}
 use Rattle.lb_command.specs.declared.fault.FaultKind.TheVariants as kinds
@@ -15,7 +15,7 @@ unfoldable pub listen_at : Left → Result (SetupLine × Left) CommandFault
 listen_at left = do
   protocol ← due kinds.UnknownWord protocol_of left
   addr ← due kinds.BadAddress addr_of protocol.1
-  port ← due kinds.BadNumber (in_range 1 65535) addr.1
+  port ← due kinds.BadNumber port_of addr.1
   Ok (Listen (record { protocol = protocol.0; addr = addr.0; port = port.0 }), port.1)
 
 -- N

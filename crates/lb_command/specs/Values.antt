@@ -6,6 +6,7 @@ use Rattle.std.specs.Borrow.{Bor}
 use Rattle.std.specs.List.{find, list_all}
 use Rattle.std.specs.Char.{is_ascii_digit}
 use Rattle.std.specs.declared.num.NonZeroU8.{NonZeroU8}
+use Rattle.std.specs.declared.num.NonZeroU16.{NonZeroU16}
 use Rattle.hex.specs.Hex.{decode_of}
 use Rattle.lb_name.specs.Text.{name_of_text}
 use Rattle.lb_wire.specs.Octets.{max_message}
@@ -74,6 +75,14 @@ one = record { value = 1; ok = omega arith }
 
 abbrev pub count_of : List ℕ → Option NonZeroU8
 count_of text = option_and_then non_zero (number_up_to 10 255 text)
+
+-- a port, from 1 to 65,535
+abbrev pub non_zero_port : ℕ → Option NonZeroU16
+non_zero_port zero = None
+non_zero_port (suc n) = Some (record { value = suc n; ok = omega arith })
+
+abbrev pub port_of : List ℕ → Option NonZeroU16
+port_of text = option_and_then non_zero_port (number_up_to 10 65535 text)
 
 -- SNAME
 abbrev pub ident_of : List ℕ → Option (List ℕ)

@@ -1,7 +1,7 @@
 //! Writing answers as lines.
 
-ghost use Rattle.std.specs.Prelude.{◌≡◌, IfOk, string_bytes};
-ghost use Rattle.lb_command.specs.Answers.{deliver_text, drop_text, edited_text, expired_text, forward_text, hex_text, ignored_text, kept_text, kind_text, line_of, local_text, mode_text, note_of, numbered_text, policy_text, pool_text, rules_text, servers_text, totals_text};
+ghost use Rattle.std.specs.Prelude.{◌≡◌, ◌≤◌, IfOk, length, string_bytes};
+ghost use Rattle.lb_command.specs.Answers.{deliver_text, drop_text, edited_text, expired_text, forward_text, hex_text, ignored_text, kept_text, kind_text, line_of, local_text, mode_text, note_of, numbered_text, policy_text, pool_text, refusal_text, rules_text, servers_text, totals_text};
 
 use lb_chain::ChainFault;
 use lb_core::{Answer, DropReason, EditFault, IgnoreReason, LocalReason, Note, Totals};
@@ -32,9 +32,7 @@ pub fn answer_line(alloc: Global, answer: &Answer) -> Result<String, AllocError>
             format!(in alloc; "ignored {why}")
         }
         Answer::Edited(note) => edited_line(alloc, note),
-        Answer::Refused(EditFault::Rules(fault)) => String::from_str(alloc, rules_line(*fault)),
-        Answer::Refused(EditFault::Servers(fault)) => String::from_str(alloc, servers_line(*fault)),
-        Answer::Refused(EditFault::NoCache) => String::from_str(alloc, "refused cache 1 NoCache"),
+        Answer::Refused(fault) => String::from_str(alloc, refusal_text(*fault)),
         Answer::NoMemory(bytes) => {
             let bytes = hex_of(alloc, bytes)?;
             format!(in alloc; "nomemory {bytes}")
@@ -162,9 +160,22 @@ fn totals_line(alloc: Global, totals: &Totals) -> Result<String, AllocError>
     )
 }
 
+/// The line of a refused edit, without its line feed: of at most 31 bytes, and without memory.
+pub fn refusal_text(fault: EditFault) -> &'static str
+    ensures text { result.now ≡ refusal_text fault }
+    ensures short { length result.now ≤ 31 }
+{
+    match fault {
+        EditFault::Rules(fault) => rules_line(fault),
+        EditFault::Servers(fault) => servers_line(fault),
+        EditFault::NoCache => "refused cache 1 NoCache",
+    }
+}
+
 /// The line of a refusal by the list of rules: its number and its name.
 fn rules_line(fault: ChainFault) -> &'static str
-    ensures { result.now ≡ rules_text fault }
+    ensures text { result.now ≡ rules_text fault }
+    ensures short { length result.now ≤ 31 }
 {
     match fault {
         ChainFault::NoSuchRule => "refused rules 1 NoSuchRule",
@@ -178,7 +189,8 @@ fn rules_line(fault: ChainFault) -> &'static str
 
 /// The line of a refusal by the table of servers and pools: its number and its name.
 fn servers_line(fault: ParkFault) -> &'static str
-    ensures { result.now ≡ servers_text fault }
+    ensures text { result.now ≡ servers_text fault }
+    ensures short { length result.now ≤ 31 }
 {
     match fault {
         ParkFault::NoSuchServer => "refused servers 1 NoSuchServer",

@@ -11,7 +11,7 @@ use crate::actions::action;
 use crate::fault::{CommandFault, FaultKind, MAX_LINE, Unread};
 use crate::options::server_options;
 use crate::parts::{
-    addr, ident, max_entries, max_ttl, mode, name, number_in, optional_type, policy, pool, shards,
+    addr, ident, max_entries, max_ttl, mode, name, optional_type, policy, pool, port, shards,
     timeout,
 };
 use crate::terms::checked_term;
@@ -220,7 +220,7 @@ fn read_server_add(alloc: Global, words: &mut Words<'_>) -> Result<Command, Unre
 {
     let name = ident(words)?;
     let addr = addr(words)?;
-    let port = number_in(words, 1, 65_535)? as u16;
+    let port = port(words)?;
     let options = server_options(alloc, words)?;
     let Some(pools) = PoolNames::from_vec(options.pools) else {
         unreachable!()

@@ -1,6 +1,6 @@
 //! What is wrong with a line.
 
-ghost use Rattle.std.specs.Prelude.{◌≡◌};
+ghost use Rattle.std.specs.Prelude.{◌≡◌, ◌≤◌, length};
 ghost use Rattle.lb_command.specs.Fault.{fault_name, fault_number};
 ghost use Rattle.lb_command.specs.Reading.{max_line};
 ghost use Rattle.lb_command.specs.declared.fault.FaultKind.TheVariants.{Extra};
@@ -62,9 +62,10 @@ impl FaultKind {
         }
     }
 
-    /// The name of the fault.
+    /// The name of the fault, of at most 11 bytes.
     pub fn name(self) -> &'static str
-        ensures { result.now ≡ fault_name self }
+        ensures name { result.now ≡ fault_name self }
+        ensures short { length result.now ≤ 11 }
     {
         match self {
             FaultKind::UnknownWord => "UnknownWord",

@@ -14,7 +14,7 @@ mod terms;
 mod values;
 mod words;
 
-pub use answers::{answer_line, note_text};
+pub use answers::{answer_line, note_text, refusal_text};
 pub use commands::read_command;
 pub use events::read_event_line;
 pub use fault::{CommandFault, FaultKind, MAX_LINE};

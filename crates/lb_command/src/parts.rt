@@ -4,13 +4,13 @@ ghost use Rattle.std.specs.Prelude.{◌≤◌, IfOk};
 ghost use Rattle.lb_command.specs.declared.fault.FaultKind.TheVariants.{BadAddress, BadHex, BadName, BadNumber, UnknownWord};
 ghost use Rattle.lb_command.specs.Reading.{Reads, due, optional};
 ghost use Rattle.lb_command.specs.Terms.{type_at};
-ghost use Rattle.lb_command.specs.Values.{addr_of, count_of, hex_of, ident_of, in_range, kind_of, mask_of, mode_of, name_of, outcome_of, policy_of, pool_of, protocol_of, rcode_of, type_of};
+ghost use Rattle.lb_command.specs.Values.{addr_of, count_of, hex_of, ident_of, in_range, kind_of, mask_of, mode_of, name_of, outcome_of, policy_of, pool_of, port_of, protocol_of, rcode_of, type_of};
 
 use crate::fault::{FaultKind, Unread};
 use crate::setup::Protocol;
 use crate::values::{
     addr_of, count_of, entries_of, hex_of, ident_of, in_range, kind_of, mask_of, max_ttl_of,
-    mode_of, name_of, outcome_of, policy_of, pool_of, protocol_of, shards_of, timeout_of,
+    mode_of, name_of, outcome_of, policy_of, pool_of, port_of, protocol_of, shards_of, timeout_of,
     type_kind, type_of,
 };
 use crate::words::Words;
@@ -21,7 +21,7 @@ use lb_name::Name;
 use lb_servers::{Ident, Mode, Policy, PoolName};
 use lb_wire::{Addr, Kind, Octets, Rcode, RecordType};
 use std::alloc::Global;
-use std::num::NonZeroU8;
+use std::num::{NonZeroU8, NonZeroU16};
 
 /// Takes the name of a server.
 pub(crate) fn ident(words: &mut Words<'_>) -> Result<Ident, Unread>
@@ -78,6 +78,14 @@ pub(crate) fn count(words: &mut Words<'_>) -> Result<NonZeroU8, Unread>
 {
     let token = words.next();
     count_of(token.text).ok_or(token.fault(FaultKind::BadNumber))
+}
+
+/// Takes a port.
+pub(crate) fn port(words: &mut Words<'_>) -> Result<NonZeroU16, Unread>
+    ensures { Reads (λ n. n) result words.new (due BadNumber port_of words.old) }
+{
+    let token = words.next();
+    port_of(token.text).ok_or(token.fault(FaultKind::BadNumber))
 }
 
 /// Takes how many replies a cache keeps at most.

@@ -8,11 +8,12 @@ ghost use Rattle.lb_command.specs.Setup.{begins_listen, edit_line_at, listen_at,
 
 use crate::commands::command;
 use crate::fault::{CommandFault, MAX_LINE, Unread};
-use crate::parts::{addr, number_in, protocol};
+use crate::parts::{addr, port, protocol};
 use crate::words::Words;
 use lb_core::Command;
 use lb_wire::Addr;
 use std::alloc::Global;
+use std::num::NonZeroU16;
 
 /// The most calls that a log may hold.
 const MAX_LOG: u64 = 1_000_000;
@@ -31,8 +32,7 @@ pub enum Protocol {
 pub struct Listener {
     pub protocol: Protocol,
     pub addr: Addr,
-    /// 1 to 65,535.
-    pub port: u16,
+    pub port: NonZeroU16,
 }
 
 /// A line of a setup file.
@@ -53,7 +53,7 @@ fn read_listen(words: &mut Words<'_>) -> Result<SetupLine, Unread>
 {
     let protocol = protocol(words)?;
     let addr = addr(words)?;
-    let port = number_in(words, 1, 65_535)? as u16;
+    let port = port(words)?;
     Ok(SetupLine::Listen(Listener {
         protocol,
         addr,

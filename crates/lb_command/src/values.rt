@@ -6,7 +6,7 @@ ghost use Rattle.std.specs.Result.{result_ok};
 ghost use Rattle.hex.specs.Hex.{decode_of};
 ghost use Rattle.lb_wire.specs.Octets.{max_message};
 ghost use Rattle.lb_command.specs.Line.{is_word_byte};
-ghost use Rattle.lb_command.specs.Values.{addr_of, count_of, hex_of, ident_of, in_range, kind_of, looked_up, mask_of, mode_of, name_of, outcome_of, policy_of, pool_of, protocol_of, type_kind, type_of, worded};
+ghost use Rattle.lb_command.specs.Values.{addr_of, count_of, hex_of, ident_of, in_range, kind_of, looked_up, mask_of, mode_of, name_of, outcome_of, policy_of, pool_of, port_of, protocol_of, type_kind, type_of, worded};
 
 use crate::answers::{kind_word, mode_word, policy_word};
 use crate::fault::FaultKind;
@@ -19,7 +19,7 @@ use lb_name::Name;
 use lb_servers::{Ident, Mode, Policy, PoolName};
 use lb_wire::{Addr, Kind, MAX_MESSAGE, Octets, RecordType};
 use std::alloc::{AllocError, Global};
-use std::num::NonZeroU8;
+use std::num::{NonZeroU8, NonZeroU16};
 use std::str::from_utf8;
 
 /// The greatest number that is looked at where a lesser one is due.
@@ -202,6 +202,13 @@ pub(crate) fn count_of(text: &[u8]) -> Option<NonZeroU8>
     ensures { result ≡ count_of text.now }
 {
     NonZeroU8::new(decimal_up_to(text, 255)? as u8)
+}
+
+/// A port, 1 to 65,535, as a word says it.
+pub(crate) fn port_of(text: &[u8]) -> Option<NonZeroU16>
+    ensures { result ≡ port_of text.now }
+{
+    NonZeroU16::new(decimal_up_to(text, 65_535)? as u16)
 }
 
 /// How many replies a cache keeps at most, as a word says it.

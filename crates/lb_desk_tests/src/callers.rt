@@ -17,6 +17,9 @@ pub(crate) enum Caller {
     Rests,
     /// It asks so often what time brings.
     Ticks(u64),
+    /// It does so, and at each call is told the wrong thing of the log, which has room for so many: that it is full while it is not,
+    /// and that it is not once it is.
+    IsMisled(u64, u64),
     /// It asks so many queries.
     Asks(u64),
     /// It asks three queries, each of them once more where it was refused. A refused call has to change nothing.
@@ -59,6 +62,7 @@ pub(crate) fn is_done<J: Naming, R: Wait + Clock + Eprint>(
     match caller {
         Caller::Rests => true,
         Caller::Ticks(calls) => has_ticked(rt, desk, seat, calls),
+        Caller::IsMisled(calls, limit) => has_been_misled(rt, desk, seat, calls, limit),
         Caller::Asks(calls) => has_asked(rt, alloc, desk, seat, calls),
         Caller::AsksAgain => has_asked_again(rt, alloc, desk, seat),
         Caller::Edits(calls) => has_edited(rt, alloc, desk, seat, calls),
@@ -85,6 +89,33 @@ fn has_ticked<J: Naming, R: Wait>(rt: &R, desk: &Desk<J>, seat: &mut Seat<J>, ca
         }
     }
     true
+}
+
+fn has_been_misled<J: Naming, R: Wait>(
+    rt: &R,
+    desk: &Desk<J>,
+    seat: &mut Seat<J>,
+    calls: u64,
+    limit: u64,
+) -> bool {
+    for now in 0..calls {
+        if !is_answered_misled(rt, desk, seat, now, now < limit) {
+            return false;
+        }
+    }
+    true
+}
+
+/// Whether a tick was answered, by this hint whether the log is full.
+fn is_answered_misled<J: Naming, R: Wait>(
+    rt: &R,
+    desk: &Desk<J>,
+    seat: &mut Seat<J>,
+    now: u64,
+    is_full: bool,
+) -> bool {
+    desk.call_hinted(rt, seat, Event::Tick { now }, is_full)
+        .is_ok()
 }
 
 fn has_asked<J: Naming, R: Wait>(
@@ -164,7 +195,9 @@ fn is_answered_again<J: Naming, R: Wait + Eprint>(
         return true;
     };
     let is_same = before == (seat.calls(), seat.receipts().len()) && back.now() == now;
-    let is_right = is_same && fault == DeskFault::NoMemory && is_answered(rt, desk, seat, back);
+    let is_right = is_same
+        && matches!(fault, DeskFault::NoMemory)
+        && is_answered(rt, desk, seat, back);
     eprintln!(rt; "refused at {now}, and answered then: {is_right}").is_ok() && is_right
 }
 

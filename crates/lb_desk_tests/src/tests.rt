@@ -32,13 +32,31 @@ fn audit(left: Left) -> Result<Audit, Fail> {
     }
 }
 
+/// A desk's limit, its one caller, and how many calls it counted and logged.
+type Row = (u64, Caller, (u64, usize));
+
+/// Two calls past small limits, none of them refused; as many at a desk whose hint says the wrong thing at each call; and a seat with
+/// thousands of receipts.
+const ROWS: &[Row] = &[
+    (0, Caller::Ticks(2), (2, 0)),
+    (1, Caller::Ticks(3), (3, 1)),
+    (2, Caller::Ticks(4), (4, 2)),
+    (3, Caller::Ticks(5), (5, 3)),
+    (3, Caller::IsMisled(5, 3), (5, 3)),
+    (5_000, Caller::Ticks(5_000), (5_000, 5_000)),
+];
+
 #[test]
 fn a_log_ends_at_its_limit(rt: HostRuntime) -> Result<(), Fail> {
-    let left = go_round(&rt, rt.alloc(), 1, 3, &[Round::One(Caller::Ticks(5))])?;
-    assert!(rt; counts(left) == Some((5, 3)));
+    for (limit, caller, wanted) in ROWS {
+        let left = go_round(&rt, rt.alloc(), 1, *limit, &[Round::One(*caller)])?;
+        let counts = counts(left);
+        assert!(rt; counts == Some(*wanted), "{counts:?} at a limit of {limit}");
+    }
     Ok(())
 }
 
+/// With `rt try --test --fail-alloc N` no call is refused: past its log a desk takes no memory.
 #[test]
 fn a_log_without_room_stays_empty(rt: HostRuntime) -> Result<(), Fail> {
     let left = go_round(&rt, rt.alloc(), 1, 0, &[Round::One(Caller::Ticks(5))])?;

@@ -13,6 +13,7 @@ use lb_servers::{
 };
 use lb_wire::{Addr, CacheId, PoolId, ServerId};
 use std::alloc::{AllocError, Global};
+use std::num::NonZeroU16;
 use std::test::Fail;
 
 const ADDR: Addr = Addr::V4([192, 0, 2, 53]);
@@ -81,7 +82,8 @@ fn pool_names(alloc: Global, texts: &[&str]) -> Result<Option<PoolNames>, Fail> 
 fn spec(alloc: Global, name: &str, order: u16, pools: &[&str]) -> Result<ServerSpec, Fail> {
     let pools = pool_names(alloc, pools)?.ok_or("too many pools")?;
     let name = Ident::parse(name).ok_or("no name")?;
-    let mut spec = ServerSpec::new(alloc, name, ADDR, 53);
+    let port = NonZeroU16::new(53).ok_or("no port")?;
+    let mut spec = ServerSpec::new(alloc, name, ADDR, port);
     spec.order = order;
     spec.pools = pools;
     Ok(spec)
@@ -480,7 +482,7 @@ fn is_stated(server: &Server) -> bool {
     server.pools.as_slice() == [PoolId(1), DEFAULT].as_slice()
         && server.name.as_str() == "s"
         && server.addr == ADDR
-        && server.port == 53
+        && server.port.get() == 53
         && server.order == 7
         && server.mode == Mode::Auto
         && server.marked_up

@@ -2,7 +2,9 @@ pub mod Outputs
 pub mod Asked
 pub mod Replays
 pub mod Takes
+pub mod Texts
 pub mod ToldLines
 pub mod Turns
 pub mod Readings
-pub mod CheckedLines
+pub mod SetupLines
+pub mod Checked

@@ -4,6 +4,11 @@ use Rattle.std.proofs.lemmas.List.{append-nil, take-append-drop, take-take, drop
 use Rattle.std.specs.Io.KnownBytes.{Appends, Keeps}
 use Rattle.lb_program.specs.Output.{Writes}
 
+-- nothing was written
+pub keeps_same : (a : Option (List ℕ)) → Keeps a a
+keeps_same None = tt
+keeps_same (Some xs) = refl
+
 -- nothing is appended
 pub appends_none : (a : Option (List ℕ)) → Appends a a []
 appends_none None = tt
@@ -45,7 +50,7 @@ pub writes_kept : (a b c : Option (List ℕ)) (bytes rest : List ℕ) → Writes
 writes_kept a b c bytes rest old kept = (old.0, old.1, appends_kept a b c old.0 old.2 kept)
 
 -- a front, and a front of the rest
-taken_more : (n m : ℕ) (xs : List ℕ) → take (n + m) xs ≡ take n xs ++ take m (drop n xs)
+pub taken_more : (n m : ℕ) (xs : List ℕ) → take (n + m) xs ≡ take n xs ++ take m (drop n xs)
 taken_more n m xs =
     sym (take-append-drop n (take (n + m) xs))
     ∙ ap (λ (front : List ℕ). front ++ drop n (take (n + m) xs)) (take-take n (n + m) xs (omega arith))

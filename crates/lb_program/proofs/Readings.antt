@@ -4,11 +4,11 @@ use Rattle.std.proofs.lemmas.List.{map_push}
 use Rattle.std.specs.Io.KnownBytes.{Keeps}
 use Rattle.lb_core.specs.declared.event.Event.{Event}
 use Rattle.lb_program.specs.Line.{IsFresh, IsSound}
-use Rattle.lb_program.specs.Faults.{IsFailure}
+use Rattle.lb_program.specs.Faults.{End, IsFailure}
 use Rattle.lb_program.specs.Input.{Reading, StopsAt, Turns, left_of, readings}
-use Rattle.lb_program.specs.Replaying.{End, ReadThen, ReadUpTo}
+use Rattle.lb_program.specs.Replaying.{ReadThen, ReadUpTo}
 use Rattle.lb_program.specs.declared.faults.Stop.{Stop}
-use Rattle.lb_program.specs.declared.faults.Stop.TheVariants.{BadLine, Device, NoMemory}
+use Rattle.lb_program.specs.declared.faults.Stop.TheVariants.{BadLine, Refused, NotUtf8, Input, Output, CountFull, NoMemory}
 use Rattle.lb_program.specs.declared.line.Line.{Line}
 use Rattle.lb_program.specs.declared.input.Turn.TheVariants as turns
 use Rattle.lb_program.proofs.ToldLines.{told_all}
@@ -17,7 +17,11 @@ use Rattle.lb_program.proofs.Turns.{fresh_sound, fresh_left}
 -- a failure may come before any readings
 stops_anywhere : (stop : Stop) (left : List (ℕ × Reading)) → IsFailure stop → StopsAt stop left
 stops_anywhere (BadLine number fault) left failed = absurd failed
-stops_anywhere Device left failed = tt
+stops_anywhere (Refused number fault) left failed = absurd failed
+stops_anywhere (NotUtf8 number) left failed = absurd failed
+stops_anywhere (Input error) left failed = tt
+stops_anywhere (Output error) left failed = tt
+stops_anywhere (CountFull full) left failed = tt
 stops_anywhere NoMemory left failed = tt
 
 -- where the bytes of an input are known, its told lines were read as these events up to the line in hand
@@ -46,11 +50,11 @@ nothing_read (Some bytes) left new_left ended new_ended line new events so turn 
     (gave.0, gave.1, gave.2, (read.0, read.1 ∙ ap (λ (more : List (ℕ × Reading)). read.0 ++ more) gave.3, read.2))
 
 -- one more line was read
-more_read : (all front : List (ℕ × Reading)) (number : ℕ) (event : Event) (left : List (ℕ × Reading)) (events : List Event) → all ≡ front ++ ((number, Ok event) ∷ left) → map (λ r. r.1) front ≡ map (λ e. Ok e) events → ReadThen all (events ++ event ∷ []) left
+more_read : (all front : List (ℕ × Reading)) (number : ℕ) (event : Event) (left : List (ℕ × Reading)) (events : List Event) → all ≡ front ++ ((number, Some (Ok event)) ∷ left) → map (λ r. r.1) front ≡ map (λ e. Some (Ok e)) events → ReadThen all (events ++ event ∷ []) left
 more_read all front number event left events is read =
     let reading : ℕ × Reading → Reading = λ r. r.1 in
-    let of_event : Event → Reading = λ e. Ok e in
-    (front ++ (number, Ok event) ∷ [], is ∙ sym (append_assoc front ((number, Ok event) ∷ []) left), map_push reading front (number, Ok event) ∙ ap (λ (rs : List Reading). rs ++ Ok event ∷ []) read ∙ sym (map_push of_event events event))
+    let of_event : Event → Reading = λ e. Some (Ok e) in
+    (front ++ (number, Some (Ok event)) ∷ [], is ∙ sym (append_assoc front ((number, Some (Ok event)) ∷ []) left), map_push reading front (number, Some (Ok event)) ∙ ap (λ (rs : List Reading). rs ++ Some (Ok event) ∷ []) read ∙ sym (map_push of_event events event))
 
 -- after a turn that gives an event
 pub event_read : (input left new_left : Option (List ℕ)) (ended new_ended : ℕ) (line new : Line) (events : List Event) (event : Event) → ReadSoFar input left ended line events → (IsSound line → IfSome left (λ bytes. Turns ended line bytes (Ok (turns.Event event)) new_ended new new_left)) → ReadSoFar input new_left new_ended new (events ++ event ∷ [])

@@ -1,15 +1,18 @@
 -- Replays that go on.
-use Rattle.std.proofs.Common.{◌≡◌, ℕ, List, [], ◌∷◌, ◌++◌, refl, sym, subst, Option}
+use Rattle.std.proofs.Common.{◌≡◌, ℕ, List, [], ◌∷◌, ◌++◌, refl, sym, subst, Option, Err}
 use Rattle.std.specs.Prelude.{codes}
 use Rattle.std.proofs.lemmas.List.{flat_map_more}
 use Rattle.lb_core.specs.declared.event.Event.{Event}
 use Rattle.lb_core.specs.declared.answer.Answer.{Answer}
 use Rattle.lb_core.specs.Plain.{Plain, empty}
-use Rattle.lb_core.specs.Runs.{IsRun}
+use Rattle.lb_core.specs.Runs.{CachedAnswersAreKeptReplies, IsRun}
 use Rattle.lb_core.specs.Step.{Answers}
 use Rattle.lb_command.specs.Answers.{line_of, lines_of}
 use Rattle.lb_program.specs.Output.{Writes}
-use Rattle.lb_program.specs.Replaying.{Answered, End, IsJudged, ReadUpTo, Replays}
+use Rattle.lb_program.specs.Faults.{End, IsFailure, IsOutput, IsOutputWell}
+use Rattle.lb_program.specs.Replaying.{Answered, AnswersUpTo, ReadUpTo, Replays}
+use Rattle.lb_program.specs.declared.faults.Stop.{Stop}
+use Rattle.lb_program.specs.declared.faults.Stop.TheVariants.{BadLine, Refused, NotUtf8, Input, Output, CountFull, NoMemory}
 use Rattle.lb_program.proofs.Outputs.{writes_both, writes_more, writes_none}
 
 -- a run and one more step are a run
@@ -48,6 +51,32 @@ answered_more a b held new_held end new events event answer old step more =
     record { answers = old.answers ++ answer ∷ []; run = run_more empty events old.answers end event answer new old.run step; written = subst P (sym (last_line old.answers answer)) (subst Q (sym more) (writes_more a b (lines_of old.answers) held line old.written)) }
 
 -- what was held is written out, or some of it
-pub replays_out : (input a b c : Option (List ℕ)) (held rest : List ℕ) (end : Plain) (events : List Event) (result : End) → Answered a b held end events → Writes b c held rest → ReadUpTo input events result → (IsJudged result → rest ≡ []) → Replays input a c result
-replays_out input a b c held rest end events result old out read whole =
-    record { events = events; answers = old.answers; end = end; run = old.run; unwritten = rest; written = writes_both a b c (lines_of old.answers) held rest old.written out; whole = whole; read = read }
+pub replays_out : CachedAnswersAreKeptReplies → (input a b c : Option (List ℕ)) (held rest : List ℕ) (was result : End) → (all : AnswersUpTo input a b held was) → Writes b c held rest → ReadUpTo input all.events result → (IsOutputWell result → rest ≡ []) → Replays input a c result
+replays_out law input a b c held rest was result all out read whole =
+    let old = all.answered in
+    record {
+      events = all.events;
+      answers = old.answers;
+      end = all.end;
+      run = old.run;
+      provenance = law empty all.end all.events old.answers refl refl old.run;
+      unwritten = rest;
+      written = writes_both a b c (lines_of old.answers) held rest old.written out;
+      whole = whole;
+      read = read;
+    }
+
+-- nothing was answered
+pub replays_none : CachedAnswersAreKeptReplies → (input a : Option (List ℕ)) (result : End) → ReadUpTo input [] result → Replays input a a result
+replays_none law input a result read =
+    record { events = []; answers = []; end = empty; run = refl; provenance = law empty empty [] [] refl refl refl; unwritten = []; written = writes_none a []; whole = λ well. refl; read = read }
+
+-- the output failed
+pub output_fails : (stop : Stop) → IsOutput stop → IsFailure stop × (IsOutputWell (Err stop) → ⊥)
+output_fails (BadLine number fault) failed = absurd failed
+output_fails (Refused number fault) failed = absurd failed
+output_fails (NotUtf8 number) failed = absurd failed
+output_fails (Input error) failed = absurd failed
+output_fails (Output error) failed = (tt, λ well. well)
+output_fails (CountFull full) failed = absurd failed
+output_fails NoMemory failed = absurd failed

@@ -3,6 +3,7 @@ use Rattle.std.proofs.Common.{◌≡◌, ℕ, ◌+◌, ◌<◌, Bool, true, fals
 use Rattle.std.proofs.lemmas.List.{append-nil, append_assoc, drop_at}
 use Rattle.std.proofs.lemmas.List.Elements.{All-append, All-nil, All-same, All-drop}
 use Rattle.std.specs.List.{All, slice_split}
+use Rattle.std.specs.Str.{is_utf8}
 use Rattle.std.specs.Str.Lines.{strip_carriage_return}
 use Rattle.lb_program.specs.Shown.{Takes, is_line_feed}
 use Rattle.lb_program.specs.Line.{IsFresh, IsSound, Sheds, Stays, kind_with}
@@ -15,7 +16,8 @@ use Rattle.lb_program.specs.declared.input.Turn.{Turn}
 use Rattle.lb_program.specs.declared.input.Turn.TheVariants as turns
 use Rattle.lb_program.specs.declared.faults.Stop.{Stop}
 use Rattle.lb_program.specs.declared.faults.Stop.TheVariants as stops
-use Rattle.lb_program.proofs.ToldLines.{told_shed, told_line, told_end}
+use Rattle.lb_program.proofs.Texts.{not_both}
+use Rattle.lb_program.proofs.ToldLines.{none_told, told_shed, told_line, told_end, told_never}
 
 -- bytes without a line feed
 abbrev pub NoFeed : List ℕ → Type 0
@@ -25,11 +27,6 @@ NoFeed bytes = All (λ byte. is_line_feed byte ≡ false) bytes
 no_feed_end : (bytes front held : List ℕ) → bytes ≡ front ++ held → NoFeed bytes → NoFeed held
 no_feed_end bytes front held is none =
     All-same (λ byte. is_line_feed byte ≡ false) held (drop (length front) bytes) (sym (ap (λ (xs : List ℕ). drop (length front) xs) is ∙ drop_at front held (length front) refl)) (All-drop (λ byte. is_line_feed byte ≡ false) (length front) bytes none)
-
--- a bit has one value
-not_both : (b : Bool) → b ≡ true → b ≡ false → ⊥
-not_both true is is_not = absurd (cc)
-not_both false is is_not = absurd (cc)
 
 -- numbers of lines
 next_number : (ended new_ended : ℕ) → new_ended ≡ ended + 1 → ended + 2 ≡ new_ended + 1
@@ -88,7 +85,7 @@ turn_piece ended (Some bytes) left old mid new takes same (inr sheds) sound =
     let kind : kind_with old.kind front ≡ new.kind = ap (λ (k : LineKind). kind_with k front) (sym same.0) ∙ sym sheds.2 in
     let read : left_of ended old bytes ≡ left_of ended new takes.1 =
     ap (λ (xs : List ℕ). left_from ended old.kind old.is_long xs) moved
-    ∙ told_shed (ended + 1) old.kind old.is_long front held takes.1 over none none_held sheds.3
+    ∙ told_shed (ended + 1) old.kind old.is_long front held takes.1 sheds.6 over none none_held sheds.3
     ∙ ap (λ (k : LineKind). left_from ended k true (held ++ takes.1)) kind
     ∙ ap (λ (b : Bool). left_from ended new.kind b (held ++ takes.1)) (sym sheds.4) in
     let is_sound : IsSound new = record {
@@ -96,6 +93,16 @@ turn_piece ended (Some bytes) left old mid new takes same (inr sheds) sound =
       whole = λ short. absurd (not_both new.is_long sheds.4 short);
     } in
     (takes.1, takes.2, is_sound, read)
+
+-- a piece that no bytes make a text ends the reading
+pub turn_broken : (ended number new_ended : ℕ) (all left new_left : Option (List ℕ)) (old mid new : Line) → number ≡ ended + 1 → IfSome all (λ bytes. Takes old.bytes.items bytes Piece mid.bytes.items left) → ((more : List ℕ) → is_utf8 (mid.bytes.items ++ more) ≡ false) → IsSound old → IfSome all (λ bytes. Turns ended old bytes (Err (stops.NotUtf8 number)) new_ended new new_left)
+turn_broken ended number new_ended None left new_left old mid new count takes never sound = tt
+turn_broken ended number new_ended (Some bytes) left new_left old mid new count takes never sound =
+    let held = old.bytes.items ++ takes.0 in
+    let none : NoFeed held = All-append (λ byte. is_line_feed byte ≡ false) old.bytes.items takes.0 sound.no_feed takes.5 in
+    let moved : old.bytes.items ++ bytes ≡ held ++ takes.1 = ap (λ (xs : List ℕ). old.bytes.items ++ xs) takes.4 ∙ sym (append_assoc old.bytes.items takes.0 takes.1) in
+    let broken = told_never (ended + 1) old.kind old.is_long held takes.1 none (λ more. ap (λ (xs : List ℕ). is_utf8 (xs ++ more)) (sym takes.3) ∙ never more) in
+    (broken.0, ap (λ (xs : List ℕ). left_from ended old.kind old.is_long xs) moved ∙ broken.1 ∙ ap (λ (n : ℕ). (n, None) ∷ broken.0) (sym count))
 
 -- a turn that goes on, with what it leaves
 going : (ended new_ended : ℕ) (turn : Turn) (old new : Line) (bytes rest : List ℕ) (left : Option (List ℕ)) → IsGoing turn → left ≡ Some rest → IsSound new → left_of ended old bytes ≡ gives (ended + 1) turn ++ left_of new_ended new rest → TurnsTo ended old bytes turn new_ended new left
@@ -113,8 +120,13 @@ judged_line ended new_ended old new bytes rest left read (Ok turn) is all judged
     going ended new_ended turn old new bytes rest left judged.1 is (fresh_sound new fresh.0) split
 judged_line ended new_ended old new bytes rest left read (Err (stops.BadLine number fault)) is all judged fresh =
     (judged.0, told_from (ended + 2) Blank false (slice_split is_line_feed rest), all ∙ ap (λ (front : List (ℕ × Reading)). front ++ told_from (ended + 2) Blank false (slice_split is_line_feed rest)) judged.1, judged.2)
-judged_line ended new_ended old new bytes rest left read (Err stops.Device) is all judged fresh = tt
-judged_line ended new_ended old new bytes rest left read (Err stops.NoMemory) is all judged fresh = tt
+judged_line ended new_ended old new bytes rest left read (Err (stops.NotUtf8 number)) is all judged fresh =
+    (told_from (ended + 2) Blank false (slice_split is_line_feed rest), all ∙ ap (λ (front : List (ℕ × Reading)). front ++ told_from (ended + 2) Blank false (slice_split is_line_feed rest)) judged)
+judged_line ended new_ended old new bytes rest left read (Err (stops.Refused number fault)) is all judged fresh = absurd judged
+judged_line ended new_ended old new bytes rest left read (Err (stops.Input error)) is all judged fresh = absurd judged
+judged_line ended new_ended old new bytes rest left read (Err (stops.Output error)) is all judged fresh = absurd judged
+judged_line ended new_ended old new bytes rest left read (Err (stops.CountFull full)) is all judged fresh = absurd judged
+judged_line ended new_ended old new bytes rest left read (Err stops.NoMemory) is all judged fresh = absurd judged
 
 -- a line feed ends the line in hand
 pub turn_feed : (ended new_ended : ℕ) (all mid_left left : Option (List ℕ)) (old mid line new : Line) (result : Result Turn Stop) → IfSome all (λ bytes. Takes old.bytes.items bytes LineFeed mid.bytes.items mid_left) → (mid.kind ≡ old.kind) × (mid.is_long ≡ old.is_long) → line.bytes.items ≡ strip_carriage_return mid.bytes.items → (line.kind ≡ mid.kind) × (line.is_long ≡ mid.is_long) → left ≡ mid_left
@@ -145,7 +157,7 @@ turn_last ended new_ended (Some bytes) mid_left left old mid new result takes sa
     ∙ ap (λ (b : Bool). told_read (ended + 1) mid.kind b old.bytes.items) (sym same.1)
     ∙ ap (λ (xs : List ℕ). told_read (ended + 1) mid.kind mid.is_long xs) (sym takes.1) in
     let split : left_of ended old bytes ≡ told_read (ended + 1) mid.kind mid.is_long mid.bytes.items ++ told_from (ended + 2) Blank false (slice_split is_line_feed []) =
-    ap (λ (xs : List ℕ). left_of ended old xs) takes.2 ∙ told_end (ended + 1) old.kind old.is_long old.bytes.items sound.no_feed ∙ read ∙ sym (append-nil (told_read (ended + 1) mid.kind mid.is_long mid.bytes.items)) in
+    ap (λ (xs : List ℕ). left_of ended old xs) takes.2 ∙ told_end (ended + 1) old.kind old.is_long old.bytes.items sound.no_feed ∙ read ∙ sym (ap (λ (others : List (ℕ × Reading)). told_read (ended + 1) mid.kind mid.is_long mid.bytes.items ++ others) (none_told (ended + 2)) ∙ append-nil (told_read (ended + 1) mid.kind mid.is_long mid.bytes.items)) in
     judged_line ended new_ended old new bytes [] left (told_read (ended + 1) mid.kind mid.is_long mid.bytes.items) result (input ∙ takes.0) split judged fresh
 
 -- nothing is left where the input ends and no byte of a line was read
@@ -158,3 +170,4 @@ turn_end ended new_ended (Some bytes) mid_left left old mid new takes same empty
     ∙ ap (λ (xs : List ℕ). left_from ended old.kind old.is_long (xs ++ [])) none
     ∙ ap (λ (b : Bool). left_from ended old.kind b []) short
     ∙ ap (λ (k : LineKind). left_from ended k false []) (sound.whole short)
+    ∙ none_told (ended + 1)

@@ -8,5 +8,7 @@ pub mod Shown
 pub mod Line
 pub mod Input
 pub mod Replaying
+pub mod Servers
+pub mod Setup
 pub mod Checking
 pub mod Program

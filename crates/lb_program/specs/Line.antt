@@ -1,6 +1,7 @@
 -- A line as it is read, and what its bytes make it.
 use Rattle.std.specs.Prelude.{◌≡◌, ◌⊎◌, ℕ, ◌+◌, ◌-◌, ◌<◌, Bool, true, false, ◌==◌, if◌then◌else◌, List, [], ◌∷◌, ◌++◌, length, slice_index}
 use Rattle.std.specs.List.{All}
+use Rattle.std.specs.Str.{is_utf8}
 use Rattle.lb_command.specs.Reading.{max_line}
 use Rattle.lb_program.specs.declared.line.LineKind.{LineKind}
 use Rattle.lb_program.specs.declared.line.LineKind.TheVariants.{Blank, Comment, Told}
@@ -33,10 +34,10 @@ pub record IsSound (line : Line) : Type 0 where
   pub no_feed : All (λ byte. is_line_feed byte ≡ false) line.bytes.items
   pub whole : line.is_long ≡ false → line.kind ≡ Blank
 
--- letting go of the front of a line that is too long: it went into the line's kind; where no byte is left, it ends with no
+-- letting go of the front of a line that is too long: it is text, and went into the line's kind; where no byte is left, it ends with no
 -- carriage return. A line that is not too long stays.
 abbrev pub Drops : Line → Line → Type 0
-Drops old new = (front : List ℕ) × (old.bytes.items ≡ front ++ new.bytes.items) × (new.kind ≡ kind_with old.kind front) × (length new.bytes.items ≡ 0 → slice_index front (length front - 1) ≡ 13 → ⊥) × (new.is_long ≡ true) × (max_line + 1 < length old.bytes.items)
+Drops old new = (front : List ℕ) × (old.bytes.items ≡ front ++ new.bytes.items) × (new.kind ≡ kind_with old.kind front) × (length new.bytes.items ≡ 0 → slice_index front (length front - 1) ≡ 13 → ⊥) × (new.is_long ≡ true) × (max_line + 1 < length old.bytes.items) × (is_utf8 front ≡ true)
 
 abbrev pub Stays : Line → Line → Type 0
 Stays old new = (new.bytes.items ≡ old.bytes.items) × (new.kind ≡ old.kind) × (new.is_long ≡ old.is_long)

@@ -1,11 +1,12 @@
 -- What the program does for the words of its command line.
-use Rattle.std.specs.Prelude.{◌≡◌, ◌≢◌, ◌⊎◌, ℕ, List, [], ◌∷◌, codes, Option, Some, None}
+use Rattle.std.specs.Prelude.{◌≡◌, ◌≢◌, ℕ, List, [], ◌∷◌, codes, Option, Some, None, Result}
 use Rattle.std.specs.Io.KnownBytes.{Keeps}
-use Rattle.lb_program.specs.Checking.{EndsCheck}
-use Rattle.lb_program.specs.Faults.{IsFailure, stop_status, stop_text}
-use Rattle.lb_program.specs.Output.{WritesFront}
+use Rattle.std.specs.IoError.{error_kind}
+use Rattle.std.specs.declared.io.Error.{Error}
+use Rattle.std.specs.declared.io.ErrorKind.TheVariants.{InvalidData}
+use Rattle.lb_program.specs.Checking.{ChecksInput, FailsToRead}
+use Rattle.lb_program.specs.Faults.{Tells}
 use Rattle.lb_program.specs.Replaying.{EndsReplay}
-use Rattle.lb_program.specs.declared.faults.Stop.{Stop}
 use Rattle.lb_program.specs.declared.program.Mode.{Mode}
 use Rattle.lb_program.specs.declared.program.Mode.TheVariants.{Serve, Check, Replay}
 
@@ -31,26 +32,24 @@ abbrev pub no_serve : List ℕ
 no_serve = codes "lb serve is not there yet\n"
 
 -- nothing is written but a text on faults, with the status of words that ask for nothing that there is
-pub record Refuses (text : List ℕ) (old new told_old told_new : Option (List ℕ)) (status : ℕ) : Type 0 where
+pub record Refuses (text : List ℕ) (old new told_old told_new : Option (List ℕ)) (status : ℕ) (told : Result (Unit {0}) Error) : Type 0 where
   pub status_is : status ≡ 2
   pub unwritten : Keeps old new
-  pub told : WritesFront told_old told_new text
+  pub tells : Tells told_old told_new text told
 
--- a file could not be read, and nothing else was done
-pub record FailsToRead (old new told_old told_new : Option (List ℕ)) (status : ℕ) : Type 0 where
-  pub stop : Stop
-  pub failed : IsFailure stop
-  pub status_is : status ≡ stop_status stop
-  pub unwritten : Keeps old new
-  pub told : WritesFront told_old told_new (stop_text stop)
+-- what is done where this is asked for, with an input; of a file nothing is known
+abbrev pub Does : Option Mode → Option (List ℕ) → Option (List ℕ) → Option (List ℕ) → Option (List ℕ) → Option (List ℕ) → ℕ → Result (Unit {0}) Error → Type 0
+Does (Some (Serve file)) input old new told_old told_new status told = Refuses no_serve old new told_old told_new status told
+Does (Some (Check file)) input old new told_old told_new status told = ChecksInput None old new told_old told_new status told
+Does (Some Replay) input old new told_old told_new status told = EndsReplay input old new told_old told_new status told
+Does None input old new told_old told_new status told = Refuses usage old new told_old told_new status told
 
--- a file was read, and its text checked
-abbrev pub ChecksFile : Option (List ℕ) → Option (List ℕ) → Option (List ℕ) → Option (List ℕ) → ℕ → Type 0
-ChecksFile old new told_old told_new status = ((text : List ℕ) × EndsCheck text old new told_old told_new status) ⊎ FailsToRead old new told_old told_new status
+-- what is done for these words, with an input
+abbrev pub DoesFor : List (List ℕ) → Option (List ℕ) → Option (List ℕ) → Option (List ℕ) → Option (List ℕ) → Option (List ℕ) → ℕ → Type 0
+DoesFor words input old new told_old told_new status = (mode : Option Mode) × (told : Result (Unit {0}) Error) × Asks words mode × Does mode input old new told_old told_new status told
 
--- what is done where this is asked for, with an input
-abbrev pub Does : Option Mode → Option (List ℕ) → Option (List ℕ) → Option (List ℕ) → Option (List ℕ) → Option (List ℕ) → ℕ → Type 0
-Does (Some (Serve file)) input old new told_old told_new status = Refuses no_serve old new told_old told_new status
-Does (Some (Check file)) input old new told_old told_new status = ChecksFile old new told_old told_new status
-Does (Some Replay) input old new told_old told_new status = EndsReplay input old new told_old told_new status
-Does None input old new told_old told_new status = Refuses usage old new told_old told_new status
+-- what is done where the words could not be had: those that are not UTF-8 ask for nothing that there is
+abbrev pub DoesWithout : Error → Option (List ℕ) → Option (List ℕ) → Option (List ℕ) → Option (List ℕ) → ℕ → Type 0
+DoesWithout error old new told_old told_new status = (told : Result (Unit {0}) Error)
+    × (error_kind error ≡ InvalidData → Refuses usage old new told_old told_new status told)
+    × (error_kind error ≢ InvalidData → FailsToRead old new told_old told_new status told)

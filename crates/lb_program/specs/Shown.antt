@@ -1,6 +1,8 @@
 -- What reading shows of a line.
-use Rattle.std.specs.Prelude.{◌≡◌, ℕ, List, [], ◌∷◌, ◌++◌, Option, Some, Bool, false, ◌==◌}
+use Rattle.std.specs.Prelude.{◌≡◌, ℕ, List, [], ◌∷◌, ◌++◌, Option, Some, Bool, false, ◌==◌, ⊤}
 use Rattle.std.specs.List.{All}
+use Rattle.lb_program.specs.declared.faults.Stop.{Stop}
+use Rattle.lb_program.specs.declared.faults.Stop.TheVariants as stops
 use Rattle.lb_program.specs.declared.shown.Shown.{Shown}
 use Rattle.lb_program.specs.declared.shown.Shown.TheVariants.{Piece, LineFeed, End}
 
@@ -14,3 +16,9 @@ abbrev pub Takes : List ℕ → List ℕ → Shown → List ℕ → Option (List
 Takes old bytes Piece new left = (piece : List ℕ) × (rest : List ℕ) × (left ≡ Some rest) × (new ≡ old ++ piece) × (bytes ≡ piece ++ rest) × All (λ byte. is_line_feed byte ≡ false) piece
 Takes old bytes LineFeed new left = (piece : List ℕ) × (rest : List ℕ) × (left ≡ Some rest) × (new ≡ old ++ piece) × (bytes ≡ piece ++ 10 ∷ rest) × All (λ byte. is_line_feed byte ≡ false) piece
 Takes old bytes End new left = (left ≡ Some []) × (new ≡ old) × (bytes ≡ [])
+
+-- reading stops by a failure of the input, where no byte of it was at hand, or for want of memory
+abbrev pub IsOfReading : List ℕ → Stop → Type 0
+IsOfReading at_hand (stops.Input error) = at_hand ≡ []
+IsOfReading at_hand stops.NoMemory = ⊤
+IsOfReading at_hand _ = ⊥

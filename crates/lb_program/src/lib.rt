@@ -1,4 +1,4 @@
-//! What the program `lb` does: it replays lines of events over one balancer, and checks setup files. Input, output and standard
+//! What the program `lb` does: it replays lines of events over one balancer, and reads and checks setup files. Input, output and standard
 //! error are whatever reads and writes.
 #![tactic(auto)]
 
@@ -9,9 +9,14 @@ mod line;
 mod output;
 mod program;
 mod replaying;
+mod servers;
+mod setup;
 mod shown;
 
 pub use checking::check;
 pub use faults::Stop;
-pub use program::{Mode, choose, fail, refuse_words, run};
+pub use input::FullCount;
+pub use program::{Mode, behind_first, choose, start};
 pub use replaying::replay;
+pub use servers::{Expected, ServerList, ServerPlace, carry_out};
+pub use setup::{Setup, read_setup};

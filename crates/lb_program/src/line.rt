@@ -1,15 +1,16 @@
 //! A line as it is read.
 
-ghost use Rattle.std.specs.Prelude.{◌≡◌, ◌≢◌, ◌+◌, ◌-◌, ◌<◌, ◌≤◌, ◌++◌, [], Some, false, length, IfOk, IfSome, OnOk, IsTrue, ◌↔◌, slice_index, vec_len};
+ghost use Rattle.std.specs.Prelude.{◌≡◌, ◌≢◌, ◌+◌, ◌-◌, ◌<◌, ◌≤◌, ◌++◌, [], Some, true, false, length, take, List, ℕ, IfErr, IfOk, IfSome, OnErr, OnOk, IsTrue, ◌↔◌, slice_index, vec_len};
 ghost use Rattle.std.specs.Io.Buffered.{reader_buffer, reader_inner, reader_remaining};
+ghost use Rattle.std.specs.Str.{is_utf8};
 ghost use Rattle.std.specs.Str.Lines.{strip_carriage_return};
-ghost use Rattle.lb_program.specs.Shown.{Takes};
+ghost use Rattle.lb_program.specs.Shown.{IsOfReading, Takes};
 ghost use Rattle.lb_program.specs.Line.{IsFresh, Sheds, kind_with, kind_of as kind_of_bytes};
 
+use crate::faults::Stop;
 use crate::shown::{Shown, take_shown};
 use lb_command::MAX_LINE;
 use std::alloc::Global;
-use std::io;
 use std::io::{BufReader, ErrorKind, Read};
 use std::str::from_utf8;
 
@@ -92,13 +93,14 @@ impl Line {
     }
 
     /// Takes what the input shows of the line. An interruption shows nothing.
-    pub(crate) fn read<R: Read>(&mut self, input: &mut BufReader<R>) -> io::Result<Shown>
+    pub(crate) fn read<R: Read>(&mut self, input: &mut BufReader<R>) -> Result<Shown, Stop>
         ensures shown { IfSome (reader_remaining R.remaining input.old) (λ bytes. IfOk result (λ shown. Takes self.old.bytes.items bytes shown self.new.bytes.items (reader_remaining R.remaining input.new))) }
         ensures kind { (self.new.kind ≡ self.old.kind) × (self.new.is_long ≡ self.old.is_long) }
         ensures unread { reader_buffer input.old ≢ [] → reader_inner input.new ≡ reader_inner input.old }
+        ensures cause { IfErr result (IsOfReading (reader_buffer input.old)) }
     {
         match take_shown(input, &mut self.bytes) {
-            Err(error) if error.kind() == ErrorKind::Interrupted => Ok(Shown::Piece),
+            Err(Stop::Input(error)) if error.kind() == ErrorKind::Interrupted => Ok(Shown::Piece),
             shown => shown,
         }
     }
@@ -108,6 +110,7 @@ impl Line {
     pub(crate) fn shed(&mut self) -> Result<(), NotUtf8>
         ensures sheds { OnOk result (Sheds self.old self.new) }
         ensures few { OnOk result (vec_len self.new.bytes ≤ 300001) }
+        ensures never { OnErr result ((more : List ℕ) → is_utf8 (self.old.bytes.items ++ more) ≡ false) }
     {
         if self.bytes.len() <= MAX_LINE + 1 {
             return Ok(());
@@ -133,7 +136,8 @@ impl Line {
 
     /// The bytes of the line that are held, as a text.
     pub(crate) fn text(&self) -> Result<&str, NotUtf8>
-        ensures { IfOk result (λ text. text.now ≡ self.now.bytes.items) }
+        ensures text { IfOk result (λ text. (text.now ≡ self.now.bytes.items) × (is_utf8 self.now.bytes.items ≡ true)) }
+        ensures none { OnErr result (is_utf8 self.now.bytes.items ≡ false) }
     {
         match from_utf8(self.bytes.as_slice()) {
             Ok(text) => Ok(text),
@@ -156,17 +160,21 @@ impl Line {
     }
 }
 
-/// How many bytes at the end of a piece of a line have to wait for what comes: a carriage return, or a character that is
-/// not whole.
+/// How many bytes at the end of a piece of a line have to wait for what comes: a carriage return, or what may begin a
+/// character, which has four bytes at most. All before them is text; a piece that no bytes can make one is no text.
 fn tail_len(bytes: &[u8]) -> Result<usize, NotUtf8>
     ensures within { IfOk result (λ len. len ≤ length bytes.now) }
     ensures few { IfOk result (λ len. len < 4) }
     ensures held { IfOk result (λ len. len ≡ 0 → slice_index bytes.now (length bytes.now - 1) ≡ 13 → ⊥) }
+    ensures text { IfOk result (λ len. is_utf8 (take (length bytes.now - len) bytes.now) ≡ true) }
+    ensures never { OnErr result ((more : List ℕ) → is_utf8 (bytes.now ++ more) ≡ false) }
 {
     match from_utf8(bytes) {
         Ok(_) if bytes.last() == Some(&b'\r') => Ok(1),
         Ok(_) => Ok(0),
-        Err(error) if error.error_len().is_none() => Ok(bytes.len() - error.valid_up_to()),
-        Err(_) => Err(NotUtf8),
+        Err(error) => {
+            let len = bytes.len() - error.valid_up_to();
+            if len < 4 { Ok(len) } else { Err(NotUtf8) }
+        }
     }
 }

@@ -1,17 +1,21 @@
 //! What the program does for the words of its command line.
 
-ghost use Rattle.std.specs.Prelude.{◌≡◌, map, string_bytes, Option};
-ghost use Rattle.lb_program.specs.Faults.{stop_status, stop_text};
-ghost use Rattle.lb_program.specs.Output.{WritesFront};
-ghost use Rattle.lb_program.specs.Program.{Asks, ChecksFile, Does, usage};
+ghost use Rattle.std.specs.Prelude.{◌≡◌, ◌≢◌, drop, map, string_bytes, None, IfErr, IfOk, Option};
+ghost use Rattle.std.specs.IoError.{error_kind};
+ghost use Rattle.std.specs.declared.io.ErrorKind.TheVariants.{InvalidData};
+ghost use Rattle.lb_program.specs.Checking.{ChecksInput};
+ghost use Rattle.lb_program.specs.Faults.{Tells, stop_text};
+ghost use Rattle.lb_program.specs.Program.{Asks, Does, DoesFor, DoesWithout, usage};
+ghost use Rattle.lb_program.specs.declared.faults.Stop.TheVariants.{Input};
 ghost use Rattle.lb_program.specs.declared.program.Mode.{Mode};
 
-use crate::checking::check;
-use crate::faults::{Stop, tell};
+use crate::checking::check_input;
+use crate::faults::{Ended, Stop};
 use crate::output::write_line;
-use crate::replaying::replay;
-use std::fs;
-use std::io::{Read, Write};
+use crate::replaying::replay_told;
+use std::fs::File;
+use std::io;
+use std::io::{ErrorKind, Read, Write};
 use std::rt::Files;
 
 /// The exit status where the words ask for nothing that there is.
@@ -44,40 +48,64 @@ pub fn choose(words: &[String]) -> Option<Mode<'_>>
     }
 }
 
-/// Does what the words behind the program's name ask for, and gives the exit status: that of the check or the replay, 3 where the
-/// file to check can't be read, and 2 where the words ask for nothing that there is.
-pub fn run<T: Files + AllocGlobal, R: Read + Drop, W: Write, F: Write>(
+/// All that the program does, with the words behind its name, and gives the exit status: that of the check or the replay; 2 where the
+/// words ask for nothing that there is, as they do where one is not UTF-8 (`InvalidData`); and 3 where they, or the file to check, can't
+/// be read.
+pub fn start<T: Files + AllocGlobal, R: Read + Drop, W: Write, F: Write>(
+    rt: &T,
+    words: io::Result<Vec<String>>,
+    input: R,
+    output: &mut W,
+    faults: &mut F,
+) -> u8
+    ensures asked { IfOk words (λ words. DoesFor (map string_bytes words.items) (R.remaining input) (W.contents output.old) (W.contents output.new) (F.contents faults.old) (F.contents faults.new) result) }
+    ensures unasked { IfErr words (λ error. DoesWithout error (W.contents output.old) (W.contents output.new) (F.contents faults.old) (F.contents faults.new) result) }
+{
+    match words {
+        Ok(words) => run(rt, words.as_slice(), input, output, faults).status,
+        Err(error) => without_words(error, faults).status,
+    }
+}
+
+/// Tells why the words can't be had: those that are not UTF-8 ask for nothing that there is.
+fn without_words<F: Write>(error: io::Error, faults: &mut F) -> Ended
+    ensures unreadable { error_kind error ≡ InvalidData → (result.status ≡ 2) × Tells (F.contents faults.old) (F.contents faults.new) usage result.told }
+    ensures failed { error_kind error ≢ InvalidData → (result.status ≡ 3) × Tells (F.contents faults.old) (F.contents faults.new) (stop_text (Input error)) result.told }
+{
+    if error.kind() == ErrorKind::InvalidData {
+        refuse(USAGE, faults)
+    } else {
+        Ended::tell(Err(Stop::Input(error)), faults)
+    }
+}
+
+/// Does what the words behind the program's name ask for.
+fn run<T: Files + AllocGlobal, R: Read + Drop, W: Write, F: Write>(
     rt: &T,
     words: &[String],
     input: R,
     output: &mut W,
     faults: &mut F,
-) -> u8
-    ensures { (mode : Option Mode) × Asks (map string_bytes words.now) mode × Does mode (R.remaining input) (W.contents output.old) (W.contents output.new) (F.contents faults.old) (F.contents faults.new) result }
+) -> Ended
+    ensures { (mode : Option Mode) × Asks (map string_bytes words.now) mode × Does mode (R.remaining input) (W.contents output.old) (W.contents output.new) (F.contents faults.old) (F.contents faults.new) result.status result.told }
 {
     match choose(words) {
         Some(Mode::Serve(_)) => refuse(NO_SERVE, faults),
         Some(Mode::Check(file)) => check_file(rt, file, output, faults),
-        Some(Mode::Replay) => replay(rt, input, output, faults),
-        None => refuse_words(faults),
+        Some(Mode::Replay) => replay_told(rt.alloc(), input, output, faults),
+        None => refuse(USAGE, faults),
     }
 }
 
-/// Tells how the program is used, and gives the exit status.
-pub fn refuse_words<F: Write>(faults: &mut F) -> u8
-    ensures status { result ≡ 2 }
-    ensures told { WritesFront (F.contents faults.old) (F.contents faults.new) usage }
+/// Tells why nothing is done.
+fn refuse<F: Write>(text: &str, faults: &mut F) -> Ended
+    ensures status { result.status ≡ 2 }
+    ensures tells { Tells (F.contents faults.old) (F.contents faults.new) text.now result.told }
 {
-    refuse(USAGE, faults)
-}
-
-/// Tells why nothing is done, and gives the exit status.
-fn refuse<F: Write>(text: &str, faults: &mut F) -> u8
-    ensures status { result ≡ 2 }
-    ensures told { WritesFront (F.contents faults.old) (F.contents faults.new) text.now }
-{
-    let _ = write_line(faults, text.as_bytes());
-    BAD_WORDS
+    Ended {
+        status: BAD_WORDS,
+        told: write_line(faults, text.as_bytes()),
+    }
 }
 
 /// Checks a setup file.
@@ -86,20 +114,21 @@ fn check_file<T: Files + AllocGlobal, W: Write, F: Write>(
     file: &str,
     output: &mut W,
     faults: &mut F,
-) -> u8
-    ensures { ChecksFile (W.contents output.old) (W.contents output.new) (F.contents faults.old) (F.contents faults.new) result }
+) -> Ended
+    ensures { ChecksInput None (W.contents output.old) (W.contents output.new) (F.contents faults.old) (F.contents faults.new) result.status result.told }
 {
-    match fs::read_to_string(rt, file) {
-        Ok(text) => check(rt, text.as_str(), output, faults),
-        Err(error) => fail(Stop::from(error), faults),
+    match File::open(rt, file) {
+        Ok(file) => check_input(rt.alloc(), file, output, faults),
+        Err(error) => Ended::tell(Err(Stop::Input(error)), faults),
     }
 }
 
-/// Tells what failed, and gives the exit status.
-pub fn fail<F: Write>(stop: Stop, faults: &mut F) -> u8
-    ensures status { result ≡ stop_status stop }
-    ensures told { WritesFront (F.contents faults.old) (F.contents faults.new) (stop_text stop) }
+/// The words behind the first, which is the program's own name.
+pub fn behind_first(mut words: Vec<String>) -> Vec<String>
+    ensures { result.items ≡ drop 1 words.items }
 {
-    let _ = tell(stop, faults);
-    stop.status()
+    if !words.is_empty() {
+        words.remove(0);
+    }
+    words
 }

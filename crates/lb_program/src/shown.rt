@@ -1,11 +1,11 @@
 //! What an input shows of a line.
 
-ghost use Rattle.std.specs.Prelude.{◌≡◌, ◌≢◌, [], ℕ, ◌+◌, ◌<◌, ◌++◌, ◌∷◌, List, Some, false, take, drop, length, IfOk, IfSome, IfNone, OnErr};
+ghost use Rattle.std.specs.Prelude.{◌≡◌, ◌≢◌, [], ℕ, ◌+◌, ◌<◌, ◌++◌, ◌∷◌, List, Some, false, take, drop, length, IfOk, IfSome, IfErr, IfNone, OnErr};
 ghost use Rattle.std.specs.List.{All};
 ghost use Rattle.std.specs.Io.Buffered.{reader_buffer, reader_inner, reader_remaining};
-ghost use Rattle.lb_program.specs.Shown.{Takes, is_line_feed};
+ghost use Rattle.lb_program.specs.Shown.{IsOfReading, Takes, is_line_feed};
 
-use std::io;
+use crate::faults::Stop;
 use std::io::{BufRead, BufReader, Read};
 
 /// What the input showed of a line.
@@ -24,10 +24,11 @@ pub(crate) enum Shown {
 pub(crate) fn take_shown<R: Read>(
     input: &mut BufReader<R>,
     bytes: &mut Vec<u8>,
-) -> io::Result<Shown>
+) -> Result<Shown, Stop>
     ensures ok { IfSome (reader_remaining R.remaining input.old) (λ all. IfOk result (λ shown. Takes bytes.old.items all shown bytes.new.items (reader_remaining R.remaining input.new))) }
     ensures err { IfSome (reader_remaining R.remaining input.old) (λ all. OnErr result ((reader_remaining R.remaining input.new ≡ Some all) × (bytes.new.items ≡ bytes.old.items))) }
     ensures unread { reader_buffer input.old ≢ [] → reader_inner input.new ≡ reader_inner input.old }
+    ensures cause { IfErr result (IsOfReading (reader_buffer input.old)) }
 {
     if input.buffer().is_empty() {
         input.fill_buf()?;

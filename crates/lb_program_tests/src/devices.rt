@@ -1,5 +1,6 @@
 //! Readers and writers in memory that fail, wait, or take less than they are given.
 
+use std::alloc::Global;
 use std::cell::Cell;
 use std::io;
 use std::io::{ErrorKind, Read, Write};
@@ -117,6 +118,35 @@ impl Write for Stuttering {
     }
 
     fn flush(&mut self) -> io::Result<()> {
+        Ok(())
+    }
+}
+
+/// Shows what was written only once it is flushed.
+#[derive(Drop)]
+pub(crate) struct Hiding {
+    pub(crate) hidden: Vec<u8>,
+    pub(crate) shown: Vec<u8>,
+}
+
+impl Hiding {
+    pub(crate) fn new(alloc: Global) -> Hiding {
+        Hiding {
+            hidden: Vec::new(alloc),
+            shown: Vec::new(alloc),
+        }
+    }
+}
+
+impl Write for Hiding {
+    fn write(&mut self, buf: &[u8]) -> io::Result<usize> {
+        self.hidden.extend_from_slice(buf)?;
+        Ok(buf.len())
+    }
+
+    fn flush(&mut self) -> io::Result<()> {
+        self.shown.extend_from_slice(self.hidden.as_slice())?;
+        self.hidden.clear();
         Ok(())
     }
 }

@@ -5,4 +5,6 @@
 #[cfg(test)]
 mod devices;
 #[cfg(test)]
+mod setups;
+#[cfg(test)]
 mod tests;

@@ -1,7 +1,7 @@
 //! Replays over readers and writers that fail. What a device of the system can be made to do is a row of tools/run-rows.
 
-use crate::devices::{Asking, Closing, Dribble, Flushing, Stuttering};
-use lb_program::replay;
+use crate::devices::{Asking, Closing, Dribble, Flushing, Hiding, Stuttering};
+use lb_program::{check, replay};
 use std::cell::Cell;
 use std::io::{ErrorKind, Write};
 use std::process::Abort;
@@ -18,6 +18,9 @@ const ADDED: &[u8] = b"edited rule 1 added\n";
 const OUTPUT: &[u8] = b"edited rule 1 added
 local rule 123481850001000000000000076578616d706c6503636f6d0000010001
 ";
+
+/// What an empty balancer shows.
+const SHOWN: &[u8] = b"edited rules 0 servers 0 pools 1 caches 0 outstanding 0 kept 0\n";
 
 /// Replays the input, cut once by a failure of this kind, and compares the status, the output and the faults.
 fn expect<T: Abort + AllocGlobal>(
@@ -109,4 +112,30 @@ fn nothing_is_written_twice(rt: HostRuntime) {
     };
     expect_told(&rt, INPUT, &mut output, 3, b"device fault\n");
     assert!(rt; output.written.as_slice() == OUTPUT);
+}
+
+/// Sees that a writer showed this, and held nothing back.
+fn expect_shown<T: Abort>(rt: &T, writer: &Hiding, text: &[u8]) {
+    assert!(rt; writer.shown.as_slice() == text);
+    assert!(rt; writer.hidden.is_empty());
+}
+
+#[test]
+fn a_replay_is_flushed(rt: HostRuntime) {
+    let mut output = Hiding::new(rt.alloc());
+    let mut told = Hiding::new(rt.alloc());
+    let ended = replay(&rt, b"edit 0 show\nx\n".as_slice(), &mut output, &mut told);
+    assert_eq!(rt; ended, 1);
+    expect_shown(&rt, &output, SHOWN);
+    expect_shown(&rt, &told, b"line 2: at 0: 1 UnknownWord\n");
+}
+
+#[test]
+fn a_check_is_flushed(rt: HostRuntime) {
+    let mut output = Hiding::new(rt.alloc());
+    let mut told = Hiding::new(rt.alloc());
+    assert_eq!(rt; check(&rt, "# nothing", &mut output, &mut told), 0);
+    expect_shown(&rt, &output, SHOWN);
+    assert_eq!(rt; check(&rt, "rule remove 9", &mut output, &mut told), 1);
+    expect_shown(&rt, &told, b"line 1: refused rules 1 NoSuchRule\n");
 }

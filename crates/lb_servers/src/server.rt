@@ -15,6 +15,7 @@ use arrayvec::ArrayVec;
 use lb_wire::{Addr, PoolId, ServerId};
 use std::alloc::{AllocError, Global};
 use std::marker::Model;
+use std::num::NonZeroU16;
 
 /// The most pools that a server stands in.
 pub(crate) const MAX_POOLS_OF_SERVER: usize = 8;
@@ -97,8 +98,8 @@ pub struct Server {
     pub id: ServerId,
     pub name: Ident,
     pub addr: Addr,
-    /// Its UDP and TCP port, 1 to 65,535.
-    pub port: u16,
+    /// Its UDP and TCP port.
+    pub port: NonZeroU16,
     /// Servers of a lesser order come first.
     pub order: u16,
     pub pools: PoolIds,

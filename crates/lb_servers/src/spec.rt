@@ -9,6 +9,7 @@ use crate::server::{Loaded, MAX_POOLS_OF_SERVER, Mode, PoolIds, Server};
 use lb_wire::{Addr, ServerId};
 use std::alloc::{AllocError, Global};
 use std::marker::Model;
+use std::num::NonZeroU16;
 
 /// The names of at most 8 pools, a repeated one counted. A contract sees them as the list.
 #[derive(Debug, Drop)]
@@ -95,13 +96,21 @@ fn are_equal(names: &[PoolName], others: &[PoolName]) -> bool
             .all(|(name, other)| name.equals(other))
 }
 
+/// Whether two ports are the same.
+fn is_port(port: NonZeroU16, other: NonZeroU16) -> bool
+    ensures equal { IsTrue result → port ≡ other }
+    ensures found { port ≡ other → IsTrue result }
+{
+    port.get() == other.get()
+}
+
 /// What an operator states of a new server.
 #[derive(Debug, Drop)]
 pub struct ServerSpec {
     pub name: Ident,
     pub addr: Addr,
-    /// Its UDP and TCP port, 1 to 65,535.
-    pub port: u16,
+    /// Its UDP and TCP port.
+    pub port: NonZeroU16,
     /// Servers of a lesser order come first; 1 where none is stated.
     pub order: u16,
     /// The pools that it stands in, a repeated one counted once; the default pool alone where none is stated.
@@ -110,7 +119,7 @@ pub struct ServerSpec {
 
 impl ServerSpec {
     /// A server of order 1 in the default pool alone. It takes no memory.
-    pub fn new(alloc: Global, name: Ident, addr: Addr, port: u16) -> ServerSpec
+    pub fn new(alloc: Global, name: Ident, addr: Addr, port: NonZeroU16) -> ServerSpec
         ensures { result ≡ record { name = name; addr = addr; port = port; order = 1; pools = [] } }
     {
         ServerSpec {
@@ -142,7 +151,7 @@ impl ServerSpec {
     {
         self.name.equals(&other.name)
             && self.addr == other.addr
-            && self.port == other.port
+            && is_port(self.port, other.port)
             && self.order == other.order
             && self.pools.equals(&other.pools)
     }

@@ -1,6 +1,6 @@
 use Rattle.std.proofs.Common.{◌∙◌, ◌==◌, ap, List, ℕ, ◌++◌}
 use Rattle.std.specs.Io.Buffered.{reader_buffer, reader_capacity, reader_inner, reader_remaining}
-use Rattle.lb_program.proofs.CheckedLines.{keeps_same}
+use Rattle.lb_program.proofs.Outputs.{keeps_same}
 use Rattle.lb_program.proofs.Takes.{line_at_hand}
 use Rattle.lb_program.proofs.shown.take_shown.Goals as goal
 use Rattle.lb_program.proofs.shown.take_shown.Goals.{then-is_empty+in_ok-fill_buf, else-is_empty}
