@@ -1,0 +1,10 @@
+use Rattle.std.proofs.Common.{rules, tests, refl, ◌∙◌, sym, ap}
+use Rattle.lb_datagrams.proofs.Reaches.{comes}
+use Rattle.lb_lines.specs.declared.letter.End.TheVariants.{Client}
+use Rattle.lb_datagrams.proofs.sending.send_to_client.Goals as goal
+
+pub returns-then-origin-ne0-clause-comes : goal.returns-then-origin-ne0-clause-comes
+returns-then-origin-ne0-clause-comes g c = (search (rules, tests), (_, refl))
+
+pub returns-clause-comes : goal.returns-clause-comes
+returns-clause-comes g c = comes c.args.roster.now.listed (g.S.Datagrams.listens c.args.sockets.now) (Client c.args.origin, c.args.bytes.now) _ c.send.result (g.S.Datagrams.taken c.args.sockets.now) _ refl (search (rules, tests)) c.send.ensures.sent

@@ -1,0 +1,3 @@
+-- shared by several files: Lines
+pub mod Lines
+pub mod Turn

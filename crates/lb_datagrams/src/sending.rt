@@ -1,0 +1,101 @@
+//! What a turn of datagrams sends.
+
+ghost use Rattle.std.specs.Prelude.{Some, ◌++◌, ◌≡◌};
+ghost use Rattle.lb_datagrams.specs.Lines.{Comes, FailsBy, SentAs};
+ghost use Rattle.lb_lines.specs.Letter.{outcome_letter};
+ghost use Rattle.lb_lines.specs.Lines.{is_by_device};
+ghost use Rattle.lb_lines.specs.Ways.{packet_in};
+ghost use Rattle.lb_lines.specs.declared.letter.End.TheVariants.{Client, Server};
+
+use lb_core::{Answer, Event};
+use lb_lines::{Datagrams, Endpoint, Outcome, Roster, Sending, Socket, Way, Why};
+use lb_wire::{Kind, Lane, Octets, Origin, ServerId};
+
+/// Sends what came of an event: a message at most.
+pub(crate) fn send_outcome<S: Datagrams>(
+    sockets: &mut S,
+    roster: &Roster,
+    event: &Event,
+    outcome: &Outcome,
+) -> Sending
+    ensures comes { Comes roster.now.listed (S.listens sockets.old) (outcome_letter event.now outcome.now) result }
+    ensures taken { S.taken sockets.new ≡ S.taken sockets.old ++ packet_in roster.now.listed (outcome_letter event.now outcome.now) result }
+    ensures failed { FailsBy (is_by_device result) (S.failures sockets.old) (S.failures sockets.new) }
+    ensures same { (S.given sockets.new ≡ S.given sockets.old) × (S.listens sockets.new ≡ S.listens sockets.old) }
+{
+    match outcome {
+        Outcome::Answered(Answer::Local(bytes, _) | Answer::NoMemory(bytes))
+        | Outcome::Fault(_, Some(bytes)) => match event {
+            Event::Query { origin, .. } => { send_to_client(sockets, roster, *origin, bytes) }
+            _ => Sending::Nothing,
+        },
+        Outcome::Answered(Answer::Forward(server, lane, _, bytes)) => {
+            send_to_server(sockets, roster, *server, *lane, bytes)
+        }
+        Outcome::Answered(Answer::Deliver(origin, bytes, _) | Answer::Expired(origin, bytes)) => {
+            send_to_client(sockets, roster, *origin, bytes)
+        }
+        _ => Sending::Nothing,
+    }
+}
+
+/// Sends a message to a client, from the listener that took its query.
+fn send_to_client<S: Datagrams>(
+    sockets: &mut S,
+    roster: &Roster,
+    origin: Origin,
+    bytes: &Octets,
+) -> Sending
+    ensures comes { Comes roster.now.listed (S.listens sockets.old) (Some (Client origin, bytes.now)) result }
+    ensures taken { S.taken sockets.new ≡ S.taken sockets.old ++ packet_in roster.now.listed (Some (Client origin, bytes.now)) result }
+    ensures failed { FailsBy (is_by_device result) (S.failures sockets.old) (S.failures sockets.new) }
+    ensures same { (S.given sockets.new ≡ S.given sockets.old) × (S.listens sockets.new ≡ S.listens sockets.old) }
+{
+    if origin.slot != 0 {
+        return Sending::Failed(Why::Gone);
+    }
+    let to = Endpoint {
+        addr: origin.source,
+        port: origin.port,
+    };
+    send(sockets, Socket::Listener(origin.front), to, bytes)
+}
+
+/// Sends a message to a server, from the socket of its upstream socket.
+fn send_to_server<S: Datagrams>(
+    sockets: &mut S,
+    roster: &Roster,
+    server: ServerId,
+    lane: Lane,
+    bytes: &Octets,
+) -> Sending
+    ensures comes { Comes roster.now.listed (S.listens sockets.old) (Some (Server server lane, bytes.now)) result }
+    ensures taken { S.taken sockets.new ≡ S.taken sockets.old ++ packet_in roster.now.listed (Some (Server server lane, bytes.now)) result }
+    ensures failed { FailsBy (is_by_device result) (S.failures sockets.old) (S.failures sockets.new) }
+    ensures same { (S.given sockets.new ≡ S.given sockets.old) × (S.listens sockets.new ≡ S.listens sockets.old) }
+{
+    let Some(place) = roster.get(server) else {
+        return Sending::Failed(Why::NoServer);
+    };
+    match lane.kind {
+        Kind::Stream => Sending::Failed(Why::Gone),
+        Kind::Datagram => send(
+            sockets,
+            Socket::Server(server, lane.number, place.at),
+            place.at,
+            bytes,
+        ),
+    }
+}
+
+/// Sends a datagram.
+fn send<S: Datagrams>(sockets: &mut S, socket: Socket, to: Endpoint, bytes: &Octets) -> Sending
+    ensures sent { SentAs result (S.listens sockets.old) (record { socket = socket; peer = to; bytes = bytes.now }) (S.taken sockets.old) (S.taken sockets.new) }
+    ensures failed { FailsBy (is_by_device result) (S.failures sockets.old) (S.failures sockets.new) }
+    ensures same { (S.given sockets.new ≡ S.given sockets.old) × (S.listens sockets.new ≡ S.listens sockets.old) }
+{
+    match sockets.send(socket, to, bytes) {
+        Ok(()) => Sending::Done(Way::Datagram),
+        Err(why) => Sending::Failed(why),
+    }
+}

@@ -1,0 +1,291 @@
+//! The turn of datagrams.
+
+ghost use Rattle.std.specs.Prelude.{[], IfOk, IsTrue, List, None, OnErr, Some, false, is_some, length, map, option_to_list, vec_capacity, vec_len, ◌++◌, ◌+◌, ◌∷◌, ◌≡◌, ◌≢◌, ◌≤◌, ℕ};
+ghost use Rattle.lb_datagrams.specs.Lines.{AreLines, FailsBy, IsLine};
+ghost use Rattle.lb_datagrams.specs.Turn.{Stamps, Turns, world};
+ghost use Rattle.lb_lines.specs.Counts.{Grows, Rose};
+ghost use Rattle.lb_lines.specs.Events.{event_at, event_of, heard, is_strange, timeless};
+ghost use Rattle.lb_lines.specs.Lines.{FirstFault, any_by_device, events_in, is_by_device, pairs};
+ghost use Rattle.lb_lines.specs.Stamps.{Stamped};
+ghost use Rattle.lb_lines.specs.Ways.{packets, sending_of};
+ghost use Rattle.lb_lines.specs.declared.report.DeviceFault.TheVariants as devices;
+ghost use Rattle.lb_wire.specs.Octets.{max_message};
+
+use crate::sending::send_outcome;
+use lb_core::Event;
+use lb_lines::{
+    Datagram, Datagrams, DeviceFault, Endpoint, Gate, Line, Outside, Received, Report, Roster,
+    Socket, Source, Taker, add_line, fault_in, first_fault, outcome_of,
+};
+use lb_wire::{Kind, Lane, MAX_MESSAGE, Octets, Origin};
+use std::alloc::{AllocError, Global};
+use std::mem;
+
+/// The most events of a turn, and the most reads.
+const MOST: usize = 64;
+
+/// Reads at most 64 datagrams, hands the event of each to the desk, and sends what it answers. A stranger's datagram on a server's
+/// socket makes no event. It ends where no socket has a datagram, where the gate holds an event, where there is no moment to be had, and
+/// where room for a datagram is refused before it is read; where a device fails it goes on to the next one. The one error is want of
+/// memory for the report: then nothing was read or sent.
+pub fn datagram_turn<S: Datagrams, T: Taker, G: Gate, O: Outside>(
+    alloc: Global,
+    sockets: &mut S,
+    roster: &Roster,
+    taker: &mut T,
+    gate: &G,
+    outside: &mut O,
+) -> Result<Report, AllocError>
+    // Each datagram that the sockets gave, strangers' left out, is the event of a line, in order, or the one that the gate held.
+    ensures heard { IfOk result (λ r. heard (S.given sockets.new) ≡ heard (S.given sockets.old) ++ map timeless (events_in r.lines.items ++ option_to_list r.held)) }
+    // The events have moments and words that were said in this turn, in order, each its own.
+    ensures stamped { IfOk result (λ r. Stamps (O.said outside.old) (O.said outside.new) (events_in r.lines.items ++ option_to_list r.held) 64) }
+    // What the sockets took grew by the sends that are listed as done, in order.
+    ensures taken { IfOk result (λ r. S.taken sockets.new ≡ S.taken sockets.old ++ packets roster.now.listed r.lines.items) }
+    // The send of each line is the letter of its event and answer or fault; it was done, or failed for its cause.
+    ensures lines { IfOk result (λ r. AreLines roster.now.listed (S.listens sockets.old) r.lines.items) }
+    // The answers are the taker's.
+    ensures answered { IfOk result (λ r. T.answered taker.new ≡ T.answered taker.old + length (pairs r.lines.items)) }
+    ensures pairs { IfOk result (λ r. Grows (T.pairs taker.old) (T.pairs taker.new) (pairs r.lines.items)) }
+    // A device failed only where the count of its failures rose, and the first that failed is reported.
+    ensures failed { IfOk result (λ r. IsTrue (any_by_device r.lines.items) → Rose (S.failures sockets.old) (S.failures sockets.new)) }
+    ensures device { IfOk result (λ r. FirstFault r.device (S.failures sockets.old) (S.failures sockets.new) (O.failures outside.old) (O.failures outside.new)) }
+    ensures held { IfOk result (λ r. r.is_held ≡ is_some r.held) }
+    ensures few { IfOk result (λ r. length r.lines.items + length (option_to_list r.held) ≤ 64) }
+    ensures reads { IfOk result (λ _. length (S.given sockets.new) ≤ length (S.given sockets.old) + 64) }
+    ensures refused { OnErr result ((sockets.new ≡ sockets.old) × (taker.new ≡ taker.old) × (outside.new ≡ outside.old)) }
+{
+    let lines = Vec::with_capacity(alloc, MOST)?;
+    Ok(all_rounds(alloc, lines, sockets, roster, taker, gate, outside))
+}
+
+/// At most 64 rounds, whose lines have room.
+fn all_rounds<S: Datagrams, T: Taker, G: Gate, O: Outside>(
+    alloc: Global,
+    mut lines: Vec<Line>,
+    sockets: &mut S,
+    roster: &Roster,
+    taker: &mut T,
+    gate: &G,
+    outside: &mut O,
+) -> Report
+    requires empty { (lines.items ≡ []) × (vec_len lines ≡ 0) }
+    requires room { 64 ≤ vec_capacity lines }
+    ensures turned { Turns roster.now.listed (S.listens sockets.old) 64 (world (S.given sockets.old) (S.taken sockets.old) (S.failures sockets.old) (T.answered taker.old) (T.pairs taker.old) (O.said outside.old) (O.failures outside.old)) (world (S.given sockets.new) (S.taken sockets.new) (S.failures sockets.new) (T.answered taker.new) (T.pairs taker.new) (O.said outside.new) (O.failures outside.new)) result.lines.items (option_to_list result.held) result.device }
+    ensures held { result.is_held ≡ is_some result.held }
+{
+    let mut spare = Vec::new(alloc);
+    let mut device = None;
+    for _ in 0..MOST {
+        let step = match one_round(alloc, &mut spare, sockets, roster, taker, gate, outside) {
+            Ok(step) => step,
+            Err(_refused) => return report(lines, device, None),
+        };
+        let Step {
+            line,
+            device: found,
+            held,
+            is_last,
+        } = step;
+        add_line(&mut lines, line);
+        device = first_fault(device, found);
+        if is_last {
+            return report(lines, device, held);
+        }
+    }
+    report(lines, device, None)
+}
+
+/// A report of these lines.
+fn report(lines: Vec<Line>, device: Option<DeviceFault>, held: Option<Event>) -> Report
+    ensures { result ≡ record { lines = lines; device = device; is_held = is_some held; held = held } }
+{
+    Report {
+        lines,
+        device,
+        is_held: held.is_some(),
+        held,
+    }
+}
+
+/// What one round led to.
+#[derive(Drop)]
+struct Step {
+    line: Option<Line>,
+    device: Option<DeviceFault>,
+    held: Option<Event>,
+    is_last: bool,
+}
+
+/// A round without an event.
+fn no_event(device: Option<DeviceFault>, is_last: bool) -> Step
+    ensures { result ≡ record { line = None; device = device; held = None; is_last = is_last } }
+{
+    Step {
+        line: None,
+        device,
+        held: None,
+        is_last,
+    }
+}
+
+/// Asks for a moment, reads one datagram, and answers it. Room for it is taken before; refused, none was read.
+fn one_round<S: Datagrams, T: Taker, G: Gate, O: Outside>(
+    alloc: Global,
+    spare: &mut Vec<u8>,
+    sockets: &mut S,
+    roster: &Roster,
+    taker: &mut T,
+    gate: &G,
+    outside: &mut O,
+) -> Result<Step, AllocError>
+    requires empty { vec_len spare.old ≡ 0 }
+    ensures empty { vec_len spare.new ≡ 0 }
+    ensures turned { IfOk result (λ s. Turns roster.now.listed (S.listens sockets.old) 1 (world (S.given sockets.old) (S.taken sockets.old) (S.failures sockets.old) (T.answered taker.old) (T.pairs taker.old) (O.said outside.old) (O.failures outside.old)) (world (S.given sockets.new) (S.taken sockets.new) (S.failures sockets.new) (T.answered taker.new) (T.pairs taker.new) (O.said outside.new) (O.failures outside.new)) (option_to_list s.line) (option_to_list s.held) s.device) }
+    ensures refused { OnErr result (Turns roster.now.listed (S.listens sockets.old) 1 (world (S.given sockets.old) (S.taken sockets.old) (S.failures sockets.old) (T.answered taker.old) (T.pairs taker.old) (O.said outside.old) (O.failures outside.old)) (world (S.given sockets.new) (S.taken sockets.new) (S.failures sockets.new) (T.answered taker.new) (T.pairs taker.new) (O.said outside.new) (O.failures outside.new)) [] [] None) }
+    ensures clear { IfOk result (λ s. s.is_last ≡ false → (s.held ≡ None) × (s.device ≢ Some devices.Outside)) }
+    ensures same { S.listens sockets.new ≡ S.listens sockets.old }
+{
+    spare.reserve(MAX_MESSAGE)?;
+    let Some((now, word)) = outside.ask() else {
+        return Ok(no_event(Some(DeviceFault::Outside), true));
+    };
+    match sockets.receive()? {
+        Received::Packet(datagram) => Ok(packet(
+            alloc, spare, sockets, roster, taker, gate, now, word, datagram,
+        )),
+        Received::Nothing => Ok(no_event(None, true)),
+        Received::Failed => Ok(no_event(Some(DeviceFault::Sockets), false)),
+    }
+}
+
+/// Answers one datagram, which was read at this moment, with this word.
+fn packet<S: Datagrams, T: Taker, G: Gate>(
+    alloc: Global,
+    spare: &mut Vec<u8>,
+    sockets: &mut S,
+    roster: &Roster,
+    taker: &mut T,
+    gate: &G,
+    now: u64,
+    word: u16,
+    datagram: Datagram,
+) -> Step
+    requires empty { vec_len spare.old ≡ 0 }
+    requires room { max_message ≤ vec_capacity spare.old }
+    ensures empty { vec_len spare.new ≡ 0 }
+    ensures events { map timeless (events_in (option_to_list result.line) ++ option_to_list result.held) ≡ option_to_list (event_of datagram) }
+    ensures stamped { Stamped (events_in (option_to_list result.line) ++ option_to_list result.held) ((now, word) ∷ []) }
+    ensures few { length (option_to_list result.line) + length (option_to_list result.held) ≤ 1 }
+    ensures taken { S.taken sockets.new ≡ S.taken sockets.old ++ packets roster.now.listed (option_to_list result.line) }
+    ensures lines { AreLines roster.now.listed (S.listens sockets.old) (option_to_list result.line) }
+    ensures answered { T.answered taker.new ≡ T.answered taker.old + length (pairs (option_to_list result.line)) }
+    ensures pairs { Grows (T.pairs taker.old) (T.pairs taker.new) (pairs (option_to_list result.line)) }
+    ensures failed { IsTrue (any_by_device (option_to_list result.line)) → Rose (S.failures sockets.old) (S.failures sockets.new) }
+    ensures device { (o : ℕ) → FirstFault result.device (S.failures sockets.old) (S.failures sockets.new) o o }
+    ensures clear { result.device ≢ Some devices.Outside }
+    ensures last { result.is_last ≡ false → result.held ≡ None }
+    ensures same { (S.given sockets.new ≡ S.given sockets.old) × (S.listens sockets.new ≡ S.listens sockets.old) }
+{
+    let Datagram {
+        socket,
+        peer,
+        bytes,
+    } = datagram;
+    if is_stranger(socket, peer) {
+        return no_event(None, false);
+    }
+    let copy = copied(alloc, spare, &bytes);
+    let event = event_made(now, word, socket, peer, bytes);
+    if !gate.pass(&event) {
+        return Step {
+            line: None,
+            device: None,
+            held: Some(event),
+            is_last: true,
+        };
+    }
+    let told = event_made(now, word, socket, peer, copy);
+    let line = answered(sockets, roster, taker, event, told);
+    let device = fault_in(&line);
+    Step {
+        line: Some(line),
+        device,
+        held: None,
+        is_last: false,
+    }
+}
+
+/// Hands an event to the desk, and sends what comes of it. The line has an equal event.
+fn answered<S: Datagrams, T: Taker>(
+    sockets: &mut S,
+    roster: &Roster,
+    taker: &mut T,
+    event: Event,
+    told: Event,
+) -> Line
+    requires { told ≡ event }
+    ensures event { events_in (result ∷ []) ≡ event ∷ [] }
+    ensures line { IsLine roster.now.listed (S.listens sockets.old) result }
+    ensures taken { S.taken sockets.new ≡ S.taken sockets.old ++ packets roster.now.listed (result ∷ []) }
+    ensures failed { FailsBy (is_by_device (sending_of result)) (S.failures sockets.old) (S.failures sockets.new) }
+    ensures same { (S.given sockets.new ≡ S.given sockets.old) × (S.listens sockets.new ≡ S.listens sockets.old) }
+    ensures answered { T.answered taker.new ≡ T.answered taker.old + length (pairs (result ∷ [])) }
+    ensures pairs { Grows (T.pairs taker.old) (T.pairs taker.new) (pairs (result ∷ [])) }
+{
+    let outcome = outcome_of(taker, event);
+    let sending = send_outcome(sockets, roster, &told, &outcome);
+    Line::Event(Source::Datagrams, told, outcome, sending)
+}
+
+/// The event that a datagram makes.
+fn event_made(now: u64, word: u16, socket: Socket, peer: Endpoint, bytes: Octets) -> Event
+    ensures { result ≡ event_at now word socket peer bytes }
+{
+    match socket {
+        Socket::Listener(front) => Event::Query {
+            now,
+            origin: Origin {
+                front,
+                slot: 0,
+                source: peer.addr,
+                port: peer.port,
+            },
+            kind: Kind::Datagram,
+            word,
+            bytes,
+        },
+        Socket::Server(server, number, _) => Event::Reply {
+            now,
+            server,
+            lane: Lane {
+                kind: Kind::Datagram,
+                number,
+            },
+            bytes,
+        },
+    }
+}
+
+/// Whether a datagram came to a server's socket from elsewhere than the server.
+fn is_stranger(socket: Socket, peer: Endpoint) -> bool
+    ensures { result ≡ is_strange socket peer }
+{
+    match socket {
+        Socket::Listener(_) => false,
+        Socket::Server(_, _, at) => !at.is(peer),
+    }
+}
+
+/// A copy, which takes the spare room where its own is refused.
+fn copied(alloc: Global, spare: &mut Vec<u8>, bytes: &Octets) -> Octets
+    requires empty { vec_len spare.old ≡ 0 }
+    requires room { max_message ≤ vec_capacity spare.old }
+    ensures copy { result ≡ bytes.now }
+    ensures empty { vec_len spare.new ≡ 0 }
+{
+    match bytes.copy(alloc) {
+        Ok(copy) => copy,
+        Err(refused) => bytes.copy_into(mem::replace(spare, Vec::new(alloc)), refused),
+    }
+}

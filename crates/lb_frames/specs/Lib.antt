@@ -1,0 +1,2 @@
+-- shared by several files: Frames
+pub mod Frames

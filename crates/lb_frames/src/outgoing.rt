@@ -1,0 +1,62 @@
+//! Octets that wait to be written.
+
+ghost use Rattle.std.specs.Prelude.{[], OnErr, OnOk, drop, length, ◌++◌, ◌≡◌, ◌≤◌};
+
+use bytes::BytesMut;
+use std::alloc::{AllocError, Global};
+use std::marker::Model;
+
+/// Octets that wait to be written to a stream. A contract sees them. What was written is dropped without moving the rest.
+#[derive(Drop)]
+pub struct Outgoing {
+    octets: BytesMut,
+}
+
+impl Model for Outgoing {
+    ghost use Rattle.std.specs.Prelude.{List, ℕ};
+
+    ghost Value = { List ℕ };
+
+    ghost view = { λ o. o.octets.items };
+}
+
+impl Outgoing {
+    /// Nothing waits. It takes no memory.
+    pub fn new(alloc: Global) -> Outgoing
+        ensures { result ≡ [] }
+    {
+        Outgoing {
+            octets: BytesMut::new(alloc),
+        }
+    }
+
+    /// The octets that wait, for the next write.
+    pub fn as_slice(&self) -> &[u8]
+        ensures { result.now ≡ self.now }
+    {
+        self.octets.as_slice()
+    }
+
+    /// How many octets wait.
+    pub fn len(&self) -> usize
+        ensures { result ≡ length self.now }
+    {
+        self.octets.len()
+    }
+
+    /// Puts these octets behind the others. The one error is want of memory, and then nothing has changed.
+    pub fn push(&mut self, octets: &[u8]) -> Result<(), AllocError>
+        ensures pushed { OnOk result (self.new ≡ self.old ++ octets.now) }
+        ensures same { OnErr result (self.new ≡ self.old) }
+    {
+        self.octets.extend_from_slice(octets)
+    }
+
+    /// Takes octets that were written off the front.
+    pub fn advance(&mut self, n: usize)
+        requires { n ≤ length self.old }
+        ensures { self.new ≡ drop n self.old }
+    {
+        self.octets.advance(n);
+    }
+}

@@ -1,0 +1,19 @@
+//! What the loops report and stand on: sends of an answer, the lines of a report, where servers are, and the traits of sockets and of
+//! what else is outside.
+#![tactic(auto)]
+
+mod endpoint;
+mod letter;
+mod outcome;
+mod report;
+mod roster;
+mod traffic;
+mod traits;
+
+pub use endpoint::Endpoint;
+pub use letter::{End, excuse};
+pub use outcome::{add_line, fault_in, first_fault, outcome_of};
+pub use report::{DeviceFault, Line, Outcome, Report, Sending, Source, Way, Why};
+pub use roster::{Place, Roster, RosterFull};
+pub use traffic::{Accepted, Datagram, Read, Ready, Received, Socket};
+pub use traits::{Datagrams, Gate, Outside, Posts, Streams, Taker};

@@ -1,0 +1,15 @@
+//! The loops between sockets and the desk: framing, the lines of a report, and turns. What stands in crates of its own below is found
+//! here under one roof.
+#![tactic(auto)]
+
+mod caller;
+
+pub use caller::Caller;
+pub use lb_datagrams::datagram_turn;
+pub use lb_frames::{Framer, Message, Outgoing, cuts_do_not_matter, frame, one_division};
+pub use lb_lines::{
+    Accepted, Datagram, Datagrams, DeviceFault, End, Endpoint, Gate, Line, Outcome, Outside, Place,
+    Posts, Read, Ready, Received, Report, Roster, RosterFull, Sending, Socket, Source, Streams,
+    Taker, Way, Why,
+};
+pub use lb_outbox::{Delivery, Job, Outbox, Receiver, Sender, SenderId, Settled, finish};

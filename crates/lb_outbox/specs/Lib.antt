@@ -1,0 +1,3 @@
+-- shared by several files: Rule
+pub mod Rule
+pub mod Outbox
