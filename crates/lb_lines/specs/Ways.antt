@@ -1,5 +1,5 @@
 -- The way that a message goes, and what was sent by each way.
-use Rattle.std.specs.Prelude.{◌≡◌, ℕ, List, [], ◌∷◌, Option, Some, None, flat_map, option_and_then, option_map, option_to_list, if◌then◌else◌, ◌==◌}
+use Rattle.std.specs.Prelude.{◌≡◌, ◌≢◌, ℕ, ◌+◌, ◌≤◌, List, [], ◌∷◌, Option, Some, None, flat_map, length, option_and_then, option_map, option_to_list, if◌then◌else◌, ◌==◌}
 use Rattle.lb_wire.specs.declared.addr.Origin.{Origin}
 use Rattle.lb_outbox.specs.declared.job.Job.{Job}
 use Rattle.lb_outbox.specs.declared.job.Job.TheVariants as jobs
@@ -66,3 +66,11 @@ jobs_sent = flat_map (λ (l : Line). job_in (letter_of l) (sending_of l))
 
 abbrev pub posts : List Line → List (Origin × List ℕ)
 posts = flat_map (λ (l : Line). post_in (letter_of l) (sending_of l))
+
+-- a line puts one message at most on all ways, whichever connection is looked at
+abbrev pub OneMessage : Type 0
+OneMessage = (roster : List Listed) (c : ℕ) (line : Line) → length (packet_in roster (letter_of line) (sending_of line)) + length (message_in c (letter_of line) (sending_of line)) + length (job_in (letter_of line) (sending_of line)) + length (post_in (letter_of line) (sending_of line)) ≤ 1
+
+-- and not one on each of two connections
+abbrev pub OneConnection : Type 0
+OneConnection = (c d : ℕ) (line : Line) → c ≢ d → length (message_in c (letter_of line) (sending_of line)) + length (message_in d (letter_of line) (sending_of line)) ≤ 1

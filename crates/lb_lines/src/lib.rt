@@ -3,6 +3,7 @@
 #![tactic(auto)]
 
 mod endpoint;
+mod laws;
 mod letter;
 mod outcome;
 mod report;
@@ -11,6 +12,7 @@ mod traffic;
 mod traits;
 
 pub use endpoint::Endpoint;
+pub use laws::one_send_a_line;
 pub use letter::{End, excuse};
 pub use outcome::{add_line, fault_in, first_fault, outcome_of};
 pub use report::{DeviceFault, Line, Outcome, Report, Sending, Source, Way, Why};

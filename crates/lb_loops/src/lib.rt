@@ -10,6 +10,6 @@ pub use lb_frames::{Framer, Message, Outgoing, cuts_do_not_matter, frame, one_di
 pub use lb_lines::{
     Accepted, Datagram, Datagrams, DeviceFault, End, Endpoint, Gate, Line, Outcome, Outside, Place,
     Posts, Read, Ready, Received, Report, Roster, RosterFull, Sending, Socket, Source, Streams,
-    Taker, Way, Why,
+    Taker, Way, Why, one_send_a_line,
 };
 pub use lb_outbox::{Delivery, Job, Outbox, Receiver, Sender, SenderId, Settled, finish};

@@ -1,6 +1,6 @@
 //! Sockets of datagrams in memory.
 
-ghost use Rattle.std.specs.Prelude.{◌≡◌};
+ghost use Rattle.std.specs.Prelude.{length, ◌≡◌};
 ghost use Rattle.lb_memory.specs.Datagrams.{told};
 
 use http_server::Log;
@@ -61,6 +61,13 @@ impl<'a, R: Wait> MemoryDatagrams<'a, R> {
             given: Log::new(),
             taken: Log::new(),
         }
+    }
+
+    /// How many datagrams are still to come.
+    pub fn waiting(&self) -> usize
+        ensures { result ≡ length self.now.coming.items }
+    {
+        self.coming.len()
     }
 
     /// How often a device failed.

@@ -1,0 +1,18 @@
+//! The tests of the loops' crates, which call what is public there: in a crate of their own, so that those are proved once and not a
+//! second time with them. There is nothing else here.
+#![tactic(auto)]
+
+#[cfg(test)]
+mod desks;
+#[cfg(test)]
+mod frames;
+#[cfg(test)]
+mod messages;
+#[cfg(test)]
+mod outboxes;
+#[cfg(test)]
+mod rosters;
+#[cfg(test)]
+mod scene;
+#[cfg(test)]
+mod turns;

@@ -1,0 +1,45 @@
+//! Where servers are.
+
+use crate::messages::{FIRST, SECOND};
+use lb_loops::{Endpoint, Place, Roster, RosterFull};
+use lb_servers::Mode;
+use lb_wire::ServerId;
+use std::test::Fail;
+
+/// A place of a server without probes.
+pub(crate) fn place(at: Endpoint) -> Place {
+    Place {
+        at,
+        mode: Mode::Auto,
+        must_resolve: false,
+    }
+}
+
+#[test]
+fn servers_put_and_removed(rt: HostRuntime) -> Result<(), Fail> {
+    let mut roster = Roster::made(rt.alloc())?;
+    assert!(rt; roster.put(ServerId(1), place(FIRST)).is_ok());
+    assert_eq!(rt; roster.get(ServerId(1)), Some(place(FIRST)));
+    assert_eq!(rt; roster.get(ServerId(2)), None);
+    roster.remove(ServerId(1));
+    assert_eq!(rt; roster.get(ServerId(1)), None);
+    Ok(())
+}
+
+#[test]
+fn a_full_roster(rt: HostRuntime) -> Result<(), Fail> {
+    let mut roster = Roster::made(rt.alloc())?;
+    for server in 1..=256u64 {
+        assert!(rt;
+            roster.put(ServerId(server), place(FIRST)).is_ok(),
+            "{server}"
+        );
+    }
+    assert_eq!(rt; roster.put(ServerId(257), place(SECOND)), Err(RosterFull));
+    assert!(rt; roster.put(ServerId(7), place(SECOND)).is_ok());
+    assert_eq!(rt; roster.get(ServerId(7)), Some(place(SECOND)));
+    let mut copy = Roster::made(rt.alloc())?;
+    copy.copy_from(&roster);
+    assert!(rt; copy.version() == roster.version() && copy.get(ServerId(256)).is_some());
+    Ok(())
+}

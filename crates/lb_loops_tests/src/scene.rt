@@ -1,0 +1,215 @@
+//! What stands around a turn: datagrams that come, a desk's stand-in, a gate, and moments.
+
+ghost use Rattle.std.specs.Prelude.{List, []};
+ghost use Rattle.lb_core.specs.declared.answer.Answer.{Answer};
+ghost use Rattle.lb_core.specs.declared.event.Event.{Event};
+
+use crate::messages::{FIRST, SECOND};
+use crate::rosters::place;
+use lb_command::read_event_line;
+use lb_core::{Answer, Balancer, Event};
+use lb_desk::DeskFault;
+use lb_loops::{
+    Datagram, DeviceFault, Endpoint, Gate, Line, Report, Roster, Sending, Socket, Taker, Way,
+    datagram_turn,
+};
+use lb_memory::{Failing, MemoryDatagrams, MemoryOutside};
+use lb_wire::{MAX_MESSAGE, Octets, ServerId};
+use std::alloc::{AllocError, Global};
+use std::collections::VecDeque;
+use std::sync::{Arc, Mutex, Wait};
+use std::test::Fail;
+
+/// A balancer that counts the events that it answered, and takes none past the last count.
+#[derive(Drop)]
+pub(crate) struct Stepper {
+    balancer: Balancer,
+    answered: u64,
+}
+
+impl Stepper {
+    /// A new balancer that has answered so many.
+    pub(crate) fn new(alloc: Global, answered: u64) -> Result<Stepper, AllocError> {
+        Ok(Stepper {
+            balancer: Balancer::new(alloc)?,
+            answered,
+        })
+    }
+
+    /// A new balancer that took these lines.
+    pub(crate) fn told(alloc: Global, lines: &[&str]) -> Result<Stepper, Fail> {
+        let mut stepper = Stepper::new(alloc, 0)?;
+        tell(&mut stepper, alloc, lines)?;
+        Ok(stepper)
+    }
+}
+
+impl Taker for Stepper {
+    ghost answered = { λ s. s.answered };
+
+    ghost pairs = { λ _. [] };
+
+    fn take(&mut self, event: Event) -> Result<Answer, (DeskFault, Event)> {
+        let Some(answered) = self.answered.checked_add(1) else {
+            return Err((DeskFault::CountFull, event));
+        };
+        self.answered = answered;
+        Ok(self.balancer.step(event))
+    }
+}
+
+/// Has these lines of `lb replay` answered.
+pub(crate) fn tell<T: Taker>(taker: &mut T, alloc: Global, lines: &[&str]) -> Result<(), Fail> {
+    for line in lines {
+        let Ok(event) = read_event_line(alloc, line) else {
+            return Err(Fail::from("a line that is no event"));
+        };
+        if taker.take(event).is_err() {
+            return Err(Fail::from("a line that was not answered"));
+        }
+    }
+    Ok(())
+}
+
+/// A gate that holds what comes at this moment or later.
+#[derive(Drop)]
+pub(crate) struct HoldsFrom(pub(crate) u64);
+
+impl Gate for HoldsFrom {
+    fn pass(&self, event: &Event) -> bool {
+        event.now() < self.0
+    }
+}
+
+/// A gate that holds nothing.
+pub(crate) const OPEN: HoldsFrom = HoldsFrom(u64::MAX);
+
+/// A datagram's socket took it.
+pub(crate) const DONE: Sending = Sending::Done(Way::Datagram);
+
+/// A datagram: its socket, whom it comes from or goes to, and its octets.
+pub(crate) type Packet = (Socket, Endpoint, &'static [u8]);
+
+/// What datagrams do between sockets in memory and a roster of two servers. The listeners are two.
+#[derive(Drop)]
+pub(crate) struct Scene<'a, R: Wait> {
+    sockets: MemoryDatagrams<'a, R>,
+    kept: Arc<Mutex<Vec<Datagram>>>,
+    outside: MemoryOutside,
+    pub(crate) roster: Roster,
+    alloc: Global,
+}
+
+impl<'a, R: Wait> Scene<'a, R> {
+    /// These datagrams come, all of them so often. Moments begin with 1, and words with 16; the ask of this number fails.
+    pub(crate) fn new(
+        rt: &'a R,
+        alloc: Global,
+        (packets, times): (&[Packet], usize),
+        failing: Failing,
+        failing_ask: u64,
+    ) -> Result<Scene<'a, R>, Fail> {
+        let mut coming = VecDeque::new(alloc);
+        for _ in 0..times {
+            for packet in packets {
+                coming.push_back(datagram(alloc, packet)?)?;
+            }
+        }
+        let kept = Arc::new(alloc, Mutex::new(Vec::new(alloc)))?;
+        let theirs = Arc::try_clone(&kept)?;
+        Ok(Scene {
+            sockets: MemoryDatagrams::new(rt, alloc, 2, coming, theirs, failing),
+            kept,
+            outside: MemoryOutside::new(1, 16, failing_ask),
+            roster: roster(alloc)?,
+            alloc,
+        })
+    }
+
+    /// One turn.
+    pub(crate) fn turn<T: Taker>(
+        &mut self,
+        taker: &mut T,
+        gate: &HoldsFrom,
+    ) -> Result<Report, AllocError> {
+        datagram_turn(
+            self.alloc,
+            &mut self.sockets,
+            &self.roster,
+            taker,
+            gate,
+            &mut self.outside,
+        )
+    }
+
+    /// How many datagrams are still to come.
+    pub(crate) fn waiting(&self) -> usize {
+        self.sockets.waiting()
+    }
+
+    /// Whether the sockets took just these datagrams, in this order.
+    pub(crate) fn took(&self, rt: &R, packets: &[Packet]) -> bool {
+        let kept = self.kept.lock(rt);
+        kept.len() == packets.len()
+            && kept
+                .iter()
+                .zip(packets)
+                .all(|(datagram, packet)| is(datagram, packet))
+    }
+
+    /// Whether the sockets took just this datagram, so often.
+    pub(crate) fn took_all(&self, rt: &R, packet: &Packet, times: usize) -> bool {
+        let kept = self.kept.lock(rt);
+        kept.len() == times && kept.iter().all(|datagram| is(datagram, packet))
+    }
+}
+
+fn datagram(alloc: Global, (socket, peer, bytes): &Packet) -> Result<Datagram, AllocError> {
+    let bytes = &bytes[..bytes.len().min(MAX_MESSAGE)];
+    Ok(Datagram {
+        socket: *socket,
+        peer: *peer,
+        bytes: Octets::from_vec(Vec::from_slice(alloc, bytes)?),
+    })
+}
+
+fn is(datagram: &Datagram, (socket, peer, bytes): &Packet) -> bool {
+    datagram.socket == *socket && datagram.peer == *peer && datagram.bytes.as_slice() == *bytes
+}
+
+/// Where servers 1 and 2 are.
+fn roster(alloc: Global) -> Result<Roster, Fail> {
+    let mut roster = Roster::made(alloc)?;
+    let is_put = roster.put(ServerId(1), place(FIRST)).is_ok();
+    if is_put && roster.put(ServerId(2), place(SECOND)).is_ok() {
+        Ok(roster)
+    } else {
+        Err(Fail::from("a full roster"))
+    }
+}
+
+/// What came of a line's send.
+pub(crate) fn sending_of(line: &Line) -> Sending {
+    match line {
+        Line::Event(_, _, _, sending) | Line::Job(_, sending) | Line::Probe(_, _, sending) =>
+            *sending,
+    }
+}
+
+/// Whether a report has lines of just these sends, and this device fault.
+pub(crate) fn reports(report: &Report, device: Option<DeviceFault>, sendings: &[Sending]) -> bool {
+    report.device == device
+        && report.lines.len() == sendings.len()
+        && report
+            .lines
+            .iter()
+            .zip(sendings)
+            .all(|(line, sending)| sending_of(line) == *sending)
+}
+
+/// Whether a report has so many lines, whose sends were all done, and this device fault.
+pub(crate) fn reports_done(report: &Report, device: Option<DeviceFault>, lines: usize) -> bool {
+    report.device == device
+        && report.lines.len() == lines
+        && report.lines.iter().all(|line| sending_of(line) == DONE)
+}
