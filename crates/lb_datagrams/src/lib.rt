@@ -2,6 +2,8 @@
 #![tactic(auto)]
 
 mod sending;
+mod spare;
 mod turn;
 
+pub use spare::Spare;
 pub use turn::datagram_turn;

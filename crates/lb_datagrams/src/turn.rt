@@ -12,6 +12,7 @@ ghost use Rattle.lb_lines.specs.declared.report.DeviceFault.TheVariants as devic
 ghost use Rattle.lb_wire.specs.Octets.{max_message};
 
 use crate::sending::send_outcome;
+use crate::spare::Spare;
 use lb_core::Event;
 use lb_lines::{
     Datagram, Datagrams, DeviceFault, Endpoint, Gate, Line, Outside, Received, Report, Roster,
@@ -24,12 +25,13 @@ use std::mem;
 /// The most events of a turn, and the most reads.
 const MOST: usize = 64;
 
-/// Reads at most 64 datagrams, hands the event of each to the desk, and sends what it answers. A stranger's datagram on a server's
+/// Reads at most 64 datagrams, hands the event of each to the desk, and sends what it answers. The spare room is kept from turn to turn. A stranger's datagram on a server's
 /// socket makes no event. It ends where no socket has a datagram, where the gate holds an event, where there is no moment to be had, and
 /// where room for a datagram is refused before it is read; where a device fails it goes on to the next one. The one error is want of
 /// memory for the report: then nothing was read or sent.
 pub fn datagram_turn<S: Datagrams, T: Taker, G: Gate, O: Outside>(
     alloc: Global,
+    spare: &mut Spare,
     sockets: &mut S,
     roster: &Roster,
     taker: &mut T,
@@ -55,13 +57,15 @@ pub fn datagram_turn<S: Datagrams, T: Taker, G: Gate, O: Outside>(
     ensures reads { IfOk result (λ _. length (S.given sockets.new) ≤ length (S.given sockets.old) + 64) }
     ensures refused { OnErr result ((sockets.new ≡ sockets.old) × (taker.new ≡ taker.old) × (outside.new ≡ outside.old)) }
 {
-    let lines = Vec::with_capacity(alloc, MOST)?;
-    Ok(all_rounds(alloc, lines, sockets, roster, taker, gate, outside))
+    let mut lines = spare.blank_lines();
+    lines.reserve(MOST)?;
+    Ok(all_rounds(alloc, spare, lines, sockets, roster, taker, gate, outside))
 }
 
 /// At most 64 rounds, whose lines have room.
 fn all_rounds<S: Datagrams, T: Taker, G: Gate, O: Outside>(
     alloc: Global,
+    spare: &mut Spare,
     mut lines: Vec<Line>,
     sockets: &mut S,
     roster: &Roster,
@@ -74,15 +78,17 @@ fn all_rounds<S: Datagrams, T: Taker, G: Gate, O: Outside>(
     ensures turned { Turns roster.now.listed (S.listens sockets.old) 64 (world (S.given sockets.old) (S.taken sockets.old) (S.failures sockets.old) (T.answered taker.old) (T.pairs taker.old) (O.said outside.old) (O.failures outside.old)) (world (S.given sockets.new) (S.taken sockets.new) (S.failures sockets.new) (T.answered taker.new) (T.pairs taker.new) (O.said outside.new) (O.failures outside.new)) result.lines.items (option_to_list result.held) result.device }
     ensures held { result.is_held ≡ is_some result.held }
 {
-    let mut spare = Vec::new(alloc);
     let mut device = None;
     for _ in 0..MOST {
-        let step = match one_round(alloc, &mut spare, sockets, roster, taker, gate, outside) {
+        let mut line = None;
+        let room = &mut spare.room;
+        let step = match one_round(
+            alloc, room, &mut line, sockets, roster, taker, gate, outside,
+        ) {
             Ok(step) => step,
             Err(_refused) => return report(lines, device, None),
         };
         let Step {
-            line,
             device: found,
             held,
             is_last,
@@ -108,10 +114,9 @@ fn report(lines: Vec<Line>, device: Option<DeviceFault>, held: Option<Event>) ->
     }
 }
 
-/// What one round led to.
+/// What one round led to, beside its line.
 #[derive(Drop)]
 struct Step {
-    line: Option<Line>,
     device: Option<DeviceFault>,
     held: Option<Event>,
     is_last: bool,
@@ -119,10 +124,9 @@ struct Step {
 
 /// A round without an event.
 fn no_event(device: Option<DeviceFault>, is_last: bool) -> Step
-    ensures { result ≡ record { line = None; device = device; held = None; is_last = is_last } }
+    ensures { result ≡ record { device = device; held = None; is_last = is_last } }
 {
     Step {
-        line: None,
         device,
         held: None,
         is_last,
@@ -133,6 +137,7 @@ fn no_event(device: Option<DeviceFault>, is_last: bool) -> Step
 fn one_round<S: Datagrams, T: Taker, G: Gate, O: Outside>(
     alloc: Global,
     spare: &mut Vec<u8>,
+    line: &mut Option<Line>,
     sockets: &mut S,
     roster: &Roster,
     taker: &mut T,
@@ -140,8 +145,9 @@ fn one_round<S: Datagrams, T: Taker, G: Gate, O: Outside>(
     outside: &mut O,
 ) -> Result<Step, AllocError>
     requires empty { vec_len spare.old ≡ 0 }
+    requires none { line.old ≡ None }
     ensures empty { vec_len spare.new ≡ 0 }
-    ensures turned { IfOk result (λ s. Turns roster.now.listed (S.listens sockets.old) 1 (world (S.given sockets.old) (S.taken sockets.old) (S.failures sockets.old) (T.answered taker.old) (T.pairs taker.old) (O.said outside.old) (O.failures outside.old)) (world (S.given sockets.new) (S.taken sockets.new) (S.failures sockets.new) (T.answered taker.new) (T.pairs taker.new) (O.said outside.new) (O.failures outside.new)) (option_to_list s.line) (option_to_list s.held) s.device) }
+    ensures turned { IfOk result (λ s. Turns roster.now.listed (S.listens sockets.old) 1 (world (S.given sockets.old) (S.taken sockets.old) (S.failures sockets.old) (T.answered taker.old) (T.pairs taker.old) (O.said outside.old) (O.failures outside.old)) (world (S.given sockets.new) (S.taken sockets.new) (S.failures sockets.new) (T.answered taker.new) (T.pairs taker.new) (O.said outside.new) (O.failures outside.new)) (option_to_list line.new) (option_to_list s.held) s.device) }
     ensures refused { OnErr result (Turns roster.now.listed (S.listens sockets.old) 1 (world (S.given sockets.old) (S.taken sockets.old) (S.failures sockets.old) (T.answered taker.old) (T.pairs taker.old) (O.said outside.old) (O.failures outside.old)) (world (S.given sockets.new) (S.taken sockets.new) (S.failures sockets.new) (T.answered taker.new) (T.pairs taker.new) (O.said outside.new) (O.failures outside.new)) [] [] None) }
     ensures clear { IfOk result (λ s. s.is_last ≡ false → (s.held ≡ None) × (s.device ≢ Some devices.Outside)) }
     ensures same { S.listens sockets.new ≡ S.listens sockets.old }
@@ -152,7 +158,7 @@ fn one_round<S: Datagrams, T: Taker, G: Gate, O: Outside>(
     };
     match sockets.receive()? {
         Received::Packet(datagram) => Ok(packet(
-            alloc, spare, sockets, roster, taker, gate, now, word, datagram,
+            alloc, spare, line, sockets, roster, taker, gate, now, word, datagram,
         )),
         Received::Nothing => Ok(no_event(None, true)),
         Received::Failed => Ok(no_event(Some(DeviceFault::Sockets), false)),
@@ -163,6 +169,7 @@ fn one_round<S: Datagrams, T: Taker, G: Gate, O: Outside>(
 fn packet<S: Datagrams, T: Taker, G: Gate>(
     alloc: Global,
     spare: &mut Vec<u8>,
+    line: &mut Option<Line>,
     sockets: &mut S,
     roster: &Roster,
     taker: &mut T,
@@ -173,15 +180,16 @@ fn packet<S: Datagrams, T: Taker, G: Gate>(
 ) -> Step
     requires empty { vec_len spare.old ≡ 0 }
     requires room { max_message ≤ vec_capacity spare.old }
+    requires none { line.old ≡ None }
     ensures empty { vec_len spare.new ≡ 0 }
-    ensures events { map timeless (events_in (option_to_list result.line) ++ option_to_list result.held) ≡ option_to_list (event_of datagram) }
-    ensures stamped { Stamped (events_in (option_to_list result.line) ++ option_to_list result.held) ((now, word) ∷ []) }
-    ensures few { length (option_to_list result.line) + length (option_to_list result.held) ≤ 1 }
-    ensures taken { S.taken sockets.new ≡ S.taken sockets.old ++ packets roster.now.listed (option_to_list result.line) }
-    ensures lines { AreLines roster.now.listed (S.listens sockets.old) (option_to_list result.line) }
-    ensures answered { T.answered taker.new ≡ T.answered taker.old + length (pairs (option_to_list result.line)) }
-    ensures pairs { Grows (T.pairs taker.old) (T.pairs taker.new) (pairs (option_to_list result.line)) }
-    ensures failed { IsTrue (any_by_device (option_to_list result.line)) → Rose (S.failures sockets.old) (S.failures sockets.new) }
+    ensures events { map timeless (events_in (option_to_list line.new) ++ option_to_list result.held) ≡ option_to_list (event_of datagram) }
+    ensures stamped { Stamped (events_in (option_to_list line.new) ++ option_to_list result.held) ((now, word) ∷ []) }
+    ensures few { length (option_to_list line.new) + length (option_to_list result.held) ≤ 1 }
+    ensures taken { S.taken sockets.new ≡ S.taken sockets.old ++ packets roster.now.listed (option_to_list line.new) }
+    ensures lines { AreLines roster.now.listed (S.listens sockets.old) (option_to_list line.new) }
+    ensures answered { T.answered taker.new ≡ T.answered taker.old + length (pairs (option_to_list line.new)) }
+    ensures pairs { Grows (T.pairs taker.old) (T.pairs taker.new) (pairs (option_to_list line.new)) }
+    ensures failed { IsTrue (any_by_device (option_to_list line.new)) → Rose (S.failures sockets.old) (S.failures sockets.new) }
     ensures device { (o : ℕ) → FirstFault result.device (S.failures sockets.old) (S.failures sockets.new) o o }
     ensures clear { result.device ≢ Some devices.Outside }
     ensures last { result.is_last ≡ false → result.held ≡ None }
@@ -199,17 +207,16 @@ fn packet<S: Datagrams, T: Taker, G: Gate>(
     let event = event_made(now, word, socket, peer, bytes);
     if !gate.pass(&event) {
         return Step {
-            line: None,
             device: None,
             held: Some(event),
             is_last: true,
         };
     }
     let told = event_made(now, word, socket, peer, copy);
-    let line = answered(sockets, roster, taker, event, told);
-    let device = fault_in(&line);
+    let answered = answered(sockets, roster, taker, event, told);
+    let device = fault_in(&answered);
+    *line = Some(answered);
     Step {
-        line: Some(line),
         device,
         held: None,
         is_last: false,

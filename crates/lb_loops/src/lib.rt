@@ -5,7 +5,7 @@
 mod caller;
 
 pub use caller::Caller;
-pub use lb_datagrams::datagram_turn;
+pub use lb_datagrams::{Spare, datagram_turn};
 pub use lb_frames::{Framer, Message, Outgoing, cuts_do_not_matter, frame, one_division};
 pub use lb_lines::{
     Accepted, Datagram, Datagrams, DeviceFault, End, Endpoint, Gate, Line, Outcome, Outside, Place,

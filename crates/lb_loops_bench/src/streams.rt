@@ -31,8 +31,10 @@ pub(crate) fn time_streams(rt: &HostRuntime) -> io::Result<()> {
     let fed = fed_octets(rt.alloc())?;
     let nanos = start.elapsed(rt)?.as_nanos() / 655_370;
     eprintln!(rt; "an octet of a message of 65,535: {nanos} ns ({fed} messages)")?;
+    let mut outgoing = Outgoing::new(rt.alloc());
+    outgoing.push(stream(rt.alloc(), WAITING)?.as_slice())?;
     let start = Instant::now(rt)?;
-    let writes = written(rt.alloc())?;
+    let writes = written(&mut outgoing);
     let nanos = start.elapsed(rt)?.as_nanos() / u128::from(writes).max(1);
     eprintln!(rt; "a write of 1,400 octets: {nanos} ns ({writes} writes of a megabyte)")
 }
@@ -74,19 +76,17 @@ fn fed_octets(alloc: Global) -> Result<usize, AllocError> {
 }
 
 /// In how many writes a megabyte is gone.
-fn written(alloc: Global) -> Result<u32, AllocError> {
-    let mut outgoing = Outgoing::new(alloc);
-    outgoing.push(stream(alloc, WAITING)?.as_slice())?;
+fn written(outgoing: &mut Outgoing) -> u32 {
     let mut writes = 0u32;
     for _ in 0..=u32::MAX {
         let len = outgoing.len().min(SEGMENT);
         if len == 0 {
-            return Ok(writes);
+            return writes;
         }
         outgoing.advance(len);
         writes = writes.wrapping_add(1);
     }
-    Ok(writes)
+    writes
 }
 
 /// Holds streams each of which announced 65,535 octets and sent one, and tells how many.

@@ -5,7 +5,7 @@ ghost use Rattle.lb_core.specs.Snapshot.{snapshot_of};
 
 use lb_core::{Answer, Balancer, BoxedCommand, Command, Event, StatedAction, StatedRule};
 use lb_desk::{Desk, Naming};
-use lb_loops::{Caller, Datagram, Endpoint, Gate, Roster, Socket, Taker, datagram_turn};
+use lb_loops::{Caller, Datagram, Endpoint, Gate, Roster, Socket, Spare, Taker, datagram_turn};
 use lb_memory::{Failing, MemoryDatagrams, MemoryOutside};
 use lb_terms::Term;
 use lb_wire::{Addr, Kind, Octets, Origin, Rcode};
@@ -91,12 +91,22 @@ fn all_taken<R: Wait, T: Taker>(
     let _ = taker.take(rule);
     let kept = Arc::new(alloc, Mutex::new(Vec::new(alloc)))?;
     let roster = Roster::made(alloc)?;
+    let mut spare = Spare::new(alloc);
     let mut outside = MemoryOutside::new(1, 16, 0);
     let mut done = 0usize;
     for _ in 0..TURNS {
         let coming = coming(alloc)?;
         let answered = if is_turn {
-            by_turn(rt, alloc, coming, &kept, &roster, taker, &mut outside)?
+            by_turn(
+                rt,
+                alloc,
+                &mut spare,
+                coming,
+                &kept,
+                &roster,
+                taker,
+                &mut outside,
+            )?
         } else {
             by_calls(rt, alloc, coming, &kept, taker)?
         };
@@ -138,6 +148,7 @@ fn coming(alloc: Global) -> Result<VecDeque<Datagram>, AllocError> {
 fn by_turn<R: Wait, T: Taker>(
     rt: &R,
     alloc: Global,
+    spare: &mut Spare,
     coming: VecDeque<Datagram>,
     kept: &Arc<Mutex<Vec<Datagram>>>,
     roster: &Roster,
@@ -146,8 +157,10 @@ fn by_turn<R: Wait, T: Taker>(
 ) -> Result<usize, AllocError> {
     let kept = Arc::try_clone(kept)?;
     let mut sockets = MemoryDatagrams::new(rt, alloc, 1, coming, kept, Failing::default());
-    let report = datagram_turn(alloc, &mut sockets, roster, taker, &Open, outside)?;
-    Ok(report.lines.len())
+    let report = datagram_turn(alloc, spare, &mut sockets, roster, taker, &Open, outside)?;
+    let answered = report.lines.len();
+    spare.take_back(report.lines);
+    Ok(answered)
 }
 
 /// How many were answered by calls, with the copies that a turn makes: of each event for its line, and of each answer for its socket.

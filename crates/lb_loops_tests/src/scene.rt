@@ -10,8 +10,8 @@ use lb_command::read_event_line;
 use lb_core::{Answer, Balancer, Event};
 use lb_desk::DeskFault;
 use lb_loops::{
-    Datagram, DeviceFault, Endpoint, Gate, Line, Report, Roster, Sending, Socket, Taker, Way,
-    datagram_turn,
+    Datagram, DeviceFault, Endpoint, Gate, Line, Report, Roster, Sending, Socket, Spare, Taker,
+    Way, datagram_turn,
 };
 use lb_memory::{Failing, MemoryDatagrams, MemoryOutside};
 use lb_wire::{MAX_MESSAGE, Octets, ServerId};
@@ -96,6 +96,7 @@ pub(crate) struct Scene<'a, R: Wait> {
     sockets: MemoryDatagrams<'a, R>,
     kept: Arc<Mutex<Vec<Datagram>>>,
     outside: MemoryOutside,
+    spare: Spare,
     pub(crate) roster: Roster,
     alloc: Global,
 }
@@ -121,6 +122,7 @@ impl<'a, R: Wait> Scene<'a, R> {
             sockets: MemoryDatagrams::new(rt, alloc, 2, coming, theirs, failing),
             kept,
             outside: MemoryOutside::new(1, 16, failing_ask),
+            spare: Spare::new(alloc),
             roster: roster(alloc)?,
             alloc,
         })
@@ -134,12 +136,20 @@ impl<'a, R: Wait> Scene<'a, R> {
     ) -> Result<Report, AllocError> {
         datagram_turn(
             self.alloc,
+            &mut self.spare,
             &mut self.sockets,
             &self.roster,
             taker,
             gate,
             &mut self.outside,
         )
+    }
+
+    /// How many lines a report has, whose room goes to the next turn.
+    pub(crate) fn ended(&mut self, report: Report) -> usize {
+        let lines = report.lines.len();
+        self.spare.take_back(report.lines);
+        lines
     }
 
     /// How many datagrams are still to come.

@@ -282,9 +282,9 @@ fn two_turns<R: Wait>(
         mut stepper,
         report,
     } = turned(rt, alloc, comes, NEVER, 0)?;
-    let first = (report.lines.len(), scene.waiting());
+    let first = (scene.ended(report), scene.waiting());
     let report = scene.turn(&mut stepper, &OPEN)?;
-    Ok((first, (report.lines.len(), scene.waiting())))
+    Ok((first, (scene.ended(report), scene.waiting())))
 }
 
 /// A server's mode changes between a query and its reply, which is delivered all the same.

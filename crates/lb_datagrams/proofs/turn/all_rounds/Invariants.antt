@@ -5,8 +5,7 @@ use Rattle.lb_datagrams.proofs.turn.all_rounds.Given as goal
 
 abbrev pub invariant-loop : goal.invariant-loop
 invariant-loop g l =
-    (vec_len l.spare ≡ 0)
-    × Turns l.roster.listed (g.S.Datagrams.listens l.fn.sockets) l.counter
+    Turns l.roster.listed (g.S.Datagrams.listens l.fn.sockets) l.counter
     (world (g.S.Datagrams.given l.fn.sockets) (g.S.Datagrams.taken l.fn.sockets) (g.S.Datagrams.failures l.fn.sockets) (g.T.Taker.answered l.fn.taker) (g.T.Taker.pairs l.fn.taker) (g.O.Outside.said l.fn.outside) (g.O.Outside.failures l.fn.outside))
     (world (g.S.Datagrams.given l.sockets) (g.S.Datagrams.taken l.sockets) (g.S.Datagrams.failures l.sockets) (g.T.Taker.answered l.taker) (g.T.Taker.pairs l.taker) (g.O.Outside.said l.outside) (g.O.Outside.failures l.outside))
     l.lines.items [] l.device

@@ -17,7 +17,7 @@ returns-in_default-clause-turned g c =
     let old : World = world (g.S.Datagrams.given c.args.sockets.now) (g.S.Datagrams.taken c.args.sockets.now) (g.S.Datagrams.failures c.args.sockets.now) (g.T.Taker.answered c.args.taker.now) (g.T.Taker.pairs c.args.taker.now) (g.O.Outside.said c.args.outside.now) (g.O.Outside.failures c.args.outside.now) in
     let new : World = world (g.S.Datagrams.given c.args.sockets.now) (g.S.Datagrams.taken c.args.sockets.now) (g.S.Datagrams.failures c.args.sockets.now) (g.T.Taker.answered c.args.taker.now) (g.T.Taker.pairs c.args.taker.now) (g.O.Outside.said c.ask.new.self) (g.O.Outside.failures c.ask.new.self) in
     let said : new.said ≡ old.said = search rules in
-    rw c.no_event.ensures (turns_idle c.args.roster.now.listed (g.S.Datagrams.listens c.args.sockets.now) old new [] (Some devices.Outside) refl refl refl refl (said ∙ sym (append-nil old.said)) (omega arith) (refl, search rules))
+    rw c.requires.none (rw c.no_event.ensures (turns_idle c.args.roster.now.listed (g.S.Datagrams.listens c.args.sockets.now) old new [] (Some devices.Outside) refl refl refl refl (said ∙ sym (append-nil old.said)) (omega arith) (refl, search rules)))
 
 pub returns-in-Packet-clause-turned : goal.returns-in-Packet-clause-turned
 returns-in-Packet-clause-turned g c =
