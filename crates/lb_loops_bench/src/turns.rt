@@ -15,10 +15,13 @@ use std::io;
 use std::marker::Brand;
 use std::sync::ledger::Blank;
 use std::sync::{Arc, Mutex, Wait};
-use std::time::Instant;
+use std::time::{Clock, Instant};
 
-/// How many turns there are.
-const TURNS: u32 = 5_000;
+/// How many turns are timed together, and how many calls instead of them.
+const TURNS: u32 = 250;
+
+/// How often both are timed.
+const BLOCKS: u32 = 40;
 
 /// How many datagrams a turn has.
 const DATAGRAMS: usize = 64;
@@ -43,28 +46,32 @@ impl Gate for Open {
     }
 }
 
-/// Times refused queries, by turns or by calls alone. That the datagrams are made is counted in.
-pub(crate) fn time_turns<R: Wait>(rt: &HostRuntime, waits: &R, is_turn: bool) -> io::Result<()> {
-    let start = Instant::now(rt)?;
-    let done = taken(waits, rt.alloc(), is_turn)?;
-    let nanos = start.elapsed(rt)?.as_nanos() / (u128::from(TURNS) * DATAGRAMS as u128);
-    let what = if is_turn { "a turn" } else { "a call" };
-    eprintln!(rt; "a refused query by {what}: {nanos} ns ({done} answered)")
+/// The least nanoseconds of a datagram.
+#[derive(Clone, Copy)]
+struct Times {
+    call: u128,
+    turn: u128,
 }
 
-/// How many datagrams were answered at a new desk.
-fn taken<R: Wait>(rt: &R, alloc: Global, is_turn: bool) -> Result<usize, AllocError> {
+/// Times refused queries, in turn by calls alone and by turns. That the datagrams are made is counted in.
+pub(crate) fn time_turns<R: Wait + Clock>(rt: &HostRuntime, waits: &R) -> io::Result<()> {
+    let least = best(waits, rt.alloc())?;
+    let (call, turn) = (least.call, least.turn);
+    eprintln!(rt; "a refused query by a call: {call} ns, by a turn: {turn} ns")
+}
+
+/// The least times at a new desk.
+fn best<R: Wait + Clock>(rt: &R, alloc: Global) -> io::Result<Times> {
     let balancer = Balancer::new(alloc)?;
-    taken_at::<Brand, R>(rt, alloc, Blank::new(1), balancer, is_turn)
+    least_at::<Brand, R>(rt, alloc, Blank::new(1), balancer)
 }
 
-fn taken_at<J: Naming, R: Wait>(
+fn least_at<J: Naming, R: Wait + Clock>(
     rt: &R,
     alloc: Global,
     blank: Blank,
     balancer: Balancer,
-    is_turn: bool,
-) -> Result<usize, AllocError>
+) -> io::Result<Times>
     requires name { blank.name ≡ J.name }
     requires parts { (blank.parts ≡ J.parts) × (J.parts ≡ J.seats) }
     requires seats { J.seats ≡ 1 }
@@ -73,47 +80,71 @@ fn taken_at<J: Naming, R: Wait>(
 {
     let (desk, mut seats) = Desk::<J>::made(alloc, blank, balancer, 0, 1)?;
     match seats.pop() {
-        Some(seat) => all_taken(rt, alloc, &mut Caller::new(rt, &desk, seat), is_turn),
-        None => Ok(0),
+        Some(seat) => least_of(rt, alloc, &mut Caller::new(rt, &desk, seat)),
+        None => Ok(Times { call: 0, turn: 0 }),
     }
 }
 
-/// How many datagrams were answered by all turns, where every query is refused.
-fn all_taken<R: Wait, T: Taker>(
-    rt: &R,
-    alloc: Global,
-    taker: &mut T,
-    is_turn: bool,
-) -> Result<usize, AllocError> {
+/// The least times where every query is refused.
+fn least_of<R: Wait + Clock, T: Taker>(rt: &R, alloc: Global, taker: &mut T) -> io::Result<Times> {
+    let mut least = Times { call: 0, turn: 0 };
     let Some(rule) = rule(alloc)? else {
-        return Ok(0);
+        return Ok(least);
     };
     let _ = taker.take(rule);
-    let kept = Arc::new(alloc, Mutex::new(Vec::new(alloc)))?;
-    let roster = Roster::made(alloc)?;
-    let mut spare = Spare::new(alloc);
-    let mut outside = MemoryOutside::new(1, 16, 0);
-    let mut done = 0usize;
+    let mut around = Around {
+        kept: Arc::new(alloc, Mutex::new(Vec::new(alloc)))?,
+        roster: Roster::made(alloc)?,
+        spare: Spare::new(alloc),
+        outside: MemoryOutside::new(1, 16, 0),
+    };
+    for _ in 0..BLOCKS {
+        let call = time_block(rt, alloc, &mut around, taker, false)?;
+        let turn = time_block(rt, alloc, &mut around, taker, true)?;
+        least = Times {
+            call: less(least.call, call),
+            turn: less(least.turn, turn),
+        };
+    }
+    Ok(least)
+}
+
+/// The lesser of two times; 0 is none yet.
+fn less(least: u128, time: u128) -> u128 {
+    if least == 0 { time } else { least.min(time) }
+}
+
+/// What stands around turns.
+#[derive(Drop)]
+struct Around {
+    kept: Arc<Mutex<Vec<Datagram>>>,
+    roster: Roster,
+    spare: Spare,
+    outside: MemoryOutside,
+}
+
+/// Nanoseconds of a datagram, by so many turns or calls.
+fn time_block<R: Wait + Clock, T: Taker>(
+    rt: &R,
+    alloc: Global,
+    around: &mut Around,
+    taker: &mut T,
+    is_turn: bool,
+) -> io::Result<u128> {
+    let start = Instant::now(rt)?;
+    let mut answered = 0usize;
     for _ in 0..TURNS {
         let coming = coming(alloc)?;
-        let answered = if is_turn {
-            by_turn(
-                rt,
-                alloc,
-                &mut spare,
-                coming,
-                &kept,
-                &roster,
-                taker,
-                &mut outside,
-            )?
+        let more = if is_turn {
+            by_turn(rt, alloc, coming, around, taker)?
         } else {
-            by_calls(rt, alloc, coming, &kept, taker)?
+            by_calls(rt, alloc, coming, &around.kept, taker)?
         };
-        done = done.wrapping_add(answered);
-        kept.lock(rt).clear();
+        answered = answered.wrapping_add(more);
+        around.kept.lock(rt).clear();
     }
-    Ok(done)
+    let nanos = start.elapsed(rt)?.as_nanos();
+    Ok(nanos / (answered as u128).max(1))
 }
 
 /// The edit by which every query is refused.
@@ -148,18 +179,23 @@ fn coming(alloc: Global) -> Result<VecDeque<Datagram>, AllocError> {
 fn by_turn<R: Wait, T: Taker>(
     rt: &R,
     alloc: Global,
-    spare: &mut Spare,
     coming: VecDeque<Datagram>,
-    kept: &Arc<Mutex<Vec<Datagram>>>,
-    roster: &Roster,
+    around: &mut Around,
     taker: &mut T,
-    outside: &mut MemoryOutside,
 ) -> Result<usize, AllocError> {
-    let kept = Arc::try_clone(kept)?;
+    let kept = Arc::try_clone(&around.kept)?;
     let mut sockets = MemoryDatagrams::new(rt, alloc, 1, coming, kept, Failing::default());
-    let report = datagram_turn(alloc, spare, &mut sockets, roster, taker, &Open, outside)?;
+    let report = datagram_turn(
+        alloc,
+        &mut around.spare,
+        &mut sockets,
+        &around.roster,
+        taker,
+        &Open,
+        &mut around.outside,
+    )?;
     let answered = report.lines.len();
-    spare.take_back(report.lines);
+    around.spare.take_back(report.lines);
     Ok(answered)
 }
 
