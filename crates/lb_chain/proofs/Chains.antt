@@ -6,10 +6,10 @@ use Rattle.std.proofs.lemmas.Bool.Decides.{nat_tests}
 use Rattle.std.proofs.lemmas.Option.{get_or_from_slice_get}
 use Rattle.std.proofs.lemmas.List.{map-append}
 use Rattle.std.proofs.lemmas.List.Edits.{length-insert, length-remove}
-use Rattle.std.proofs.lemmas.List.Elements.{All-nil, All-cons, All-head, All-tail, All-get_or, All-weaker, length_all_zip}
+use Rattle.std.proofs.lemmas.List.Elements.{All-nil, All-cons, All-head, All-map, All-tail, All-get_or, All-weaker, length_all_zip}
 use Rattle.std.proofs.lemmas.List.Sums.{sum_by-cons, sum_by-insert, sum_by-remove, get_or-le-sum_by}
 use Rattle.lb_wire.specs.declared.ids.RuleId.{RuleId}
-use Rattle.lb_limits.specs.Window.{Limits}
+use Rattle.lb_limits.specs.Window.{ArePasses, Limits, limits_of}
 use Rattle.lb_terms.specs.Truth.{limiters_of}
 use Rattle.lb_terms.specs.Limiters.{new_limiters, limiters_each}
 use Rattle.lb_terms.specs.Selector.{Selector, All as Every, Suffix, Masks, Qtype, And, Or, Not, MaxQps, Selectors, end, more}
@@ -17,7 +17,7 @@ use Rattle.lb_chain.specs.Listed.{as_new}
 use Rattle.lb_chain.specs.declared.rule.Rule.{Rule}
 use Rattle.lb_chain.specs.declared.numbered.Numbered.{Numbered}
 use Rattle.lb_chain.specs.Edits.{limiters_in, numbered_of, put_again}
-use Rattle.lb_chain.specs.Chain.{IsChainRule, IsChain, with_id}
+use Rattle.lb_chain.specs.Chain.{HasPasses, IsChainRule, IsChain, with_id}
 use Rattle.lb_chain.proofs.Sums.{all_insert, all_remove, sum_moved, limiters_at, limiters_sum}
 
 -- the limiters that are made for a term have its rates
@@ -36,6 +36,17 @@ mutual
   own_each end = refl
   own_each (more member members) =
       map-append as_new (new_limiters member) (limiters_each members) ∙ ap (λ (ls : List Limits). ls ++ map as_new (limiters_each members)) (own_new member) ∙ ap (λ (ls : List Limits). new_limiters member ++ ls) (own_each members)
+
+-- they have no passes
+none_are : (qps v4 v6 : ℕ) → ArePasses (limits_of qps v4 v6)
+none_are qps v4 v6 = record {
+  order = λ k d low lt. absurd (omega arith);
+  count = λ k d lt. absurd (omega arith);
+  rate = λ key. omega arith;
+}
+
+new_are : (term : Selector) → All ArePasses (new_limiters term)
+new_are term = subst (All ArePasses) (own_new term) (All-map ArePasses as_new (new_limiters term) (λ k d lt. none_are _ _ _))
 
 -- one where the rule has the number
 abbrev pub has_id : ℕ → Numbered → ℕ
@@ -112,6 +123,7 @@ later moment now le n kept = record {
   own = kept.own;
   limiters = kept.limiters;
   moments = All-weaker (λ (l : Limits). l.moment ≤ moment) (λ (l : Limits). l.moment ≤ now) (λ l h. omega arith) n.limits kept.moments;
+  passes = kept.passes;
 }
 
 -- time goes on
@@ -125,13 +137,14 @@ kept_later last moment now limiters rules le chain = record {
   short = chain.short;
 }
 
--- a rule as before: it has its number and its limiters, and none of them is ahead of now
+-- a rule as before: it has its number and its limiters, none of them is ahead of now, and their passes are as they have to be
 pub record IsLike (now : ℕ) (a b : Numbered) : Type 0 where
   pub id : b.id ≡ a.id
   pub rule : b.rule ≡ a.rule
   pub limiters : length b.limits ≡ length a.limits
   pub rates : map as_new b.limits ≡ map as_new a.limits
   pub moments : All (λ l. l.moment ≤ now) b.limits
+  pub passes : HasPasses b
 
 like_each : (moment now : ℕ) (old new : List Numbered) → All (IsChainRule moment) old → AllZip (IsLike now) old new → All (IsChainRule now) new
 like_each moment now [] [] each zip = All-nil (IsChainRule now)
@@ -142,6 +155,7 @@ like_each moment now (a ∷ old) (b ∷ new) each zip =
       own = zip.0.rates ∙ kept.own ∙ ap (λ (rule : Rule). new_limiters rule.term) (sym zip.0.rule);
       limiters = zip.0.limiters ∙ kept.limiters ∙ ap (λ (rule : Rule). limiters_of rule.term) (sym zip.0.rule);
       moments = zip.0.moments;
+      passes = zip.0.passes;
     } in
     All-cons (IsChainRule now) b new here (like_each moment now old new (All-tail (IsChainRule moment) a old each) zip.1)
 like_each moment now [] (b ∷ new) each zip = absurd zip
@@ -186,6 +200,10 @@ pub past_of : (last moment now limiters : ℕ) (rules : List Numbered) → momen
 past_of last moment now limiters rules le chain =
     All-weaker (IsChainRule now) (ArePast now) (λ n kept. kept.moments) rules (kept_later last moment now limiters rules le chain).each
 
+-- the passes of each rule
+pub passes_of_each : (last moment limiters : ℕ) (rules : List Numbered) → IsChain last moment limiters rules → All HasPasses rules
+passes_of_each last moment limiters rules chain = All-weaker (IsChainRule moment) HasPasses (λ n kept. kept.passes) rules chain.each
+
 -- a rule is added, with new limiters
 pub kept_inserted : (last moment limiters count place : ℕ) (rules new : List Numbered) (rule : Rule) → IsChain last moment limiters rules → place ≤ length rules → length rules < 4096 → limiters + count ≤ 16 → count ≡ limiters_of rule.term → length (new_limiters rule.term) ≡ limiters_of rule.term → All (λ l. l.moment ≡ 0) (new_limiters rule.term) → new ≡ insert rules place (numbered_of (last + 1) rule) → IsChain (last + 1) moment (limiters + count) new
 kept_inserted last moment limiters count place rules new rule chain at short few number made fresh is =
@@ -193,6 +211,6 @@ kept_inserted last moment limiters count place rules new rule chain at short few
     let sum : limiters + length n.limits ≡ limiters + count = omega arith in
     let past : All (λ l. l.moment ≤ moment) (new_limiters rule.term) =
     All-weaker (λ (l : Limits). l.moment ≡ 0) (λ (l : Limits). l.moment ≤ moment) (λ l zero. omega arith) (new_limiters rule.term) fresh in
-    let kept : IsChainRule moment n = record { number = omega arith; own = own_new rule.term; limiters = made; moments = past } in
+    let kept : IsChainRule moment n = record { number = omega arith; own = own_new rule.term; limiters = made; moments = past; passes = new_are rule.term } in
     let whole : IsChain (last + 1) moment (limiters + length n.limits) (insert rules place n) = kept_added last moment limiters rules place n chain at short (omega arith) refl kept in
     subst (IsChain (last + 1) moment (limiters + count)) (sym is) (subst (λ (k : ℕ). IsChain (last + 1) moment k (insert rules place n)) sum whole)

@@ -8,6 +8,7 @@ use Rattle.lb_wire.specs.declared.ids.RuleId.{RuleId}
 use Rattle.lb_limits.specs.Window.{Limits}
 use Rattle.lb_chain.specs.declared.walked.Passed.{Passed}
 use Rattle.lb_chain.specs.declared.numbered.Numbered.{Numbered}
+use Rattle.lb_chain.specs.Chain.{HasPasses}
 use Rattle.lb_chain.specs.Listed.{as_new}
 use Rattle.lb_chain.proofs.Chains.{IsLike, ArePast}
 use Rattle.lb_chain.specs.Counting.{has_pass, changed_limits, changed_rule, changed_rules}
@@ -99,17 +100,18 @@ changed_rates change passes rule at (x ∷ xs) same =
     ap (λ (l : Limits). l ∷ map as_new (changed_limits change passes rule (at + 1) xs)) here ∙ ap (λ (ls : List Limits). as_new x ∷ ls) (changed_rates change passes rule (at + 1) xs same)
 
 -- rules whose limiters change stay as they are but for those
-pub changed_like : (change : Limits → Limits) (passes : List Passed) (now : ℕ) (xs : List Numbered) → ((l : Limits) → (change l).moment ≤ now) → ((l : Limits) → as_new (change l) ≡ as_new l) → All (λ n. All (λ l. l.moment ≤ now) n.limits) xs → AllZip (IsLike now) xs (changed_rules change passes xs)
-changed_like change passes now [] new same past = tt
-changed_like change passes now (n ∷ xs) new same past =
+pub changed_like : (change : Limits → Limits) (passes : List Passed) (now : ℕ) (xs : List Numbered) → ((l : Limits) → (change l).moment ≤ now) → ((l : Limits) → as_new (change l) ≡ as_new l) → All (λ n. All (λ l. l.moment ≤ now) n.limits) xs → All HasPasses (changed_rules change passes xs) → AllZip (IsLike now) xs (changed_rules change passes xs)
+changed_like change passes now [] new same past are = tt
+changed_like change passes now (n ∷ xs) new same past are =
     let here : IsLike now n (changed_rule change passes n) = record {
       id = refl;
       rule = refl;
       limiters = length-changed change passes n.id 0 n.limits;
       rates = changed_rates change passes n.id 0 n.limits same;
       moments = changed_past change passes n.id now 0 n.limits new (All-head (ArePast now) n xs past);
+      passes = All-head HasPasses (changed_rule change passes n) (changed_rules change passes xs) are;
     } in
-    (here, changed_like change passes now xs new same (All-tail (ArePast now) n xs past))
+    (here, changed_like change passes now xs new same (All-tail (ArePast now) n xs past) (All-tail HasPasses (changed_rule change passes n) (changed_rules change passes xs) are))
 
 -- the next limiter is changed in its place
 pub limits_next : (change : Limits → Limits) (passes : List Passed) (rule : RuleId) (xs ys : List Limits) (i : ℕ) (wanted : Bool) (x y : Limits) → i < length xs → ys ≡ limits_so_far change passes rule i xs → y ≡ get_or ys i y → wanted ≡ has_pass passes rule i → x ≡ (if wanted then change y else y) → set ys i x ≡ limits_so_far change passes rule (i + 1) xs

@@ -3,14 +3,15 @@ use Rattle.std.proofs.Common.{◌≡◌, ℕ, ◌+◌, ◌<◌, ◌≤◌, ◌==
 use Rattle.std.specs.List.{All, sum_by}
 use Rattle.std.proofs.lemmas.Bool.{cases_lt}
 use Rattle.std.proofs.lemmas.List.{length-map}
-use Rattle.std.proofs.lemmas.List.Elements.{All-cons, All-head, All-nil, All-tail}
+use Rattle.std.proofs.lemmas.List.Elements.{All-cons, All-head, All-map, All-nil, All-tail, All-weaker}
 use Rattle.std.proofs.lemmas.List.Sums.{get_or-le-sum_by, sum_by-cons}
-use Rattle.lb_limits.specs.Window.{Limits}
+use Rattle.lb_limits.specs.Laws.{RecentArePasses}
+use Rattle.lb_limits.specs.Window.{ArePasses, Limits}
 use Rattle.lb_chain.specs.declared.numbered.Numbered.{Numbered}
-use Rattle.lb_chain.specs.Chain.{AreRules, IsChain, SeenAreRules, with_id}
+use Rattle.lb_chain.specs.Chain.{AreRules, HasPasses, IsChain, SeenAreRules, with_id}
 use Rattle.lb_chain.specs.Edits.{Rules, limiters_in}
 use Rattle.lb_chain.specs.Seen.{seen_limits, seen_rule, seen_rules}
-use Rattle.lb_chain.proofs.Chains.{has_id}
+use Rattle.lb_chain.proofs.Chains.{has_id, passes_of_each}
 
 -- a rule that is there has a number that was given
 given_at : (last moment limiters : ℕ) (rules : List Numbered) → IsChain last moment limiters rules → (k : ℕ) (d : Numbered) → k < length rules → (get_or rules k d).id.0 < last + 1
@@ -28,6 +29,7 @@ are_rules last moment limiters rules chain = record {
   once = chain.once;
   few = chain.short;
   limiters = omega (arith, chain.count, chain.few);
+  passes = passes_of_each last moment limiters rules chain;
 }
 
 -- a rule that is seen has its number, and as many limiters
@@ -45,10 +47,15 @@ seen_limiters : (moment : ℕ) (rules : List Numbered) → limiters_in (seen_rul
 seen_limiters moment [] = refl
 seen_limiters moment (n ∷ rules) = omega (arith, length-map n.limits (seen_limits moment), seen_limiters moment rules)
 
-pub seen_are : SeenAreRules
-seen_are moment chain are = record {
+seen_passes : RecentArePasses → (moment : ℕ) (n : Numbered) → HasPasses n → HasPasses (seen_rule moment n)
+seen_passes recent moment n are =
+    All-map ArePasses (seen_limits moment) n.limits (All-weaker ArePasses (λ (l : Limits). ArePasses (seen_limits moment l)) (λ l own. recent moment l [] own) n.limits are)
+
+pub seen_are : RecentArePasses → SeenAreRules
+seen_are recent moment chain are = record {
   given = seen_given chain.next moment chain.rules are.given;
   once = λ id. omega (arith, seen_once moment id chain.rules, are.once id);
   few = omega (arith, length-map chain.rules (seen_rule moment), are.few);
   limiters = omega (arith, seen_limiters moment chain.rules, are.limiters);
+  passes = All-map HasPasses (seen_rule moment) chain.rules (All-weaker HasPasses (λ (n : Numbered). HasPasses (seen_rule moment n)) (seen_passes recent moment) chain.rules are.passes);
 }

@@ -1,15 +1,16 @@
 -- Rules of which some limiters are reserved: nothing that is seen has changed.
-use Rattle.std.proofs.Common.{◌≡◌, Bool, true, false, ℕ, zero, suc, ◌+◌, ◌<◌, ◌≤◌, List, [], ◌∷◌, length, get_or, set, map, refl, ap, subst, ◌∙◌, arith, if◌then◌else◌}
+use Rattle.std.proofs.Common.{◌≡◌, Bool, true, false, ℕ, zero, suc, ◌+◌, ◌<◌, ◌≤◌, List, [], ◌∷◌, length, get_or, set, map, refl, sym, ap, subst, ◌∙◌, arith, if◌then◌else◌}
 use Rattle.std.specs.List.{All, AllZip}
 use Rattle.std.proofs.lemmas.List.Elements.{All-nil, All-cons, All-head, All-tail}
 use Rattle.lb_wire.specs.declared.addr.Addr.{Addr}
 use Rattle.lb_wire.specs.declared.ids.RuleId.{RuleId}
-use Rattle.lb_limits.specs.Window.{Limits, reserved_at}
+use Rattle.lb_limits.specs.Window.{ArePasses, Limits, put_key, reserved_at, source_of}
 use Rattle.lb_limits.specs.declared.pass.Pass.{Pass}
-use Rattle.lb_limits.specs.Laws.{RecentTwice}
+use Rattle.lb_limits.specs.Laws.{RecentArePasses, RecentTwice}
 use Rattle.lb_chain.specs.declared.rule.Rule.{Rule}
 use Rattle.lb_chain.specs.declared.walked.Passed.{Passed}
 use Rattle.lb_chain.specs.declared.numbered.Numbered.{Numbered}
+use Rattle.lb_chain.specs.Chain.{HasPasses}
 use Rattle.lb_chain.specs.Counting.{has_pass, SomeReserved, PartlyReserved}
 use Rattle.lb_chain.specs.Listed.{as_new}
 use Rattle.lb_chain.specs.Seen.{seen_limits, seen_rule, seen_rules}
@@ -80,20 +81,34 @@ some_past passes addr now rule at (l ∷ old) (m ∷ new) past some =
     All-cons (IsPast now) m new (taken_past addr now some.0 l m some.2 (All-head (IsPast now) l old past))
     (some_past passes addr now rule (at + 1) old new (All-tail (IsPast now) l old past) some.3)
 
+-- what the passes of a limiter keep true, they keep true where room is taken
+taken_are : RecentArePasses → (addr : Addr) (now : ℕ) (taken : Bool) (l m : Limits) → m ≡ (if taken then reserved_at l addr now else l) → ArePasses l → ArePasses m
+taken_are recent addr now true l m is are = subst ArePasses (sym is) (recent now l (put_key (source_of l addr) l.reserved) are)
+taken_are recent addr now false l m is are = subst ArePasses (sym is) are
+
+some_are : RecentArePasses → (passes : List Passed) (addr : Addr) (now : ℕ) (rule : RuleId) (at : ℕ) (old new : List Limits) → All ArePasses old → SomeReserved passes addr now rule at old new → All ArePasses new
+some_are recent passes addr now rule at [] [] are some = All-nil ArePasses
+some_are recent passes addr now rule at [] (m ∷ new) are some = absurd some
+some_are recent passes addr now rule at (l ∷ old) [] are some = absurd some
+some_are recent passes addr now rule at (l ∷ old) (m ∷ new) are some =
+    All-cons ArePasses m new (taken_are recent addr now some.0 l m some.2 (All-head ArePasses l old are))
+    (some_are recent passes addr now rule (at + 1) old new (All-tail ArePasses l old are) some.3)
+
 -- each rule is as before
-pub partly_like : (passes : List Passed) (addr : Addr) (now : ℕ) (old new : List Numbered) → All (λ n. All (λ l. l.moment ≤ now) n.limits) old → PartlyReserved passes addr now old new → AllZip (IsLike now) old new
-partly_like passes addr now [] [] past partly = tt
-partly_like passes addr now [] (b ∷ new) past partly = absurd partly
-partly_like passes addr now (a ∷ old) [] past partly = absurd partly
-partly_like passes addr now (a ∷ old) (b ∷ new) past partly =
+pub partly_like : RecentArePasses → (passes : List Passed) (addr : Addr) (now : ℕ) (old new : List Numbered) → All (λ n. All (λ l. l.moment ≤ now) n.limits) old → All HasPasses old → PartlyReserved passes addr now old new → AllZip (IsLike now) old new
+partly_like recent passes addr now [] [] past are partly = tt
+partly_like recent passes addr now [] (b ∷ new) past are partly = absurd partly
+partly_like recent passes addr now (a ∷ old) [] past are partly = absurd partly
+partly_like recent passes addr now (a ∷ old) (b ∷ new) past are partly =
     let here : IsLike now a b = record {
       id = partly.0;
       rule = partly.1;
       limiters = some_length passes addr now a.id 0 a.limits b.limits partly.2;
       rates = some_rates passes addr now a.id 0 a.limits b.limits partly.2;
       moments = some_past passes addr now a.id 0 a.limits b.limits (All-head (ArePast now) a old past) partly.2;
+      passes = some_are recent passes addr now a.id 0 a.limits b.limits (All-head HasPasses a old are) partly.2;
     } in
-    (here, partly_like passes addr now old new (All-tail (ArePast now) a old past) partly.3)
+    (here, partly_like recent passes addr now old new (All-tail (ArePast now) a old past) (All-tail HasPasses a old are) partly.3)
 
 pub same_seen : (now : ℕ) (a b : Numbered) → b.id ≡ a.id → b.rule ≡ a.rule → map (seen_limits now) b.limits ≡ map (seen_limits now) a.limits → seen_rule now b ≡ seen_rule now a
 same_seen now a b id rule limits =

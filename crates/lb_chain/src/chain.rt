@@ -20,7 +20,9 @@ use crate::places::Places;
 use crate::rule::Rule;
 use crate::walk::walk_rules;
 use crate::walked::Walked;
-use lb_limits::{put_is_there, recent_twice, reserving_keeps_matches};
+use lb_limits::{
+    passed_are_passes, put_is_there, recent_are_passes, recent_twice, reserving_keeps_matches,
+};
 use lb_terms::{MAX_LIMITERS, limiter_count};
 use lb_wire::{Addr, Kind, QueryView, RuleId};
 use std::alloc::{AllocError, Global};
@@ -110,7 +112,8 @@ impl Chain {
     }
 
     /// A law: the rules stand in the order in which they are tested; each has a number from 1 on and below the next, no number is
-    /// there twice, and there are at most 4,096 rules with at most 16 limiters. It does nothing.
+    /// there twice, and there are at most 4,096 rules with at most 16 limiters; the passes of each limiter stand in its order
+    /// (`Limiter::law_of_list`), and no source has more of them than the rate. It does nothing.
     pub fn law_of_list(&self)
         ensures { AreRules self.now }
     {
@@ -215,6 +218,7 @@ impl Chain {
     {
         // Laws, which do nothing.
         recent_twice();
+        recent_are_passes();
         put_is_there();
         reserving_keeps_matches();
         self.moment = now;
@@ -233,8 +237,9 @@ impl Chain {
         // what is seen is what is counted
         ensures seen { seen_rules now self.new.rules ≡ counted walked.now.passes addr.now now (seen_rules now self.old.rules) }
     {
-        // A law, which does nothing.
+        // Laws, which do nothing.
         recent_twice();
+        passed_are_passes();
         self.moment = now;
         let passes = walked.passes.as_slice();
         if !passes.is_empty() {

@@ -8,7 +8,7 @@ ghost use Rattle.lb_chain.specs.Walk.{AllowedWhereNoneEnds, FirstToEndDecides, N
 ghost use Rattle.lb_chain.specs.contracts.chain.Chain as chain;
 ghost use Rattle.lb_chain.specs.contracts.listed.Listed as listed;
 
-use lb_limits::recent_twice;
+use lb_limits::{recent_are_passes, recent_twice};
 use lb_terms::terms_cross_threads;
 
 /// Passes that no longer count at a moment have no part in a walk then or later; nor has what is reserved.
@@ -40,7 +40,10 @@ pub fn seen_have_own_limiters()
 /// What the list of a chain keeps true, it keeps true as it is seen at a moment.
 pub fn seen_are_rules()
     ensures { SeenAreRules }
-{}
+{
+    // A law, which does nothing.
+    recent_are_passes();
+}
 
 /// The first rule of the list that holds and ends the walk decides; where there is none, the query is allowed.
 pub fn first_to_end_decides()

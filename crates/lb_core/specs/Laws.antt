@@ -82,7 +82,8 @@ pub record AreMarked (plain : Plain) : Type 0 where
   pub checks : IsChecked plain.servers plain.checks
 
 -- what the lists of each balancer keep true: the rules have numbers from 1 on and below the next, no number twice, and there are at
--- most 4,096 with at most 16 limiters, whose passes are later than 1,000 milliseconds before the moment; servers and health checks
+-- most 4,096 with at most 16 limiters; the passes of each limiter are by source, IPv4 first and then by octets, and then by moment, no
+-- source has more of them than the rate, and each is later than 1,000 milliseconds before the moment; servers and health checks
 -- are as above; no two servers have one name, there are at most 256, each in 1 to 8 pools that are there, in each once; the first
 -- pool is the default pool, no two have one name or one cache, there are at most 64; each attached cache has a number below the next; the outstanding queries are by deadline, those of one deadline in the
 -- order in which they were sent, no two at one server, lane and ID; and the caches are by number, the kept replies by cache and

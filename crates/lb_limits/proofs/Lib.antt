@@ -15,3 +15,4 @@ pub mod Matches
 pub mod Added
 pub mod Limiters
 pub mod Listed
+pub mod ArePasses

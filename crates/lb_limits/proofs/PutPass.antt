@@ -24,7 +24,7 @@ use Rattle.lb_limits.proofs.PutKey.{same_decides}
 use Rattle.lb_limits.proofs.Pairs.{pairs_head, pairs_tail, pairs_append, pairs_map, pairs_rise}
 
 -- the place of a pass is the first of those that it stands before, or the end
-place_is : {X : Type 0} (p : X → Bool) (xs : List X) → unwrap_or (position p xs) (length xs) ≡ position_or_len p xs
+pub place_is : {X : Type 0} (p : X → Bool) (xs : List X) → unwrap_or (position p xs) (length xs) ≡ position_or_len p xs
 place_is p xs = elim (cases_lt (position_or_len p xs) (length xs)) [
   | inl there ↦
       let test : ltb (position_or_len p xs) (length xs) ≡ true = grind (arith, nat_tests) in

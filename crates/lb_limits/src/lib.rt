@@ -13,6 +13,8 @@ mod pass;
 mod reserved;
 mod ticks;
 
-pub use laws::{put_is_there, recent_twice, reserving_keeps_matches};
+pub use laws::{
+    passed_are_passes, put_is_there, recent_are_passes, recent_twice, reserving_keeps_matches,
+};
 pub use limiter::Limiter;
 pub use pass::Pass;

@@ -1,8 +1,9 @@
-use Rattle.std.proofs.Common.{◌≡◌, ◌+◌, ◌≤◌, List, [], ap, ◌∙◌, arith}
+use Rattle.std.proofs.Common.{◌≡◌, ◌+◌, ◌≤◌, List, [], sym, ap, subst, ◌∙◌, arith}
 use Rattle.lb_chain.specs.Edits.{Rules}
-use Rattle.lb_chain.specs.Counting.{counted, passed_rules}
+use Rattle.lb_chain.specs.Counting.{counted, passed_rules, RulesReady}
 use Rattle.lb_chain.specs.Seen.{seen_rules}
 use Rattle.lb_chain.specs.declared.walked.Passed.{Passed}
+use Rattle.lb_chain.proofs.Chains.{kept_later}
 use Rattle.lb_chain.proofs.Counted.{found_empty, kept_counted, passed_idle, seen_idle, seen_passed}
 use Rattle.lb_chain.proofs.chain.Chain.pass.Goals as goal
 
@@ -10,7 +11,16 @@ pub invariant_of-self : goal.invariant_of-self
 invariant_of-self c =
     let same = ap (λ (chain : Rules). chain.moment) c.self.view_is in
     let le : c.self.inside.moment ≤ c.args.now = omega (arith, same, c.requires.moment) in
-    kept_counted c.self.inside.last_rule c.self.inside.moment c.args.now c.self.inside.limiters c.self.inside.places c.as_slice-passes.result.now c.args.addr.now c.self.inside.rules.items c.pass_rules.new.rules.items le c.self.invariant c.pass_rules.ensures
+    let ready : RulesReady c.as_slice-passes.result.now c.args.addr.now c.args.now c.self.inside.rules.items =
+    subst (λ (passes : List Passed). RulesReady passes c.args.addr.now c.args.now c.self.inside.rules.items) (sym c.as_slice-passes.ensures)
+    (subst (λ (chain : Rules). RulesReady c.args.walked.now.passes c.args.addr.now c.args.now chain.rules) (sym c.self.view_is) c.requires.ready) in
+    kept_counted c.passed_are_passes.ensures c.self.inside.last_rule c.self.inside.moment c.args.now c.self.inside.limiters c.self.inside.places c.as_slice-passes.result.now c.args.addr.now c.self.inside.rules.items c.pass_rules.new.rules.items le c.self.invariant ready c.pass_rules.ensures
+
+pub invariant_of-self-else-not-is_empty : goal.invariant_of-self-else-not-is_empty
+invariant_of-self-else-not-is_empty c =
+    let same = ap (λ (chain : Rules). chain.moment) c.self.view_is in
+    let le : c.self.inside.moment ≤ c.args.now = omega (arith, same, c.requires.moment) in
+    (kept_later c.self.inside.last_rule c.self.inside.moment c.args.now c.self.inside.limiters c.self.inside.rules.items le c.self.invariant.0, c.self.invariant.1)
 
 pub returns-then-not-is_empty-clause-seen : goal.returns-then-not-is_empty-clause-seen
 returns-then-not-is_empty-clause-seen c =

@@ -6,6 +6,7 @@ use Rattle.lb_chain.specs.Seen.{seen_rules}
 use Rattle.lb_chain.specs.Walk.{walk_of}
 use Rattle.lb_chain.specs.declared.walked.Passed.{Passed}
 use Rattle.lb_chain.specs.declared.walked.Walked.{Walked}
+use Rattle.lb_chain.proofs.Chains.{kept_later}
 use Rattle.lb_chain.proofs.Counted.{found_empty, kept_reserved, ready_reserved, reserved_idle}
 use Rattle.lb_chain.proofs.PartlyReserved.{partly_seen}
 use Rattle.lb_chain.proofs.RulesReady.{ready_idle}
@@ -22,11 +23,17 @@ returns-then-is_empty-clause-ready c =
     let empty : c.args.walked.now.passes ≡ [] = found_empty c.as_slice-passes.result.now c.args.walked.now.passes c.as_slice-passes.ensures c.if-is_empty.ensures in
     ready_idle c.args.walked.now.passes c.args.addr.now c.args.now c.self.inside.rules.items empty
 
+pub invariant_of-self : goal.invariant_of-self
+invariant_of-self c =
+    let same = ap (λ (chain : Rules). chain.moment) c.self.view_is in
+    let le : c.self.inside.moment ≤ c.args.now = omega (arith, same, c.requires.moment) in
+    (kept_later c.self.inside.last_rule c.self.inside.moment c.args.now c.self.inside.limiters c.self.inside.rules.items le c.self.invariant.0, c.self.invariant.1)
+
 pub invariant_of-self-2 : goal.invariant_of-self-2
 invariant_of-self-2 c =
     let same = ap (λ (chain : Rules). chain.moment) c.self.view_is in
     let le : c.self.inside.moment ≤ c.args.now = omega (arith, same, c.requires.moment) in
-    kept_reserved c.self.inside.last_rule c.self.inside.moment c.args.now c.self.inside.limiters c.self.inside.places c.as_slice-passes.result.now c.args.addr.now c.self.inside.rules.items c.reserve_rules.new.rules.items le c.self.invariant c.reserve_rules.ensures.partly
+    kept_reserved c.recent_are_passes.ensures c.self.inside.last_rule c.self.inside.moment c.args.now c.self.inside.limiters c.self.inside.places c.as_slice-passes.result.now c.args.addr.now c.self.inside.rules.items c.reserve_rules.new.rules.items le c.self.invariant c.reserve_rules.ensures.partly
 
 pub returns-clause-ready : goal.returns-clause-ready
 returns-clause-ready c =
