@@ -1,19 +1,13 @@
 //! Messages of a stream: taken out of its octets, and put into them.
 
-ghost use Rattle.std.specs.Prelude.{[], IfNone, IfOk, IfSome, OnErr, length, drop, take, ◌++◌, ◌+◌, ◌<◌, ◌^◌, ◌≡◌, ◌≤◌};
-ghost use Rattle.lb_wire.specs.BigEndian.{two_octets};
-ghost use Rattle.lb_frames.specs.Frames.{Divides, NoneWhole, framed};
+ghost use Rattle.std.specs.Prelude.{[], IfOk, OnErr, length, drop, take, ◌++◌, ◌≡◌, ◌≤◌};
+ghost use Rattle.lb_frames.specs.Frames.{Divides, framed};
 ghost use Rattle.lb_wire.specs.Octets.{max_message};
 
+use crate::message::{LENGTH, Message, message_end};
 use lb_wire::Octets;
 use std::alloc::{AllocError, Global};
 use std::marker::Model;
-
-/// A message of a stream, without its length.
-pub type Message = Octets;
-
-/// How many octets tell a message's length.
-const LENGTH: usize = 2;
 
 /// What stands in a stream behind its last whole message. A contract sees the octets. It holds what came and no room for what is
 /// announced.
@@ -101,32 +95,6 @@ fn divided(alloc: Global, bytes: &[u8]) -> Result<(Vec<Message>, usize), AllocEr
         messages.push(Octets::from_vec(Vec::from_slice(alloc, message)?))?;
         at = end;
     }
-}
-
-/// Where the whole message ends whose length begins at a place; None where no whole one is there.
-#[tactic(auto, using(crate::proofs::Parts::none_short, crate::proofs::Parts::none_cut, crate::proofs::Parts::whole_there, crate::proofs::Parts::length_between))]
-fn message_end(bytes: &[u8], at: usize) -> Option<usize>
-    requires { at ≤ length bytes.now }
-    ensures within { IfSome result (λ end. (at + 2 ≤ end) × (end ≤ length bytes.now)) }
-    ensures whole { IfSome result (λ end. (length (drop (at + 2) (take end bytes.now)) < 2 ^ 16) × (drop at bytes.now ≡ framed (drop (at + 2) (take end bytes.now)) ++ drop end bytes.now)) }
-    ensures none { IfNone result (NoneWhole (drop at bytes.now)) }
-{
-    if bytes.len() - at < LENGTH {
-        return None;
-    }
-    let len = usize::from(length_at(bytes, at));
-    if bytes.len() - at - LENGTH < len {
-        return None;
-    }
-    Some(at + LENGTH + len)
-}
-
-/// The length that stands at a place.
-fn length_at(bytes: &[u8], at: usize) -> u16
-    requires { at + 2 ≤ length bytes.now }
-    ensures { drop at bytes.now ≡ two_octets result ++ drop (at + 2) bytes.now }
-{
-    u16::from_be_bytes([bytes[at], bytes[at + 1]])
 }
 
 /// A message of at most 65,535 octets after its length in two octets (RFC 7766 section 8). The one error is want of memory.

@@ -1,10 +1,15 @@
 //! Octets that wait to be written.
 
 ghost use Rattle.std.specs.Prelude.{[], OnErr, OnOk, drop, length, ◌++◌, ◌≡◌, ◌≤◌};
+ghost use Rattle.lb_frames.specs.Frames.{framed};
+ghost use Rattle.lb_wire.specs.Octets.{max_message};
 
 use bytes::BytesMut;
 use std::alloc::{AllocError, Global};
 use std::marker::Model;
+
+/// How many octets tell a message's length.
+const LENGTH: usize = 2;
 
 /// Octets that wait to be written to a stream. A contract sees them. What was written is dropped without moving the rest.
 #[derive(Drop)]
@@ -50,6 +55,19 @@ impl Outgoing {
         ensures same { OnErr result (self.new ≡ self.old) }
     {
         self.octets.extend_from_slice(octets)
+    }
+
+    /// Puts a message of at most 65,535 octets behind the others, after its length (RFC 7766 section 8). The one error is want of memory, and then
+    /// nothing has changed.
+    pub fn push_framed(&mut self, message: &[u8]) -> Result<(), AllocError>
+        requires { length message.now ≤ max_message }
+        ensures pushed { OnOk result (self.new ≡ self.old ++ framed message.now) }
+        ensures same { OnErr result (self.new ≡ self.old) }
+    {
+        let len = message.len() as u16;
+        self.octets.reserve(LENGTH + message.len())?;
+        self.octets.extend_from_slice(&len.to_be_bytes())?;
+        self.octets.extend_from_slice(message)
     }
 
     /// Takes octets that were written off the front.

@@ -1,7 +1,8 @@
 -- What a call of sockets does to what they gave and took.
-use Rattle.std.specs.Prelude.{◌≡◌, ℕ, ◌≤◌, Bool, true, false, List, [], ◌∷◌, ◌++◌, length, take, flat_map, if◌then◌else◌, ◌==◌, Result, Ok, Err}
+use Rattle.std.specs.Prelude.{◌≡◌, ℕ, ◌+◌, ◌≤◌, Bool, true, false, List, [], ◌∷◌, ◌++◌, length, take, flat_map, if◌then◌else◌, ◌==◌, Result, Ok, Err}
 use Rattle.lb_wire.specs.Octets.{max_message}
 use Rattle.lb_lines.specs.Counts.{Fails}
+use Rattle.lb_lines.specs.declared.endpoint.Endpoint.{Endpoint}
 use Rattle.lb_lines.specs.declared.report.Why.{Why}
 use Rattle.lb_lines.specs.declared.report.Why.TheVariants as whys
 use Rattle.lb_lines.specs.declared.traffic.Accepted.{Accepted}
@@ -44,31 +45,58 @@ Piece = ℕ × List ℕ
 abbrev pub octets_of : ℕ → List Piece → List ℕ
 octets_of c = flat_map (λ (piece : Piece). if piece.0 == c then piece.1 else [])
 
--- a read of a stream: what it answers, the connection, what was given before and after, the failures before and after
-abbrev pub GavePiece : {E : Type 0} → Result Read E → ℕ → List Piece → List Piece → ℕ → ℕ → Type 0
-GavePiece (Ok (reads.Piece octets)) c old new before after = (new ≡ old ++ (c, octets) ∷ []) × (after ≡ before)
-GavePiece (Ok reads.Nothing) c old new before after = (new ≡ old) × (after ≡ before)
-GavePiece (Ok reads.Ended) c old new before after = (new ≡ old) × (after ≡ before)
-GavePiece (Ok reads.Failed) c old new before after = (new ≡ old) × Fails before after
-GavePiece (Err refused) c old new before after = (new ≡ old) × (after ≡ before)
+-- a client that came: the place of its listener, and its end
+abbrev pub Client : Type 0
+Client = ℕ × Endpoint
+
+-- what sockets of streams tell: the pieces that they gave and took; the clients that came and the ends that were dialled, each with its
+-- connection's number; the connections whose peer closed its side, and those whose peer takes no more; how many clients were turned
+-- away; how often a device failed
+pub record Traffic : Type 0 where
+  pub given : List Piece
+  pub taken : List Piece
+  pub came : List (ℕ × Client)
+  pub dialed : List (ℕ × Endpoint)
+  pub ended : List ℕ
+  pub gone : List ℕ
+  pub turned : ℕ
+  pub failures : ℕ
+
+-- a device failed, and nothing else is told
+abbrev pub Faulty : Traffic → Traffic → Type 0
+Faulty old new = (n : ℕ) × Fails old.failures n × (new ≡ record old { failures = n })
+
+-- a read of a stream: what it answers, the connection, what was told before and after
+abbrev pub GavePiece : {E : Type 0} → Result Read E → ℕ → Traffic → Traffic → Type 0
+GavePiece (Ok (reads.Piece octets)) c old new = new ≡ record old { given = old.given ++ (c, octets) ∷ [] }
+GavePiece (Ok reads.Nothing) c old new = new ≡ old
+GavePiece (Ok reads.Ended) c old new = new ≡ record old { ended = old.ended ++ c ∷ [] }
+GavePiece (Ok reads.Failed) c old new = Faulty old new
+GavePiece (Err refused) c old new = new ≡ old
 
 -- a write to a stream: how many of the octets were taken
-abbrev pub Took : Result ℕ Why → ℕ → List ℕ → List Piece → List Piece → ℕ → ℕ → Type 0
-Took (Ok n) c octets old new before after = (n ≤ length octets) × (new ≡ old ++ (c, take n octets) ∷ []) × (after ≡ before)
-Took (Err whys.Gone) c octets old new before after = (new ≡ old) × (after ≡ before)
-Took (Err whys.Device) c octets old new before after = (new ≡ old) × Fails before after
-Took (Err _) c octets old new before after = ⊥
+abbrev pub Took : Result ℕ Why → ℕ → List ℕ → Traffic → Traffic → Type 0
+Took (Ok n) c octets old new = (n ≤ length octets) × (new ≡ record old { taken = old.taken ++ (c, take n octets) ∷ [] })
+Took (Err whys.Gone) c octets old new = new ≡ record old { gone = old.gone ++ c ∷ [] }
+Took (Err whys.Device) c octets old new = Faulty old new
+Took (Err _) c octets old new = ⊥
 
 -- a client taken in
-abbrev pub Came : {E : Type 0} → Result Accepted E → ℕ → ℕ → Type 0
-Came (Ok (accepted.Client front peer)) before after = after ≡ before
-Came (Ok accepted.Nothing) before after = after ≡ before
-Came (Ok accepted.Failed) before after = Fails before after
-Came (Err refused) before after = after ≡ before
+abbrev pub Came : {E : Type 0} → Result Accepted E → ℕ → Traffic → Traffic → Type 0
+Came (Ok (accepted.Client front peer)) c old new = new ≡ record old { came = old.came ++ (c, (front, peer)) ∷ [] }
+Came (Ok accepted.Nothing) c old new = new ≡ old
+Came (Ok accepted.Failed) c old new = Faulty old new
+Came (Err refused) c old new = new ≡ old
+
+-- a client taken in and closed at once
+abbrev pub TurnedAway : Accepted → Traffic → Traffic → Type 0
+TurnedAway (accepted.Client front peer) old new = new ≡ record old { turned = old.turned + 1 }
+TurnedAway accepted.Nothing old new = new ≡ old
+TurnedAway accepted.Failed old new = Faulty old new
 
 -- a connection begun
-abbrev pub Dialed : Result (Unit {0}) Why → ℕ → ℕ → Type 0
-Dialed (Ok done) before after = after ≡ before
-Dialed (Err whys.Device) before after = Fails before after
-Dialed (Err whys.NoMemory) before after = after ≡ before
-Dialed (Err _) before after = ⊥
+abbrev pub Dialed : Result (Unit {0}) Why → ℕ → Endpoint → Traffic → Traffic → Type 0
+Dialed (Ok done) c to old new = new ≡ record old { dialed = old.dialed ++ (c, to) ∷ [] }
+Dialed (Err whys.Device) c to old new = Faulty old new
+Dialed (Err whys.NoMemory) c to old new = new ≡ old
+Dialed (Err _) c to old new = ⊥

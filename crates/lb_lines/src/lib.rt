@@ -17,5 +17,5 @@ pub use letter::{End, excuse};
 pub use outcome::{add_line, fault_in, first_fault, outcome_of};
 pub use report::{DeviceFault, Line, Outcome, Report, Sending, Source, Way, Why};
 pub use roster::{Place, Roster, RosterFull};
-pub use traffic::{Accepted, Datagram, Read, Ready, Received, Socket};
-pub use traits::{Datagrams, Gate, Outside, Posts, Streams, Taker};
+pub use traffic::{Accepted, Datagram, Front, Peer, Read, Ready, Received, Socket, WaitFailed};
+pub use traits::{Datagrams, Gate, Outside, Posts, Streams, Taker, Waker};

@@ -2,6 +2,7 @@
 
 use crate::endpoint::Endpoint;
 use lb_wire::{Octets, ServerId};
+use thiserror::Error;
 
 /// A socket of datagrams.
 #[derive(Clone, Copy, Debug, PartialEq, Eq)]
@@ -30,6 +31,28 @@ pub enum Received {
     Failed,
 }
 
+/// What listens at a place of the listen lines.
+#[derive(Clone, Copy, Debug, PartialEq, Eq)]
+pub enum Front {
+    /// Queries by datagrams.
+    Datagram,
+    /// Queries by streams.
+    Stream,
+    /// Queries by HTTP requests.
+    Http,
+    /// An operator's commands.
+    Console,
+}
+
+/// Who is at the other end of a connection.
+#[derive(Clone, Copy, Debug, PartialEq, Eq)]
+pub enum Peer {
+    /// A client of the listener at this place of the listen lines, from this end.
+    Client(u8, Endpoint),
+    /// A server, by the upstream socket with this number, dialled at this end.
+    Server(ServerId, u8, Endpoint),
+}
+
 /// What there is to do at the sockets of streams.
 #[derive(Clone, Copy, Debug, PartialEq, Eq)]
 pub enum Ready {
@@ -47,11 +70,16 @@ pub enum Ready {
 pub enum Accepted {
     /// A client of the listener at this place of the listen lines, from 0, from this end.
     Client(u8, Endpoint),
-    /// None waits.
+    /// None waits, or none can be taken in now.
     Nothing,
     /// A device failed.
     Failed,
 }
+
+/// Waiting for sockets failed.
+#[derive(Clone, Copy, Debug, PartialEq, Eq, Error)]
+#[error("waiting for sockets failed")]
+pub struct WaitFailed;
 
 /// What a read of a stream gave.
 #[derive(Debug, Drop)]

@@ -4,14 +4,14 @@ ghost use Rattle.std.specs.Prelude.{[], Bool, IfErr, IfNone, IfOk, IfSome, List,
 ghost use Rattle.lb_core.specs.declared.answer.Answer.{Answer};
 ghost use Rattle.lb_core.specs.declared.event.Event.{Event};
 ghost use Rattle.lb_lines.specs.Counts.{Fails, Grows};
-ghost use Rattle.lb_lines.specs.Moves.{Came, Dialed, Gave, GavePiece, Piece, Sent, Took};
+ghost use Rattle.lb_lines.specs.Moves.{Came, Dialed, Gave, GavePiece, Sent, Took, Traffic, TurnedAway};
 ghost use Rattle.lb_lines.specs.Stamps.{Stamp};
 ghost use Rattle.lb_lines.specs.declared.traffic.Datagram.{Datagram};
 ghost use Rattle.lb_wire.specs.declared.addr.Origin.{Origin};
 
 use crate::endpoint::Endpoint;
 use crate::report::Why;
-use crate::traffic::{Accepted, Read, Ready, Received, Socket};
+use crate::traffic::{Accepted, Read, Ready, Received, Socket, WaitFailed};
 use lb_core::{Answer, Event};
 use lb_desk::DeskFault;
 use lb_wire::{Octets, Origin};
@@ -34,48 +34,56 @@ pub trait Datagrams: Drop {
         ensures gave { Gave result (given self.old) (given self.new) (failures self.old) (failures self.new) }
         ensures same { (taken self.new ≡ taken self.old) × (listens self.new ≡ listens self.old) };
 
+    /// Waits until a socket has a datagram, or somebody wakes it, or so many milliseconds have passed.
+    fn wait(&mut self, at_most: u64) -> Result<(), WaitFailed>
+        ensures same { (given self.new ≡ given self.old) × (taken self.new ≡ taken self.old) × (failures self.new ≡ failures self.old) × (listens self.new ≡ listens self.old) };
+
     /// Sends one datagram. Refused, no octet of it was sent: there is no such listener (Gone), a device failed, or memory was wanting.
     fn send(&mut self, socket: Socket, to: Endpoint, bytes: &Octets) -> Result<(), Why>
         ensures sent { Sent result (listens self.old) (record { socket = socket; peer = to; bytes = bytes.now }) (taken self.old) (taken self.new) (failures self.old) (failures self.new) }
         ensures same { (given self.new ≡ given self.old) × (listens self.new ≡ listens self.old) };
 }
 
-/// The stream connections of a loop, by the numbers that the loop gives them. They tell each piece that they gave and took, in order, and
-/// how often a device failed (up to 2^64-1, where the count stays).
+/// The stream connections of a loop, by the numbers that the loop gives them. They tell each piece that they gave and took, who came and
+/// whom was dialled, which ended, and how often a device failed (up to 2^64-1, where the count stays).
 pub trait Streams: Drop {
-    ghost given: { Self → List Piece };
+    ghost told: { Self → Traffic };
 
-    ghost taken: { Self → List Piece };
-
-    ghost failures: { Self → ℕ };
-
-    /// The next thing to do.
+    /// The next thing to do. That a connection may be read or written is told once for what has come; what a read leaves there is told again.
     fn ready(&mut self) -> Ready
-        ensures same { (given self.new ≡ given self.old) × (taken self.new ≡ taken self.old) × (failures self.new ≡ failures self.old) };
+        ensures same { told self.new ≡ told self.old };
 
-    /// Takes in a client that waits, as the connection with this number.
+    /// Has it told once more that this connection may be read.
+    fn resume(&mut self, connection: u64)
+        ensures same { told self.new ≡ told self.old };
+
+    /// Takes in a client that waits, as the connection with this number. Refused for want of memory, it waits on.
     fn accept(&mut self, connection: u64) -> Result<Accepted, AllocError>
-        ensures came { Came result (failures self.old) (failures self.new) }
-        ensures same { (given self.new ≡ given self.old) × (taken self.new ≡ taken self.old) };
+        ensures came { Came result connection (told self.old) (told self.new) };
 
-    /// Begins a connection to this end, with this number.
+    /// Takes in a client that waits, and closes its connection at once.
+    fn turn_away(&mut self) -> Accepted
+        ensures turned { TurnedAway result (told self.old) (told self.new) };
+
+    /// Begins a connection to this end, with this number. What is written before it stands is not taken.
     fn dial(&mut self, connection: u64, to: Endpoint) -> Result<(), Why>
-        ensures dialed { Dialed result (failures self.old) (failures self.new) }
-        ensures same { (given self.new ≡ given self.old) × (taken self.new ≡ taken self.old) };
+        ensures dialed { Dialed result connection to (told self.old) (told self.new) };
 
     /// A piece of a connection, of at most 16,384 octets. Room for it is taken before it is read; refused, nothing is read.
     fn read_from(&mut self, connection: u64) -> Result<Read, AllocError>
-        ensures gave { GavePiece result connection (given self.old) (given self.new) (failures self.old) (failures self.new) }
-        ensures same { taken self.new ≡ taken self.old };
+        ensures gave { GavePiece result connection (told self.old) (told self.new) };
 
-    /// Writes from the front of these octets; how many were taken, which may be none.
+    /// Writes from the front of these octets; how many were taken, which may be none. Refused, the peer takes no more (Gone) or a device failed.
     fn write_to(&mut self, connection: u64, octets: &[u8]) -> Result<usize, Why>
-        ensures took { Took result connection octets.now (taken self.old) (taken self.new) (failures self.old) (failures self.new) }
-        ensures same { given self.new ≡ given self.old };
+        ensures took { Took result connection octets.now (told self.old) (told self.new) };
 
     /// Ends a connection.
     fn close(&mut self, connection: u64)
-        ensures same { (given self.new ≡ given self.old) × (taken self.new ≡ taken self.old) × (failures self.new ≡ failures self.old) };
+        ensures same { told self.new ≡ told self.old };
+
+    /// Waits until there is something to do, or somebody wakes it, or so many milliseconds have passed.
+    fn wait(&mut self, at_most: u64) -> Result<(), WaitFailed>
+        ensures same { told self.new ≡ told self.old };
 }
 
 /// Event handler: hands events to the desk. It tells how many were answered, and a list of events with their answers, to which a call adds
@@ -117,4 +125,10 @@ pub trait Posts: Drop {
     fn hand(&mut self, origin: Origin, bytes: &Octets) -> Result<(), Why>
         ensures handed { OnOk result (handed self.new ≡ handed self.old ++ (origin, bytes.now) ∷ []) }
         ensures same { OnErr result (handed self.new ≡ handed self.old) };
+}
+
+/// Wakes a loop that waits for its sockets.
+pub trait Waker: Drop {
+    /// The next wait of the loop, or the one that it is in, ends at once.
+    fn wake(&self);
 }

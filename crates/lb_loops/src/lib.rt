@@ -6,10 +6,10 @@ mod caller;
 
 pub use caller::Caller;
 pub use lb_datagrams::{Spare, datagram_turn};
-pub use lb_frames::{Framer, Message, Outgoing, cuts_do_not_matter, frame, one_division};
+pub use lb_frames::{Framer, Incoming, Message, Outgoing, cuts_do_not_matter, frame, one_division};
 pub use lb_lines::{
-    Accepted, Datagram, Datagrams, DeviceFault, End, Endpoint, Gate, Line, Outcome, Outside, Place,
-    Posts, Read, Ready, Received, Report, Roster, RosterFull, Sending, Socket, Source, Streams,
-    Taker, Way, Why, one_send_a_line,
+    Accepted, Datagram, Datagrams, DeviceFault, End, Endpoint, Front, Gate, Line, Outcome, Outside,
+    Peer, Place, Posts, Read, Ready, Received, Report, Roster, RosterFull, Sending, Socket, Source,
+    Streams, Taker, WaitFailed, Waker, Way, Why, one_send_a_line,
 };
 pub use lb_outbox::{Delivery, Job, Outbox, Receiver, Sender, SenderId, Settled, finish};

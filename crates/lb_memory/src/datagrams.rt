@@ -4,7 +4,7 @@ ghost use Rattle.std.specs.Prelude.{length, ◌≡◌};
 ghost use Rattle.lb_memory.specs.Datagrams.{told};
 
 use http_server::Log;
-use lb_lines::{Datagram, Datagrams, Endpoint, Received, Socket, Why};
+use lb_lines::{Datagram, Datagrams, Endpoint, Received, Socket, WaitFailed, Why};
 use lb_wire::Octets;
 use std::alloc::{AllocError, Global};
 use std::collections::VecDeque;
@@ -112,6 +112,10 @@ impl<R: Wait> Datagrams for MemoryDatagrams<'_, R> {
             .given
             .and(&(datagram.socket, datagram.peer), &datagram.bytes);
         Ok(Received::Packet(datagram))
+    }
+
+    fn wait(&mut self, _at_most: u64) -> Result<(), WaitFailed> {
+        Ok(())
     }
 
     fn send(&mut self, socket: Socket, to: Endpoint, bytes: &Octets) -> Result<(), Why> {

@@ -1,7 +1,7 @@
 use Rattle.std.proofs.Common.{rules, ◌≡◌, ℕ, ◌+◌, ◌-◌, ◌<◌, ◌≤◌, List, ◌++◌, length, take, drop, ◌∙◌, ap, sym, arith}
 use Rattle.std.proofs.lemmas.List.{length-drop}
 use Rattle.lb_frames.proofs.Parts.{none_short, none_cut, whole_there, length_between}
-use Rattle.lb_frames.proofs.framer.message_end.Goals as goal
+use Rattle.lb_frames.proofs.message.message_end.Goals as goal
 
 pub returns-then-bytes-at-lt-LENGTH-clause-none : goal.returns-then-bytes-at-lt-LENGTH-clause-none
 returns-then-bytes-at-lt-LENGTH-clause-none c =
