@@ -504,6 +504,61 @@ fn a_new_server_as_it_is_stated(rt: HostRuntime) -> Result<(), Fail> {
     held(STATED.len(), lists_stated(rt.alloc(), &park)?)
 }
 
+/// Servers and pools with names in the wrong order, and a server that is gone.
+const ADDED: &[Told] = &[
+    AddsPool("p2", Ok(1)),
+    AddsPool("p1", Ok(2)),
+    Adds("s3", 1, &[], Ok(1)),
+    Adds("s2", 1, &[], Ok(2)),
+    Removes(1, 0),
+    Adds("s1", 0, &[], Ok(3)),
+];
+
+/// Whether these are the numbers and the names of the servers, in order.
+fn lists_servers(list: &[Loaded], wanted: &[(u64, &str)]) -> bool {
+    for (l, (id, name)) in list.iter().zip(wanted) {
+        if l.server.id.0 != *id || l.server.name.as_str() != *name {
+            return false;
+        }
+    }
+    list.len() == wanted.len()
+}
+
+/// Whether a pool has this name.
+fn is_pool(pool: &Pool, text: &str) -> bool {
+    match pool_name(text) {
+        Some(name) => pool.name.equals(&name),
+        None => false,
+    }
+}
+
+/// Whether these are the names of the pools, in order.
+fn lists_pools(list: &[Pool], wanted: &[&str]) -> bool {
+    for (pool, text) in list.iter().zip(wanted) {
+        if !is_pool(pool, text) {
+            return false;
+        }
+    }
+    list.len() == wanted.len()
+}
+
+/// Whether the lists are by number, whatever the names and the orders are.
+fn are_by_number(alloc: Global, park: &Park) -> Result<bool, AllocError> {
+    let servers = park.list(alloc)?;
+    let pools = park.pool_list(alloc)?;
+    Ok(
+        lists_servers(servers.as_slice(), &[(2, "s2"), (3, "s1")])
+            && lists_pools(pools.as_slice(), &["-", "p2", "p1"]),
+    )
+}
+
+#[test]
+fn servers_and_pools_are_listed_by_number(rt: HostRuntime) -> Result<(), Fail> {
+    let mut park = Park::new(rt.alloc())?;
+    play_on(rt.alloc(), &mut park, ADDED)?;
+    held(ADDED.len(), are_by_number(rt.alloc(), &park)?)
+}
+
 /// Names of pools, and whether a server may be in as many.
 const POOL_COUNTS: &[(&[&str], bool)] = &[(&["-"; 8], true), (&["-"; 9], false)];
 
