@@ -1,0 +1,141 @@
+-- A connection taken out of its place or put in changes no other.
+use Rattle.std.proofs.Common.{◌≡◌, ◌≢◌, ℕ, ◌⊎◌, ⊎_elim, ◌+◌, ◌<◌, ◌≤◌, ◌%◌, Bool, true, false, true≢false, subst, List, length, zero, suc, set, get_or, replicate, if◌then◌else◌, cond, ◌==◌, Option, Some, None, refl, sym, ap, ◌∙◌, arith, rules}
+use Rattle.std.proofs.lemmas.List.{get_or-set_same, get_or-set_other}
+use Rattle.std.proofs.lemmas.List.Elements.{All-set, All-weaker}
+use Rattle.std.proofs.lemmas.List.Sums.{sum_by-set}
+use Rattle.std.specs.Prelude.{IfSome, nat_lt}
+use Rattle.std.specs.List.{All}
+use Rattle.std.proofs.lemmas.Bool.Decides.{nat_tests}
+use Rattle.std.proofs.lemmas.Bool.{cases_eq}
+use Rattle.lb_streams.specs.declared.connection.Connection.{Connection}
+use Rattle.lb_streams.specs.Table.{IsGiven, IsNew, Narrows, Table, at, at_place, client_count, clients_in, holds_client, if_number, is_client, is_none}
+
+pub is_same : (c : ℕ) → (c == c) ≡ true
+is_same c = search rules
+
+pub is_other : (a c : ℕ) → c ≢ a → (a == c) ≡ false
+is_other a c not_same = search rules
+
+-- a place after a write there, or elsewhere
+at_set : (c n : ℕ) (slots : List (Option Connection)) (x : Option Connection) → n % 4096 < length slots → c % 4096 ≡ n % 4096 → at_place c (set slots (n % 4096) x) ≡ if_number c x
+at_set c n slots x fits e = ap (λ (i : ℕ). if_number c (get_or (set slots (n % 4096) x) i None)) e ∙ ap (if_number c) (get_or-set_same slots (n % 4096) x None fits)
+
+at_elsewhere : (c n : ℕ) (slots : List (Option Connection)) (x : Option Connection) → (c % 4096) ≢ (n % 4096) → at_place c (set slots (n % 4096) x) ≡ at_place c slots
+at_elsewhere c n slots x apart = ap (if_number c) (get_or-set_other slots (n % 4096) (c % 4096) x None apart)
+
+-- a write at the place of a number changes no other connection, where neither what stood there nor what stands there is another
+set_others : (c n : ℕ) (slots : List (Option Connection)) (x : Option Connection) → n % 4096 < length slots → if_number c (get_or slots (n % 4096) None) ≡ None → if_number c x ≡ None → at_place c (set slots (n % 4096) x) ≡ at_place c slots
+set_others c n slots x fits was is = ⊎_elim
+    (λ (e : c % 4096 ≡ n % 4096). at_set c n slots x fits e ∙ is ∙ sym was ∙ ap (λ (i : ℕ). if_number c (get_or slots i None)) (sym e))
+    (λ (apart : (c % 4096) ≢ (n % 4096)). at_elsewhere c n slots x apart) (cases_eq (c % 4096) (n % 4096))
+
+not_here : (c : ℕ) (y : Connection) → c ≢ y.number → if_number c (Some y) ≡ None
+not_here c y apart = rw (is_other y.number c apart) refl
+
+is_here : (y : Connection) → if_number y.number (Some y) ≡ Some y
+is_here y = rw (is_same y.number) refl
+
+seen : (c next : ℕ) (a b : Option Connection) → a ≡ b → (if nat_lt c next then a else None) ≡ (if nat_lt c next then b else None)
+seen c next a b e = ap (λ (z : Option Connection). if nat_lt c next then z else None) e
+
+pub taken_others : (c n next : ℕ) (slots : List (Option Connection)) (y : Connection) → n % 4096 < length slots → get_or slots (n % 4096) None ≡ Some y → y.number ≡ n → c ≢ n → (if nat_lt c next then at_place c (set slots (n % 4096) None) else None) ≡ (if nat_lt c next then at_place c slots else None)
+taken_others c n next slots y fits was e apart = seen c next _ _ (set_others c n slots None fits (ap (if_number c) was ∙ not_here c y (λ p. apart (p ∙ e))) refl)
+
+pub put_others : (c n next : ℕ) (slots : List (Option Connection)) (y : Connection) → n % 4096 < length slots → get_or slots (n % 4096) None ≡ None → y.number ≡ n → c ≢ n → (if nat_lt c next then at_place c (set slots (n % 4096) (Some y)) else None) ≡ (if nat_lt c next then at_place c slots else None)
+put_others c n next slots y fits was e apart = seen c next _ _ (set_others c n slots (Some y) fits (ap (if_number c) was) (not_here c y (λ p. apart (p ∙ e))))
+
+pub put_here : (n : ℕ) (slots : List (Option Connection)) (y : Connection) → n % 4096 < length slots → y.number ≡ n → at_place n (set slots (n % 4096) (Some y)) ≡ Some y
+put_here n slots y fits e = at_set n n slots (Some y) fits refl ∙ ap (λ (c : ℕ). if_number c (Some y)) (sym e) ∙ is_here y
+
+pub lt_other : (k n : ℕ) → k ≢ n → nat_lt k (n + 1) ≡ nat_lt k n
+lt_other k n apart = search rules
+
+pub lt_more : (n : ℕ) → nat_lt n (n + 1) ≡ true
+lt_more n = search rules
+
+pub lt_self : (n : ℕ) → nat_lt n n ≡ false
+lt_self n = search rules
+
+abbrev no_connection : Option Connection
+no_connection = None
+
+either_none : (b : Bool) → (if b then no_connection else no_connection) ≡ no_connection
+either_none true = refl
+either_none false = refl
+
+pub added_others : (c n : ℕ) (slots : List (Option Connection)) (y : Connection) → n % 4096 < length slots → get_or slots (n % 4096) None ≡ None → y.number ≡ n → c ≢ n → (if nat_lt c (n + 1) then at_place c (set slots (n % 4096) (Some y)) else None) ≡ (if nat_lt c n then at_place c slots else None)
+added_others c n slots y fits was e apart = ap (λ (b : Bool). if b then at_place c (set slots (n % 4096) (Some y)) else None) (lt_other c n apart) ∙ put_others c n n slots y fits was e apart
+
+pub added_here : (n : ℕ) (slots : List (Option Connection)) (y : Connection) → n % 4096 < length slots → y.number ≡ n → (if nat_lt n (n + 1) then at_place n (set slots (n % 4096) (Some y)) else None) ≡ Some y
+added_here n slots y fits e = ap (λ (b : Bool). if b then at_place n (set slots (n % 4096) (Some y)) else None) (lt_more n) ∙ put_here n slots y fits e
+
+pub taken_is : (n : ℕ) (r : Option Connection) → is_none (if_number n r) ≡ false → (if_number n r ≡ r) × IfSome r (λ y. y.number ≡ n)
+taken_is n None h = elim (true≢false h) [ ]
+taken_is n (Some y) h = ⊎_elim
+    (λ (e : n ≡ y.number). (ap (λ (k : ℕ). if_number k (Some y)) e ∙ is_here y, sym e))
+    (λ (apart : n ≢ y.number). elim (true≢false (sym (ap is_none (not_here n y apart)) ∙ h)) [ ]) (cases_eq n y.number)
+
+-- clients are counted
+counts : (slots : List (Option Connection)) (i : ℕ) (x : Option Connection) → i < length slots → clients_in (set slots i x) + cond (holds_client (get_or slots i None)) 1 0 ≡ clients_in slots + cond (holds_client x) 1 0
+counts slots i x lt = sum_by-set (λ (o : Option Connection). cond (holds_client o) 1 0) slots i x None lt
+
+count_is : (y : Connection) → cond (holds_client (Some y)) 1 0 ≡ client_count y
+count_is y = refl
+
+pub counted_out : (slots : List (Option Connection)) (i : ℕ) (y : Connection) → i < length slots → get_or slots i None ≡ Some y → clients_in (set slots i None) + client_count y ≡ clients_in slots
+counted_out slots i y lt was = let all = counts slots i None lt in let one : cond (holds_client (get_or slots i None)) 1 0 ≡ client_count y = ap (λ (o : Option Connection). cond (holds_client o) 1 0) was in omega (arith, all, one)
+
+pub counted_in : (slots : List (Option Connection)) (i : ℕ) (y : Connection) → i < length slots → get_or slots i None ≡ None → clients_in (set slots i (Some y)) ≡ clients_in slots + client_count y
+counted_in slots i y lt was = let all = counts slots i (Some y) lt in let zero_clients : ℕ = 0 in let one : cond (holds_client (get_or slots i None)) 1 0 ≡ zero_clients = ap (λ (o : Option Connection). cond (holds_client o) 1 0) was in omega (arith, all, one, count_is y)
+
+-- numbers were given
+pub given_out : (last i : ℕ) (slots : List (Option Connection)) → All (IsGiven last) slots → All (IsGiven last) (set slots i None)
+given_out last i slots all = All-set (IsGiven last) slots i None refl all
+
+within : (last : ℕ) (y : Connection) → y.number ≤ last → IsGiven last (Some y)
+within last y le = grind (arith, nat_tests)
+
+pub given_in : (last i : ℕ) (slots : List (Option Connection)) (y : Connection) → y.number ≤ last → All (IsGiven last) slots → All (IsGiven last) (set slots i (Some y))
+given_in last i slots y le all = All-set (IsGiven last) slots i (Some y) (within last y le) all
+
+given_more : (last : ℕ) (o : Option Connection) → IsGiven last o → IsGiven (last + 1) o
+given_more last None is = refl
+given_more last (Some y) is = grind (arith, nat_tests)
+
+pub given_on : (last : ℕ) (slots : List (Option Connection)) → All (IsGiven last) slots → All (IsGiven (last + 1)) slots
+given_on last slots all = All-weaker (IsGiven last) (IsGiven (last + 1)) (given_more last) slots all
+
+pub given_later : (last i : ℕ) (slots : List (Option Connection)) (y : Connection) → y.number ≡ last + 1 → All (IsGiven last) slots → All (IsGiven (last + 1)) (set slots i (Some y))
+given_later last i slots y is all = All-set (IsGiven (last + 1)) slots i (Some y) (within (last + 1) y (omega arith)) (given_on last slots all)
+
+-- a table without connections
+none_in : (n i : ℕ) → get_or (replicate n no_connection) i no_connection ≡ no_connection
+none_in zero i = refl
+none_in (suc n) zero = refl
+none_in (suc n) (suc i) = none_in n i
+
+pub new_is : (t : Table) (n : ℕ) → t.next ≡ 1 → t.slots ≡ replicate n None → t.refusals ≡ 0 → IsNew t
+new_is t n next slots refusals = record {
+  next = next;
+  none = λ c. ap (λ (xs : List (Option Connection)). if nat_lt c t.next then at_place c xs else None) slots ∙ ap (λ (o : Option Connection). if nat_lt c t.next then if_number c o else None) (none_in n (c % 4096)) ∙ either_none (nat_lt c t.next);
+  refusals = refusals;
+}
+
+-- numbers that are passed over
+pub narrows_none : (t : Table) → Narrows t t
+narrows_none t = record { next = omega arith; same = refl; all = λ c. refl }
+
+passed_at : (c n : ℕ) (slots : List (Option Connection)) (y : Connection) → get_or slots (n % 4096) None ≡ Some y → y.number < n → (if nat_lt c (n + 1) then at_place c slots else None) ≡ (if nat_lt c n then at_place c slots else None)
+passed_at c n slots y was lt = ⊎_elim
+    (λ (e : c ≡ n). subst (λ (k : ℕ). (if nat_lt k (n + 1) then at_place k slots else None) ≡ (if nat_lt k n then at_place k slots else None)) (sym e)
+    (ap (λ (b : Bool). if b then at_place n slots else None) (lt_more n) ∙ ap (if_number n) was ∙ not_here n y (λ is. absurd (omega arith)) ∙ sym (ap (λ (b : Bool). if b then at_place n slots else None) (lt_self n))))
+    (λ (apart : c ≢ n). ap (λ (b : Bool). if b then at_place c slots else None) (lt_other c n apart)) (cases_eq c n)
+
+pub passed_over : (old mid new : Table) (y : Connection) → Narrows old mid → new ≡ record mid { next = mid.next + 1 } → get_or mid.slots (mid.next % 4096) None ≡ Some y → y.number < mid.next → Narrows old new
+passed_over old mid new y a is was lt =
+    let le = a.next in
+    let next : new.next ≡ mid.next + 1 = ap (λ (t : Table). t.next) is in record {
+      next = omega arith;
+      same = is ∙ ap (λ (t : Table). record t { next = mid.next + 1 }) a.same ∙ ap (λ (n : ℕ). record old { next = n }) (sym next);
+      all = λ c. ap (at c) is ∙ passed_at c mid.next mid.slots y was lt ∙ a.all c;
+    }

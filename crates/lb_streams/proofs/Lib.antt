@@ -1,0 +1,2 @@
+pub mod AtPlaces
+pub mod Faring

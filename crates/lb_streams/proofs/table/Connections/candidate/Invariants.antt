@@ -1,0 +1,8 @@
+use Rattle.std.proofs.Common.{◌≡◌, ◌+◌}
+use Rattle.lb_streams.specs.Table.{Narrows, Table}
+use Rattle.lb_streams.proofs.table.Connections.candidate.Given as goal
+
+abbrev pub invariant-loop : goal.invariant-loop
+invariant-loop l =
+    Narrows l.fn.self (record { next = l.self-inside.last + 1; slots = l.self-inside.slots.items; refusals = l.self-inside.refusals })
+    × (l.self-inside.last + 1 ≡ l.fn.self.next + l.counter)

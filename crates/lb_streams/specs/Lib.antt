@@ -1,0 +1,4 @@
+-- shared by several files: Goes
+pub mod Table
+pub mod Connection
+pub mod Goes

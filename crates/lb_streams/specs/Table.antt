@@ -1,0 +1,72 @@
+-- Connections by their numbers.
+use Rattle.std.specs.Prelude.{◌≡◌, ℕ, ◌+◌, ◌≤◌, ◌%◌, nat_le, nat_lt, Bool, true, false, List, if◌then◌else◌, ◌==◌, Option, Some, None, get_or}
+use Rattle.std.specs.List.{count_by}
+use Rattle.lb_lines.specs.declared.traffic.Peer.{Peer}
+use Rattle.lb_lines.specs.declared.traffic.Peer.TheVariants as peers
+use Rattle.lb_streams.specs.declared.connection.Connection.{Connection}
+
+-- the connection at a place, where it has this number
+abbrev pub if_number : ℕ → Option Connection → Option Connection
+if_number c None = None
+if_number c (Some x) = if x.number == c then Some x else None
+
+abbrev pub at_place : ℕ → List (Option Connection) → Option Connection
+at_place c slots = if_number c (get_or slots (c % 4096) None)
+
+abbrev pub is_none : Option Connection → Bool
+is_none None = true
+is_none (Some x) = false
+
+abbrev pub is_client : Peer → Bool
+is_client (peers.Client front at) = true
+is_client (peers.Server server number at) = false
+
+-- whether a client's connection stands at a place
+abbrev pub holds_client : Option Connection → Bool
+holds_client None = false
+holds_client (Some x) = is_client x.peer
+
+abbrev pub clients_in : List (Option Connection) → ℕ
+clients_in slots = count_by holds_client slots
+
+-- a place with a connection has one whose number was given
+abbrev pub is_given : ℕ → Option Connection → Bool
+is_given last None = true
+is_given last (Some x) = nat_le x.number last
+
+abbrev pub IsGiven : ℕ → Option Connection → Type 0
+IsGiven last place = is_given last place ≡ true
+
+-- the connections of a loop: the next number, which is 2^64 once all are given, the places, and how often memory was wanting for a connection
+pub record Table : Type 0 where
+  pub next : ℕ
+  pub slots : List (Option Connection)
+  pub refusals : ℕ
+
+-- the open connection of a number
+abbrev pub at : ℕ → Table → Option Connection
+at c t = if nat_lt c t.next then at_place c t.slots else None
+
+-- whether a further connection may stand at the place of a number
+abbrev pub vacant : ℕ → Table → Bool
+vacant c t = is_none (get_or t.slots (c % 4096) None)
+
+-- how many clients are connected
+abbrev pub clients : Table → ℕ
+clients t = clients_in t.slots
+
+-- one for a client's connection, none for a server's
+abbrev pub client_count : Connection → ℕ
+client_count x = if is_client x.peer then 1 else 0
+
+-- no connection is open, and the first number is 1
+pub record IsNew (t : Table) : Type 0 where
+  pub next : t.next ≡ 1
+  pub none : (c : ℕ) → at c t ≡ None
+  pub refusals : t.refusals ≡ 0
+
+-- numbers were passed over, and nothing else changed
+pub record Narrows (old new : Table) : Type 0 where
+  pub next : old.next ≤ new.next
+  pub same : new ≡ record old { next = new.next }
+  pub all : (c : ℕ) → at c new ≡ at c old

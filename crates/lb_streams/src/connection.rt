@@ -1,0 +1,109 @@
+//! One connection.
+
+ghost use Rattle.std.specs.Prelude.{[], IsTrue, None, OnErr, OnOk, drop, false, length, true, ◌++◌, ◌+◌, ◌<◌, ◌≡◌, ◌≤◌};
+ghost use Rattle.lb_frames.specs.Frames.{NoneWhole, framed};
+ghost use Rattle.lb_wire.specs.Octets.{max_message};
+
+use lb_frames::{Incoming, Outgoing};
+use lb_lines::Peer;
+use lb_wire::Octets;
+use std::alloc::{AllocError, Global};
+
+/// The most octets that may wait to be written to a connection.
+const MOST_WAITING: usize = 1_048_576;
+
+/// From more octets than these on that wait, they are written at once, and nothing is read.
+const MANY_WAITING: usize = 65_536;
+
+/// How many octets tell a message's length.
+const LENGTH: usize = 2;
+
+/// How long a client that has closed its side is kept for its answers, in milliseconds: as long as a query may wait for its reply, and a
+/// second.
+const KEPT: u64 = 61_000;
+
+/// One connection: what came and was not taken yet, and what is to be written.
+#[derive(Drop)]
+pub(crate) struct Connection {
+    pub(crate) number: u64,
+    pub(crate) peer: Peer,
+    pub(crate) incoming: Incoming,
+    pub(crate) outgoing: Outgoing,
+    /// How many of its queries were sent on and are not answered.
+    pub(crate) owed: u64,
+    /// Whether its peer has closed its side.
+    pub(crate) is_ended: bool,
+    /// The moment at which it is closed at the latest, in milliseconds.
+    pub(crate) until: Option<u64>,
+    /// Whether it stands in the queue of those that have a whole message.
+    pub(crate) is_queued: bool,
+    /// Whether it is to be written at the end of the turn.
+    pub(crate) is_touched: bool,
+    /// Whether it was told that it may be read, and was not read.
+    pub(crate) is_passed_over: bool,
+}
+
+impl Connection {
+    /// A new one. It takes no memory.
+    pub(crate) fn new(alloc: Global, number: u64, peer: Peer) -> Connection
+        ensures who { (result.number ≡ number) × (result.peer ≡ peer) }
+        ensures empty { (result.incoming ≡ []) × (result.outgoing ≡ []) }
+        ensures asks { (result.is_ended ≡ false) × (result.until ≡ None) }
+    {
+        Connection {
+            number,
+            peer,
+            incoming: Incoming::new(alloc),
+            outgoing: Outgoing::new(alloc),
+            owed: 0,
+            is_ended: false,
+            until: None,
+            is_queued: false,
+            is_touched: false,
+            is_passed_over: false,
+        }
+    }
+
+    /// Whether it may be read: no whole message of it waits, and not too much is to be written to it.
+    pub(crate) fn may_be_read(&self) -> bool {
+        !self.incoming.has_message() && self.outgoing.len() <= MANY_WAITING
+    }
+
+    /// Whether so much waits to be written that it is written before the turn ends.
+    pub(crate) fn is_heavy(&self) -> bool {
+        self.outgoing.len() > MANY_WAITING
+    }
+
+    /// Whether with this message more octets would wait than may.
+    pub(crate) fn is_over(&self, message: &Octets) -> bool
+        ensures { IsTrue result → 1048576 < length self.now.outgoing + length (framed message.now) }
+    {
+        self.outgoing.len() > MOST_WAITING - LENGTH - message.as_slice().len()
+    }
+
+    /// Whether its peer has closed its side, nothing is left to be answered, and all was written.
+    pub(crate) fn is_finished(&self) -> bool
+        ensures ended { IsTrue result → self.now.is_ended ≡ true }
+        ensures written { IsTrue result → self.now.outgoing ≡ [] }
+        ensures none { IsTrue result → NoneWhole self.now.incoming }
+    {
+        self.is_ended && self.owed == 0 && self.outgoing.len() == 0 && !self.incoming.has_message()
+    }
+
+    /// Puts a message behind what is to be written. The one error is want of memory, and then nothing has changed.
+    pub(crate) fn promise(&mut self, message: &Octets) -> Result<(), AllocError>
+        ensures promised { OnOk result (self.new.outgoing ≡ self.old.outgoing ++ framed message.now) }
+        ensures same { OnErr result (self.new.outgoing ≡ self.old.outgoing) }
+        ensures rest { (self.new.number ≡ self.old.number) × (self.new.peer ≡ self.old.peer) × (self.new.incoming ≡ self.old.incoming) × (self.new.is_ended ≡ self.old.is_ended) }
+    {
+        self.outgoing.push_framed(message.as_slice())
+    }
+
+    /// Its peer has closed its side, at this moment.
+    pub(crate) fn end(&mut self, now: u64)
+        ensures rest { (self.new.number ≡ self.old.number) × (self.new.peer ≡ self.old.peer) × (self.new.incoming ≡ self.old.incoming) × (self.new.outgoing ≡ self.old.outgoing) }
+    {
+        self.is_ended = true;
+        self.until = Some(now.saturating_add(KEPT));
+    }
+}

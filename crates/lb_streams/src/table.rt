@@ -1,0 +1,214 @@
+//! The connections of a loop, by their numbers.
+
+ghost use Rattle.std.specs.Prelude.{IfNone, IfOk, IfSome, None, Some, false, if◌then◌else◌, true, vec_len, ◌%◌, ◌+◌, ◌<◌, ◌^◌, ◌≡◌, ◌≢◌, ◌≤◌, ◌⊎◌, ℕ};
+ghost use Rattle.std.specs.List.{All};
+ghost use Rattle.lb_lines.specs.Counts.{Rose};
+ghost use Rattle.lb_streams.specs.Table.{IsGiven, IsNew, Narrows, at, at_place, client_count, clients, clients_in, is_none, vacant};
+
+use crate::connection::Connection;
+use lb_lines::{Endpoint, Peer};
+use lb_wire::ServerId;
+use std::alloc::{AllocError, Global};
+use std::collections::VecDeque;
+use std::marker::Model;
+
+/// How many connections a table has places for.
+pub(crate) const PLACES: usize = 4096;
+
+/// The connection that was last begun to a server, by one of its upstream sockets.
+#[derive(Clone, Copy, Debug)]
+pub(crate) struct Route {
+    pub(crate) server: ServerId,
+    pub(crate) lane: u8,
+    pub(crate) at: Endpoint,
+    pub(crate) number: u64,
+}
+
+/// Connections, each at the place that is its number modulo 4,096. A number is given once, so that an answer to a connection that has
+/// ended never goes to another. A contract sees the connection of each number.
+#[derive(Drop)]
+pub struct Connections {
+    /// The last number that was given, 0 at first.
+    pub(crate) last: u64,
+    pub(crate) slots: Vec<Option<Connection>>,
+    /// How many clients are connected.
+    pub(crate) clients: usize,
+    /// How often memory was wanting for a connection.
+    pub(crate) refusals: u64,
+    /// Connections that have a whole message, each in its turn.
+    pub(crate) queue: VecDeque<u64>,
+    /// Connections that are to be written at the end of the turn.
+    pub(crate) touched: Vec<u64>,
+    pub(crate) routes: Vec<Route>,
+    /// No connection has to be closed before this moment, in milliseconds.
+    pub(crate) due: u64,
+    /// The version of the roster that the servers' connections were held against.
+    pub(crate) version: Option<u64>,
+    ghost wide: { vec_len slots ≡ 4096 },
+    ghost counted: { clients ≡ clients_in slots.items },
+    ghost given: { All (IsGiven last) slots.items },
+}
+
+impl Model for Connections {
+    ghost use Rattle.std.specs.Prelude.{◌+◌};
+    ghost use Rattle.lb_streams.specs.Table.{Table};
+
+    ghost Value = { Table };
+
+    ghost view = { λ t. record { next = t.last + 1; slots = t.slots.items; refusals = t.refusals } };
+}
+
+/// The place of a number.
+fn place_of(number: u64) -> usize
+    ensures { (result ≡ number % 4096) × (result < 4096) }
+{
+    (number % 4096) as usize
+}
+
+/// Whether the connection with this number stands at its place.
+fn stands(slots: &Vec<Option<Connection>>, number: u64) -> bool
+    requires { vec_len slots.now ≡ 4096 }
+    ensures { result ≡ (if is_none (at_place number slots.now.items) then false else true) }
+{
+    match &slots[place_of(number)] {
+        Some(connection) => connection.number == number,
+        None => false,
+    }
+}
+
+/// How many clients a connection has: one or none.
+fn clients_of(connection: &Connection) -> usize
+    ensures { result ≡ client_count connection.now }
+{
+    match connection.peer {
+        Peer::Client(..) => 1,
+        Peer::Server(..) => 0,
+    }
+}
+
+impl Connections {
+    /// No connection, and places for 4,096. The one error is want of memory.
+    #[tactic(auto, using(crate::proofs::AtPlaces::new_is))]
+    pub fn made(alloc: Global) -> Result<Connections, AllocError>
+        ensures { IfOk result IsNew }
+    {
+        let mut slots = Vec::with_capacity(alloc, PLACES)?;
+        for _ in 0..PLACES {
+            slots.push_reserved(None);
+        }
+        Ok(Connections {
+            last: 0,
+            slots,
+            clients: 0,
+            refusals: 0,
+            queue: VecDeque::new(alloc),
+            touched: Vec::new(alloc),
+            routes: Vec::new(alloc),
+            due: u64::MAX,
+            version: None,
+        })
+    }
+
+    /// Takes out the connection with this number.
+    #[tactic(auto, using(crate::proofs::AtPlaces::taken_others, crate::proofs::AtPlaces::taken_is, crate::proofs::AtPlaces::counted_out, crate::proofs::AtPlaces::given_out))]
+    pub(crate) fn take(&mut self, number: u64) -> Option<Connection>
+        ensures here { at number self.old ≡ result }
+        ensures number { IfSome result (λ x. (x.number ≡ number) × (number < self.new.next)) }
+        ensures gone { at number self.new ≡ None }
+        ensures others { (c : ℕ) → c ≢ number → at c self.new ≡ at c self.old }
+        ensures vacant { IfSome result (λ _. vacant number self.new ≡ true) }
+        ensures clients { IfSome result (λ x. clients self.new + client_count x ≡ clients self.old) }
+        ensures none { IfNone result (self.new ≡ self.old) }
+        ensures same { (self.new.next ≡ self.old.next) × (self.new.refusals ≡ self.old.refusals) }
+    {
+        if number > self.last {
+            return None;
+        }
+        if !stands(&self.slots, number) {
+            return None;
+        }
+        let place = place_of(number);
+        let taken = self.slots[place].take();
+        if let Some(connection) = &taken {
+            self.clients -= clients_of(connection);
+        }
+        taken
+    }
+
+    /// Puts back a connection that was taken out.
+    #[tactic(auto, using(crate::proofs::AtPlaces::put_others, crate::proofs::AtPlaces::put_here, crate::proofs::AtPlaces::counted_in, crate::proofs::AtPlaces::given_in))]
+    pub(crate) fn put(&mut self, connection: Connection)
+        requires vacant { vacant connection.number self.old ≡ true }
+        requires below { connection.number < self.old.next }
+        ensures here { at connection.number self.new ≡ Some connection }
+        ensures others { (c : ℕ) → c ≢ connection.number → at c self.new ≡ at c self.old }
+        ensures clients { clients self.new ≡ clients self.old + client_count connection }
+        ensures same { (self.new.next ≡ self.old.next) × (self.new.refusals ≡ self.old.refusals) }
+    {
+        let place = place_of(connection.number);
+        self.clients += clients_of(&connection);
+        self.slots[place] = Some(connection);
+    }
+
+    /// Finds a number that no connection had, and passes over those whose place is taken.
+    #[tactic(auto, using(crate::proofs::AtPlaces::narrows_none, crate::proofs::AtPlaces::passed_over))]
+    pub(crate) fn candidate(&mut self) -> Option<u64>
+        ensures found { IfSome result (λ n. (n ≡ self.new.next) × (n < 2 ^ 64) × (vacant n self.new ≡ true)) }
+        ensures none { IfNone result ((self.old.next + 4096 ≤ self.new.next) ⊎ (2 ^ 64 ≤ self.new.next)) }
+        ensures narrows { Narrows self.old self.new }
+    {
+        for _ in 0..PLACES {
+            if self.last == u64::MAX {
+                return None;
+            }
+            if self.slots[place_of(self.last + 1)].is_none() {
+                return Some(self.last + 1);
+            }
+            self.last += 1;
+        }
+        None
+    }
+
+    /// Adds a connection with the next number.
+    #[tactic(auto, using(crate::proofs::AtPlaces::added_others, crate::proofs::AtPlaces::added_here, crate::proofs::AtPlaces::counted_in, crate::proofs::AtPlaces::given_later))]
+    pub(crate) fn add(&mut self, connection: Connection)
+        requires number { connection.number ≡ self.old.next }
+        requires vacant { vacant connection.number self.old ≡ true }
+        requires below { connection.number < 2 ^ 64 }
+        ensures here { at connection.number self.new ≡ Some connection }
+        ensures others { (c : ℕ) → c ≢ connection.number → at c self.new ≡ at c self.old }
+        ensures clients { clients self.new ≡ clients self.old + client_count connection }
+        ensures next { self.new.next ≡ self.old.next + 1 }
+        ensures same { self.new.refusals ≡ self.old.refusals }
+    {
+        let place = place_of(connection.number);
+        self.last += 1;
+        self.clients += clients_of(&connection);
+        self.slots[place] = Some(connection);
+    }
+
+    /// Counts a want of memory for a connection, of which the refusal is in hand.
+    pub(crate) fn lacks(&mut self, _refused: AllocError)
+        ensures refusals { Rose self.old.refusals self.new.refusals × (self.old.refusals ≤ self.new.refusals) }
+        ensures same { self.new ≡ record self.old { refusals = self.new.refusals } }
+    {
+        self.refusals = self.refusals.saturating_add(1);
+    }
+
+    /// The connection that was last begun to a server, by one of its upstream sockets, at this end.
+    pub(crate) fn route(&self, server: ServerId, lane: u8, at: Endpoint) -> Option<u64> {
+        self.routes
+            .iter()
+            .find(|route| route.server.0 == server.0 && route.lane == lane && route.at.is(at))
+            .map(|route| route.number)
+    }
+
+    /// Notes a connection to a server, in place of an earlier one.
+    pub(crate) fn note(&mut self, route: Route) -> Result<(), AllocError>
+        ensures same { self.new ≡ self.old }
+    {
+        self.routes.retain(|other| other.server.0 != route.server.0 || other.lane != route.lane);
+        self.routes.push(route)?;
+        Ok(())
+    }
+}
