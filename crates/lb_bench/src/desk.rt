@@ -121,14 +121,8 @@ fn go_rounds<J: Naming + Send + Sync, R: Threads + Wait + Sync>(
 ) -> u32 {
     match threads {
         1 => go_round_one(rt, alloc, desk, seats, rounds),
-        2 => match pair(seats) {
-            Some(pair) => go_round_both(rt, alloc, desk, pair, rounds),
-            None => 0,
-        },
-        _ => match (pair(seats), pair(seats)) {
-            (Some(some), Some(others)) => go_round_all(rt, alloc, desk, some, others, rounds),
-            _ => 0,
-        },
+        2 => go_round_two(rt, alloc, desk, seats, rounds),
+        _ => go_round_four(rt, alloc, desk, seats, rounds),
     }
 }
 
@@ -141,6 +135,47 @@ fn go_round_one<J: Naming, R: Wait>(
 ) -> u32 {
     match seats.first_mut() {
         Some(seat) => call_rounds(rt, alloc, desk, seat, rounds),
+        None => 0,
+    }
+}
+
+fn go_round_two<J: Naming + Send + Sync, R: Threads + Wait + Sync>(
+    rt: &R,
+    alloc: Global,
+    desk: &Desk<J>,
+    seats: &mut Vec<Seat<J>>,
+    rounds: Rounds,
+) -> u32 {
+    match pair(seats) {
+        Some(pair) => go_round_both(rt, alloc, desk, pair, rounds),
+        None => 0,
+    }
+}
+
+fn go_round_four<J: Naming + Send + Sync, R: Threads + Wait + Sync>(
+    rt: &R,
+    alloc: Global,
+    desk: &Desk<J>,
+    seats: &mut Vec<Seat<J>>,
+    rounds: Rounds,
+) -> u32 {
+    match pair(seats) {
+        Some(others) => go_round_others(rt, alloc, desk, seats, others, rounds),
+        None => 0,
+    }
+}
+
+/// Rounds from four threads, two of whose seats are these.
+fn go_round_others<J: Naming + Send + Sync, R: Threads + Wait + Sync>(
+    rt: &R,
+    alloc: Global,
+    desk: &Desk<J>,
+    seats: &mut Vec<Seat<J>>,
+    others: Pair<J>,
+    rounds: Rounds,
+) -> u32 {
+    match pair(seats) {
+        Some(some) => go_round_all(rt, alloc, desk, some, others, rounds),
         None => 0,
     }
 }

@@ -87,20 +87,24 @@ fn least_at<J: Naming, R: Wait + Clock>(
 
 /// The least times where every query is refused.
 fn least_of<R: Wait + Clock, T: Taker>(rt: &R, alloc: Global, taker: &mut T) -> io::Result<Times> {
+    if !is_ruled(alloc, taker)? {
+        return Ok(Times { call: 0, turn: 0 });
+    }
+    let mut around = Around::new(alloc)?;
+    least_around(rt, alloc, &mut around, taker)
+}
+
+/// The least times of many blocks.
+fn least_around<R: Wait + Clock, T: Taker>(
+    rt: &R,
+    alloc: Global,
+    around: &mut Around,
+    taker: &mut T,
+) -> io::Result<Times> {
     let mut least = Times { call: 0, turn: 0 };
-    let Some(rule) = rule(alloc)? else {
-        return Ok(least);
-    };
-    let _ = taker.take(rule);
-    let mut around = Around {
-        kept: Arc::new(alloc, Mutex::new(Vec::new(alloc)))?,
-        roster: Roster::made(alloc)?,
-        spare: Spare::new(alloc),
-        outside: MemoryOutside::new(1, 16, 0),
-    };
     for _ in 0..BLOCKS {
-        let call = time_block(rt, alloc, &mut around, taker, false)?;
-        let turn = time_block(rt, alloc, &mut around, taker, true)?;
+        let call = time_block(rt, alloc, around, taker, false)?;
+        let turn = time_block(rt, alloc, around, taker, true)?;
         least = Times {
             call: less(least.call, call),
             turn: less(least.turn, turn),
@@ -121,6 +125,17 @@ struct Around {
     roster: Roster,
     spare: Spare,
     outside: MemoryOutside,
+}
+
+impl Around {
+    fn new(alloc: Global) -> Result<Around, AllocError> {
+        Ok(Around {
+            kept: Arc::new(alloc, Mutex::new(Vec::new(alloc)))?,
+            roster: Roster::made(alloc)?,
+            spare: Spare::new(alloc),
+            outside: MemoryOutside::new(1, 16, 0),
+        })
+    }
 }
 
 /// Nanoseconds of a datagram, by so many turns or calls.
@@ -145,6 +160,15 @@ fn time_block<R: Wait + Clock, T: Taker>(
     }
     let nanos = start.elapsed(rt)?.as_nanos();
     Ok(nanos / (answered as u128).max(1))
+}
+
+/// Has a rule taken by which every query is refused. Whether there is one.
+fn is_ruled<T: Taker>(alloc: Global, taker: &mut T) -> Result<bool, AllocError> {
+    let Some(rule) = rule(alloc)? else {
+        return Ok(false);
+    };
+    let _ = taker.take(rule);
+    Ok(true)
 }
 
 /// The edit by which every query is refused.

@@ -1,5 +1,5 @@
 use Rattle.lb_core.specs.Snapshot.{snapshot_of}
-use Rattle.lb_loops_bench.proofs.turns.best.Given as goal
+use Rattle.lb_bench.proofs.turns.best.Given as goal
 
 abbrev pub ghosts-least_at-J-Ledger : goal.ghosts-least_at-J-Ledger
 ghosts-least_at-J-Ledger g a = record { name = a.blank.name; parts = a.blank.parts }

@@ -22,19 +22,36 @@ const SEGMENT: usize = 1_400;
 
 /// Times a stream of messages of 1,000 octets in pieces, messages of 65,535 octets that come octet by octet, and writes.
 pub(crate) fn time_streams(rt: &HostRuntime) -> io::Result<()> {
+    time_pieces(rt)?;
+    time_octets(rt)?;
+    time_writes(rt)
+}
+
+fn time_pieces(rt: &HostRuntime) -> io::Result<()> {
     let start = Instant::now(rt)?;
     let fed = fed_pieces(rt.alloc())?;
     let nanos = start.elapsed(rt)?.as_nanos().max(1);
     let rate = FED as u128 * 1_000 / nanos;
-    eprintln!(rt; "pieces of 16,384 octets: {rate} MB/s ({fed} messages)")?;
+    eprintln!(rt; "pieces of 16,384 octets: {rate} MB/s ({fed} messages)")
+}
+
+fn time_octets(rt: &HostRuntime) -> io::Result<()> {
     let start = Instant::now(rt)?;
     let fed = fed_octets(rt.alloc())?;
     let nanos = start.elapsed(rt)?.as_nanos() / 655_370;
-    eprintln!(rt; "an octet of a message of 65,535: {nanos} ns ({fed} messages)")?;
+    eprintln!(rt; "an octet of a message of 65,535: {nanos} ns ({fed} messages)")
+}
+
+fn time_writes(rt: &HostRuntime) -> io::Result<()> {
     let mut outgoing = Outgoing::new(rt.alloc());
     outgoing.push(stream(rt.alloc(), WAITING)?.as_slice())?;
+    time_written(rt, &mut outgoing)
+}
+
+/// Times the writes of what waits.
+fn time_written(rt: &HostRuntime, outgoing: &mut Outgoing) -> io::Result<()> {
     let start = Instant::now(rt)?;
-    let writes = written(&mut outgoing);
+    let writes = written(outgoing);
     let nanos = start.elapsed(rt)?.as_nanos() / u128::from(writes).max(1);
     eprintln!(rt; "a write of 1,400 octets: {nanos} ns ({writes} writes of a megabyte)")
 }
