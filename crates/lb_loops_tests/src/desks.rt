@@ -7,7 +7,7 @@ ghost use Rattle.lb_core.specs.Snapshot.{snapshot_of};
 use crate::scene::{OPEN, Scene, tell};
 use lb_core::Balancer;
 use lb_desk::{Desk, Naming};
-use lb_loops::{Caller, Report};
+use lb_loops::{Caller, Report, Taker};
 use std::alloc::Global;
 use std::marker::Brand;
 use std::sync::Wait;
@@ -40,10 +40,19 @@ fn turn_at<J: Naming, R: Wait>(
     requires opening { J.opening ≡ snapshot_of balancer }
 {
     let (desk, mut seats) = Desk::<J>::made(alloc, blank, balancer, 1000, 1)?;
-    let Some(seat) = seats.pop() else {
-        return Err(Fail::from("a desk without a seat"));
-    };
-    let mut caller = Caller::new(rt, &desk, seat);
-    tell(&mut caller, alloc, lines)?;
-    Ok(scene.turn(&mut caller, &OPEN)?)
+    match seats.pop() {
+        Some(seat) => turn_of(&mut Caller::new(rt, &desk, seat), alloc, lines, scene),
+        None => Err(Fail::from("a desk without a seat")),
+    }
+}
+
+/// A turn of a caller who told the desk these lines before.
+fn turn_of<T: Taker, R: Wait>(
+    caller: &mut T,
+    alloc: Global,
+    lines: &[&str],
+    scene: &mut Scene<'_, R>,
+) -> Result<Report, Fail> {
+    tell(caller, alloc, lines)?;
+    Ok(scene.turn(caller, &OPEN)?)
 }

@@ -2,6 +2,7 @@
 
 use lb_loops::{Framer, Message, Outgoing, frame};
 use std::alloc::{AllocError, Global};
+use std::process::Abort;
 use std::test::Fail;
 
 /// Two messages of twelve octets, each after its length.
@@ -42,16 +43,23 @@ fn are_both(messages: &[Message]) -> bool {
 /// In one piece, cut behind the octets 1 and 20, and octet by octet.
 #[test]
 fn cut_streams(rt: HostRuntime) -> Result<(), Fail> {
-    let whole = fed(rt.alloc(), &[28])?;
-    assert!(rt;
-        are_both(whole.0.as_slice()) && whole.1 == 0,
-        "in one piece"
-    );
-    let cut = fed(rt.alloc(), &[1, 20, 28])?;
-    assert!(rt; are_both(cut.0.as_slice()) && cut.1 == 0, "in three pieces");
-    let octets = fed(rt.alloc(), octet_ends(rt.alloc())?.as_slice())?;
-    assert!(rt; are_both(octets.0.as_slice()) && octets.1 == 0, "by octets");
-    let short = fed(rt.alloc(), &[1, 20, 27])?;
+    expect_both(&rt, &[28], "in one piece")?;
+    expect_both(&rt, &[1, 20, 28], "in three pieces")?;
+    let ends = octet_ends(rt.alloc())?;
+    expect_both(&rt, ends.as_slice(), "by octets")?;
+    expect_first(&rt, &[1, 20, 27])
+}
+
+/// Both messages come of these pieces, and nothing is held.
+fn expect_both<T: Abort + AllocGlobal>(rt: &T, ends: &[usize], what: &str) -> Result<(), Fail> {
+    let fed = fed(rt.alloc(), ends)?;
+    assert!(rt; are_both(fed.0.as_slice()) && fed.1 == 0, "{what}");
+    Ok(())
+}
+
+/// One message comes of these pieces, and the second but for its last octet is held.
+fn expect_first<T: Abort + AllocGlobal>(rt: &T, ends: &[usize]) -> Result<(), Fail> {
+    let short = fed(rt.alloc(), ends)?;
     assert!(rt;
         short.0.len() == 1 && short.1 == 13,
         "without the last octet"
@@ -72,15 +80,25 @@ fn octet_ends(alloc: Global) -> Result<Vec<usize>, AllocError> {
 #[test]
 fn framed_messages(rt: HostRuntime) -> Result<(), Fail> {
     let mut outgoing = Outgoing::new(rt.alloc());
+    expect_written(&rt, &mut outgoing)?;
+    let longest = Vec::from_elem(rt.alloc(), 7u8, 65_535)?;
+    let octets = frame(rt.alloc(), longest.as_slice())?;
+    expect_whole(&rt, octets.as_slice(), longest.as_slice())
+}
+
+fn expect_written<T: Abort + AllocGlobal>(rt: &T, outgoing: &mut Outgoing) -> Result<(), Fail> {
     outgoing.push(frame(rt.alloc(), MESSAGES[0])?.as_slice())?;
     assert!(rt; outgoing.as_slice() == &STREAM[..14]);
     outgoing.advance(14);
     assert!(rt; outgoing.len() == 0, "something is left");
-    let longest = Vec::from_elem(rt.alloc(), 7u8, 65_535)?;
-    let octets = frame(rt.alloc(), longest.as_slice())?;
+    Ok(())
+}
+
+/// These octets are fed at once, and this message comes out.
+fn expect_whole<T: Abort + AllocGlobal>(rt: &T, octets: &[u8], longest: &[u8]) -> Result<(), Fail> {
     let mut framer = Framer::new(rt.alloc());
-    let messages = framer.feed(octets.as_slice())?;
+    let messages = framer.feed(octets)?;
     let are_whole = messages.len() == 1 && framer.len() == 0;
-    assert!(rt; are_whole && messages[0].as_slice() == longest.as_slice());
+    assert!(rt; are_whole && messages[0].as_slice() == longest);
     Ok(())
 }

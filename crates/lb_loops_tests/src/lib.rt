@@ -1,9 +1,15 @@
-//! The tests of the loops' crates, which call what is public there: in a crate of their own, so that those are proved once and not a
-//! second time with them. There is nothing else here.
+//! The tests of lb_desk and of the loops' crates, which call what is public there: in a crate of their own, so that those are proved once
+//! and not a second time with them. There is nothing else here.
 #![tactic(auto)]
 
 #[cfg(test)]
+mod callers;
+#[cfg(test)]
+mod calls;
+#[cfg(test)]
 mod desks;
+#[cfg(test)]
+mod events;
 #[cfg(test)]
 mod frames;
 #[cfg(test)]
@@ -12,6 +18,8 @@ mod messages;
 mod outboxes;
 #[cfg(test)]
 mod rosters;
+#[cfg(test)]
+mod rounds;
 #[cfg(test)]
 mod scene;
 #[cfg(test)]

@@ -6,6 +6,7 @@ ghost use Rattle.lb_outbox.specs.declared.rule.SenderId.TheVariants.{One, Two};
 use lb_loops::{Job, Outbox, Receiver, Sender, Settled, finish};
 use lb_wire::{Addr, Octets, Origin};
 use std::alloc::Global;
+use std::process::Abort;
 use std::sync::Wait;
 use std::test::Fail;
 use std::thread::{Threads, join, sleep};
@@ -34,19 +35,49 @@ fn marks_of(job: &Job) -> Option<(u8, u64)> {
 #[test]
 fn a_full_outbox(rt: HostRuntime) -> Result<(), Fail> {
     let (mut one, mut two, mut receiver) = Outbox::made(rt.alloc(), 2)?;
-    assert!(rt; one.send(&rt, job(rt.alloc(), 1, 1)).is_ok());
-    assert!(rt; one.send(&rt, job(rt.alloc(), 1, 2)).is_ok());
-    let back = one.send(&rt, job(rt.alloc(), 1, 3)).err();
-    assert_eq!(rt; back.as_ref().and_then(marks_of), Some((1, 3)));
-    let back = two.send(&rt, job(rt.alloc(), 2, 1)).err();
-    assert_eq!(rt; back.as_ref().and_then(marks_of), Some((2, 1)));
-    let first = receiver.receive(&rt);
-    assert_eq!(rt; first.as_ref().and_then(marks_of), Some((1, 1)));
-    let second = receiver.receive(&rt);
-    assert_eq!(rt; second.as_ref().and_then(marks_of), Some((1, 2)));
-    assert!(rt; receiver.receive(&rt).is_none());
-    assert!(rt; two.send(&rt, job(rt.alloc(), 2, 1)).is_ok());
+    expect_full(&rt, &mut one, &mut two)?;
+    expect_room(&rt, &mut two, &mut receiver)
+}
+
+fn expect_full<R: Abort + AllocGlobal + Wait>(
+    rt: &R,
+    one: &mut Sender,
+    two: &mut Sender,
+) -> Result<(), Fail> {
+    assert!(rt; takes(rt, one, job(rt.alloc(), 1, 1)));
+    assert!(rt; takes(rt, one, job(rt.alloc(), 1, 2)));
+    assert_eq!(rt; back(rt, one, job(rt.alloc(), 1, 3)), Some((1, 3)));
+    assert_eq!(rt; back(rt, two, job(rt.alloc(), 2, 1)), Some((2, 1)));
     Ok(())
+}
+
+fn expect_room<R: Abort + AllocGlobal + Wait>(
+    rt: &R,
+    two: &mut Sender,
+    receiver: &mut Receiver,
+) -> Result<(), Fail> {
+    assert_eq!(rt; received(rt, receiver), Some((1, 1)));
+    assert_eq!(rt; received(rt, receiver), Some((1, 2)));
+    assert!(rt; receiver.receive(rt).is_none());
+    assert!(rt; takes(rt, two, job(rt.alloc(), 2, 1)));
+    Ok(())
+}
+
+/// Whether a job is sent.
+fn takes<R: Wait>(rt: &R, sender: &mut Sender, job: Job) -> bool {
+    sender.send(rt, job).is_ok()
+}
+
+/// The marks of a job that comes back.
+fn back<R: Wait>(rt: &R, sender: &mut Sender, job: Job) -> Option<(u8, u64)> {
+    let back = sender.send(rt, job).err();
+    back.as_ref().and_then(marks_of)
+}
+
+/// The marks of a job that is received.
+fn received<R: Wait>(rt: &R, receiver: &mut Receiver) -> Option<(u8, u64)> {
+    let job = receiver.receive(rt);
+    job.as_ref().and_then(marks_of)
 }
 
 /// Two jobs of the first sender, none of the second. It is proved here that an ended outbox shows just these.

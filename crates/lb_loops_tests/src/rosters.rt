@@ -4,6 +4,7 @@ use crate::messages::{FIRST, SECOND};
 use lb_loops::{Endpoint, Place, Roster, RosterFull};
 use lb_servers::Mode;
 use lb_wire::ServerId;
+use std::process::Abort;
 use std::test::Fail;
 
 /// A place of a server without probes.
@@ -18,6 +19,10 @@ pub(crate) fn place(at: Endpoint) -> Place {
 #[test]
 fn servers_put_and_removed(rt: HostRuntime) -> Result<(), Fail> {
     let mut roster = Roster::made(rt.alloc())?;
+    expect_put_and_removed(&rt, &mut roster)
+}
+
+fn expect_put_and_removed<T: Abort + AllocGlobal>(rt: &T, roster: &mut Roster) -> Result<(), Fail> {
     assert!(rt; roster.put(ServerId(1), place(FIRST)).is_ok());
     assert_eq!(rt; roster.get(ServerId(1)), Some(place(FIRST)));
     assert_eq!(rt; roster.get(ServerId(2)), None);
@@ -29,6 +34,12 @@ fn servers_put_and_removed(rt: HostRuntime) -> Result<(), Fail> {
 #[test]
 fn a_full_roster(rt: HostRuntime) -> Result<(), Fail> {
     let mut roster = Roster::made(rt.alloc())?;
+    expect_filled(&rt, &mut roster)?;
+    let mut copy = Roster::made(rt.alloc())?;
+    expect_copied(&rt, &roster, &mut copy)
+}
+
+fn expect_filled<T: Abort + AllocGlobal>(rt: &T, roster: &mut Roster) -> Result<(), Fail> {
     for server in 1..=256u64 {
         assert!(rt;
             roster.put(ServerId(server), place(FIRST)).is_ok(),
@@ -38,8 +49,15 @@ fn a_full_roster(rt: HostRuntime) -> Result<(), Fail> {
     assert_eq!(rt; roster.put(ServerId(257), place(SECOND)), Err(RosterFull));
     assert!(rt; roster.put(ServerId(7), place(SECOND)).is_ok());
     assert_eq!(rt; roster.get(ServerId(7)), Some(place(SECOND)));
-    let mut copy = Roster::made(rt.alloc())?;
-    copy.copy_from(&roster);
+    Ok(())
+}
+
+fn expect_copied<T: Abort + AllocGlobal>(
+    rt: &T,
+    roster: &Roster,
+    copy: &mut Roster,
+) -> Result<(), Fail> {
+    copy.copy_from(roster);
     assert!(rt; copy.version() == roster.version() && copy.get(ServerId(256)).is_some());
     Ok(())
 }

@@ -28,17 +28,12 @@ pub(crate) struct Stepper {
 }
 
 impl Stepper {
-    /// A new balancer that has answered so many.
-    pub(crate) fn new(alloc: Global, answered: u64) -> Result<Stepper, AllocError> {
-        Ok(Stepper {
+    /// A new balancer that has answered so many, and then took these lines.
+    fn told(alloc: Global, answered: u64, lines: &[&str]) -> Result<Stepper, Fail> {
+        let mut stepper = Stepper {
             balancer: Balancer::new(alloc)?,
             answered,
-        })
-    }
-
-    /// A new balancer that took these lines.
-    pub(crate) fn told(alloc: Global, lines: &[&str]) -> Result<Stepper, Fail> {
-        let mut stepper = Stepper::new(alloc, 0)?;
+        };
         tell(&mut stepper, alloc, lines)?;
         Ok(stepper)
     }
@@ -103,19 +98,14 @@ pub(crate) struct Scene<'a, R: Wait> {
 
 impl<'a, R: Wait> Scene<'a, R> {
     /// These datagrams come, all of them so often. Moments begin with 1, and words with 16; the ask of this number fails.
-    pub(crate) fn new(
+    fn new(
         rt: &'a R,
         alloc: Global,
-        (packets, times): (&[Packet], usize),
+        comes: (&[Packet], usize),
         failing: Failing,
         failing_ask: u64,
     ) -> Result<Scene<'a, R>, Fail> {
-        let mut coming = VecDeque::new(alloc);
-        for _ in 0..times {
-            for packet in packets {
-                coming.push_back(datagram(alloc, packet)?)?;
-            }
-        }
+        let coming = coming(alloc, comes)?;
         let kept = Arc::new(alloc, Mutex::new(Vec::new(alloc)))?;
         let theirs = Arc::try_clone(&kept)?;
         Ok(Scene {
@@ -146,7 +136,7 @@ impl<'a, R: Wait> Scene<'a, R> {
     }
 
     /// How many lines a report has, whose room goes to the next turn.
-    pub(crate) fn ended(&mut self, report: Report) -> usize {
+    fn ended(&mut self, report: Report) -> usize {
         let lines = report.lines.len();
         self.spare.take_back(report.lines);
         lines
@@ -172,6 +162,83 @@ impl<'a, R: Wait> Scene<'a, R> {
         let kept = self.kept.lock(rt);
         kept.len() == times && kept.iter().all(|datagram| is(datagram, packet))
     }
+}
+
+/// What a stage begins with.
+#[derive(Clone, Copy)]
+pub(crate) struct Setting {
+    /// How many events the balancer has answered.
+    pub(crate) answered: u64,
+    /// What it is told then.
+    pub(crate) lines: &'static [&'static str],
+    /// The datagrams that come, and how often.
+    pub(crate) comes: (&'static [Packet], usize),
+    pub(crate) failing: Failing,
+    /// The ask for a moment that fails.
+    pub(crate) failing_ask: u64,
+}
+
+/// A scene, a balancer, and what its last turn reported.
+#[derive(Drop)]
+pub(crate) struct Stage<'a, R: Wait> {
+    pub(crate) scene: Scene<'a, R>,
+    pub(crate) stepper: Stepper,
+    pub(crate) report: Report,
+}
+
+impl<'a, R: Wait> Stage<'a, R> {
+    /// A stage that had no turn.
+    pub(crate) fn new(rt: &'a R, alloc: Global, setting: Setting) -> Result<Stage<'a, R>, Fail> {
+        let stepper = Stepper::told(alloc, setting.answered, setting.lines)?;
+        let scene = Scene::new(
+            rt,
+            alloc,
+            setting.comes,
+            setting.failing,
+            setting.failing_ask,
+        )?;
+        Ok(Stage {
+            scene,
+            stepper,
+            report: no_report(alloc),
+        })
+    }
+
+    /// One turn.
+    pub(crate) fn turn(&mut self, gate: &HoldsFrom) -> Result<(), AllocError> {
+        self.report = self.scene.turn(&mut self.stepper, gate)?;
+        Ok(())
+    }
+
+    /// One turn, of whose report the room goes to the next one. How many lines it had.
+    pub(crate) fn ended_turn(&mut self) -> Result<usize, AllocError> {
+        let report = self.scene.turn(&mut self.stepper, &OPEN)?;
+        Ok(self.scene.ended(report))
+    }
+}
+
+/// What is reported of no turn.
+fn no_report(alloc: Global) -> Report {
+    Report {
+        lines: Vec::new(alloc),
+        device: None,
+        is_held: false,
+        held: None,
+    }
+}
+
+/// These datagrams, all of them so often.
+fn coming(
+    alloc: Global,
+    (packets, times): (&[Packet], usize),
+) -> Result<VecDeque<Datagram>, AllocError> {
+    let mut coming = VecDeque::new(alloc);
+    for _ in 0..times {
+        for packet in packets {
+            coming.push_back(datagram(alloc, packet)?)?;
+        }
+    }
+    Ok(coming)
 }
 
 fn datagram(alloc: Global, (socket, peer, bytes): &Packet) -> Result<Datagram, AllocError> {

@@ -1,4 +1,4 @@
-//! Turns of datagrams.
+//! Turns of datagrams. One function has a stage for them, and lends it to what each test wants.
 
 use crate::desks::turn_at_desk;
 use crate::messages::{
@@ -7,7 +7,7 @@ use crate::messages::{
 };
 use crate::rosters::place;
 use crate::scene::{
-    DONE, HoldsFrom, OPEN, Packet, Scene, Stepper, reports, reports_done, sending_of, tell,
+    DONE, HoldsFrom, OPEN, Packet, Setting, Stage, reports, reports_done, sending_of, tell,
 };
 use lb_core::Answer;
 use lb_desk::DeskFault;
@@ -15,7 +15,8 @@ use lb_loops::{DeviceFault, Line, Outcome, Place, Report, Sending, Socket, Why};
 use lb_memory::Failing;
 use lb_servers::Mode;
 use lb_wire::ServerId;
-use std::alloc::{AllocError, Global};
+use std::alloc::Global;
+use std::process::Abort;
 use std::sync::Wait;
 use std::test::Fail;
 
@@ -113,52 +114,109 @@ const GONE: &[Sending] = &[Sending::Failed(Why::NoServer), Sending::Failed(Why::
 /// What it says where the first of three events is answered.
 const ONE_DONE: &[Sending] = &[DONE, Sending::Nothing, Sending::Nothing];
 
-/// A scene whose first turn is over, at a balancer that was told both servers and the rule.
-#[derive(Drop)]
-struct FirstTurn<'a, R: Wait> {
-    scene: Scene<'a, R>,
-    stepper: Stepper,
-    report: Report,
+/// Ten queries that the rule answers, and nothing fails.
+const TEN: Setting = Setting {
+    answered: 0,
+    lines: LINES,
+    comes: (ASKED, 10),
+    failing: NEVER,
+    failing_ask: 0,
+};
+
+/// What is wanted of a stage.
+#[derive(Clone, Copy)]
+enum Part {
+    /// A turn of what comes to all.
+    All,
+    /// The same at a desk.
+    AllAtDesk,
+    /// A turn of ten queries, whose read of this number fails.
+    FailedRead(u64),
+    /// The same, where the send of this number fails.
+    FailedSend(u64),
+    /// A turn that ends before the query of this number, with this device fault, and the next one.
+    Early(u64, Option<DeviceFault>),
+    /// How many lines each of two turns has, and how many datagrams are left then.
+    Queue((usize, usize), (usize, usize)),
+    /// A turn, and one before which server 1 is put down.
+    Mode,
+    /// A turn for which server 1 is removed.
+    Gone,
+    /// A turn at a desk that takes no event.
+    CountFull,
+    /// A turn with a gate that holds the third query, and one with none.
+    Held,
+    /// Three turns.
+    Growth,
 }
 
-/// These datagrams come, all of them so often.
-fn turned<'a, R: Wait>(
-    rt: &'a R,
-    alloc: Global,
-    comes: (&[Packet], usize),
-    failing: Failing,
-    failing_ask: u64,
-) -> Result<FirstTurn<'a, R>, Fail> {
-    let mut stepper = Stepper::told(alloc, LINES)?;
-    let mut scene = Scene::new(rt, alloc, comes, failing, failing_ask)?;
-    let report = scene.turn(&mut stepper, &OPEN)?;
-    Ok(FirstTurn {
-        scene,
-        stepper,
-        report,
-    })
+/// Plays a part on a new stage. No other function has one: each part has it lent.
+fn play<R: Abort + AllocGlobal + Wait + Eprint>(
+    rt: &R,
+    setting: Setting,
+    part: Part,
+) -> Result<(), Fail> {
+    let mut stage = Stage::new(rt, rt.alloc(), setting)?;
+    expect(rt, &mut stage, part)
+}
+
+fn expect<R: Abort + AllocGlobal + Wait + Eprint>(
+    rt: &R,
+    stage: &mut Stage<'_, R>,
+    part: Part,
+) -> Result<(), Fail> {
+    match part {
+        Part::All => expect_all(rt, stage),
+        Part::AllAtDesk => expect_all_at_desk(rt, stage),
+        Part::FailedRead(k) => expect_failed_read(rt, stage, k),
+        Part::FailedSend(k) => expect_failed_send(rt, stage, k),
+        Part::Early(k, device) => expect_early(rt, stage, k, device),
+        Part::Queue(first, second) => expect_queue(rt, stage, (first, second)),
+        Part::Mode => expect_mode(rt, stage),
+        Part::Gone => expect_gone(rt, stage),
+        Part::CountFull => expect_count_full(rt, stage),
+        Part::Held => expect_held(rt, stage),
+        Part::Growth => expect_growth(rt, stage),
+    }
 }
 
 #[test]
 fn listeners_servers_and_a_stranger(rt: HostRuntime) -> Result<(), Fail> {
-    let turned = turned(&rt, rt.alloc(), (COMING, 1), NEVER, 0)?;
+    let comes = (COMING, 1);
+    play(&rt, Setting { comes, ..TEN }, Part::All)
+}
+
+fn expect_all<R: Abort + AllocGlobal + Wait>(rt: &R, stage: &mut Stage<'_, R>) -> Result<(), Fail> {
+    stage.turn(&OPEN)?;
+    expect_taken(rt, stage)
+}
+
+fn expect_taken<R: Abort + AllocGlobal + Wait>(
+    rt: &R,
+    stage: &mut Stage<'_, R>,
+) -> Result<(), Fail> {
     assert!(rt;
-        reports(&turned.report, None, SENDINGS),
+        reports(&stage.report, None, SENDINGS),
         "{:?}",
-        turned.report
+        stage.report
     );
-    assert!(rt; turned.scene.took(&rt, TAKEN), "{:?}", turned.report);
+    assert!(rt; stage.scene.took(rt, TAKEN), "{:?}", stage.report);
     Ok(())
 }
 
 /// The same at a desk.
 #[test]
 fn a_turn_at_a_desk(rt: HostRuntime) -> Result<(), Fail> {
-    let mut scene = Scene::new(&rt, rt.alloc(), (COMING, 1), NEVER, 0)?;
-    let report = turn_at_desk(&rt, rt.alloc(), LINES, &mut scene)?;
-    assert!(rt; reports(&report, None, SENDINGS), "{report:?}");
-    assert!(rt; scene.took(&rt, TAKEN), "{report:?}");
-    Ok(())
+    let comes = (COMING, 1);
+    play(&rt, Setting { comes, ..TEN }, Part::AllAtDesk)
+}
+
+fn expect_all_at_desk<R: Abort + AllocGlobal + Wait>(
+    rt: &R,
+    stage: &mut Stage<'_, R>,
+) -> Result<(), Fail> {
+    stage.report = turn_at_desk(rt, rt.alloc(), LINES, &mut stage.scene)?;
+    expect_taken(rt, stage)
 }
 
 /// The device fault of a turn whose k-th of so many calls fails.
@@ -172,14 +230,23 @@ fn fault_of(k: u64, calls: u64) -> Option<DeviceFault> {
 fn failed_reads(rt: HostRuntime) -> Result<(), Fail> {
     for k in 1..=13 {
         let failing = Failing { read: k, ..NEVER };
-        let turned = turned(&rt, rt.alloc(), (ASKED, 10), failing, 0)?;
-        assert!(rt;
-            reports_done(&turned.report, fault_of(k, 11), 10),
-            "{k}: {:?}",
-            turned.report
-        );
-        assert!(rt; turned.scene.took_all(&rt, &ANSWERED, 10), "{k}");
+        play(&rt, Setting { failing, ..TEN }, Part::FailedRead(k))?;
     }
+    Ok(())
+}
+
+fn expect_failed_read<R: Abort + AllocGlobal + Wait>(
+    rt: &R,
+    stage: &mut Stage<'_, R>,
+    k: u64,
+) -> Result<(), Fail> {
+    stage.turn(&OPEN)?;
+    assert!(rt;
+        reports_done(&stage.report, fault_of(k, 11), 10),
+        "{k}: {:?}",
+        stage.report
+    );
+    assert!(rt; stage.scene.took_all(rt, &ANSWERED, 10), "{k}");
     Ok(())
 }
 
@@ -188,15 +255,24 @@ fn failed_reads(rt: HostRuntime) -> Result<(), Fail> {
 fn failed_sends(rt: HostRuntime) -> Result<(), Fail> {
     for k in 1..=12 {
         let failing = Failing { send: k, ..NEVER };
-        let turned = turned(&rt, rt.alloc(), (ASKED, 10), failing, 0)?;
-        assert!(rt;
-            reports_odd(&turned.report, k, fault_of(k, 10)),
-            "{k}: {:?}",
-            turned.report
-        );
-        let taken = if k <= 10 { 9 } else { 10 };
-        assert!(rt; turned.scene.took_all(&rt, &ANSWERED, taken), "{k}");
+        play(&rt, Setting { failing, ..TEN }, Part::FailedSend(k))?;
     }
+    Ok(())
+}
+
+fn expect_failed_send<R: Abort + AllocGlobal + Wait>(
+    rt: &R,
+    stage: &mut Stage<'_, R>,
+    k: u64,
+) -> Result<(), Fail> {
+    stage.turn(&OPEN)?;
+    assert!(rt;
+        reports_odd(&stage.report, k, fault_of(k, 10)),
+        "{k}: {:?}",
+        stage.report
+    );
+    let taken = if k <= 10 { 9 } else { 10 };
+    assert!(rt; stage.scene.took_all(rt, &ANSWERED, taken), "{k}");
     Ok(())
 }
 
@@ -225,8 +301,7 @@ fn refused_reads(rt: HostRuntime) -> Result<(), Fail> {
             refused: k,
             ..NEVER
         };
-        let turned = turned(&rt, rt.alloc(), (ASKED, 10), failing, 0)?;
-        assert!(rt; ends_early(turned, k, None)?, "{k}");
+        play(&rt, Setting { failing, ..TEN }, Part::Early(k, None))?;
     }
     Ok(())
 }
@@ -234,112 +309,152 @@ fn refused_reads(rt: HostRuntime) -> Result<(), Fail> {
 /// The moment of each number is not to be had. The turn ends there with a device fault, and nothing is read with the last moment.
 #[test]
 fn failed_moments(rt: HostRuntime) -> Result<(), Fail> {
-    for k in 1..=10 {
-        let turned = turned(&rt, rt.alloc(), (ASKED, 10), NEVER, k)?;
-        assert!(rt; ends_early(turned, k, Some(DeviceFault::Outside))?, "{k}");
+    for failing_ask in 1..=10 {
+        let part = Part::Early(failing_ask, Some(DeviceFault::Outside));
+        play(&rt, Setting { failing_ask, ..TEN }, part)?;
     }
     Ok(())
 }
 
-/// Whether a turn ended before the k-th of ten queries with this device fault, and the next one has the others.
-fn ends_early<R: Wait>(
-    turned: FirstTurn<'_, R>,
+/// A turn ends before the k-th of ten queries with this device fault, and the next one has the others.
+fn expect_early<R: Abort + AllocGlobal + Wait>(
+    rt: &R,
+    stage: &mut Stage<'_, R>,
     k: u64,
     device: Option<DeviceFault>,
-) -> Result<bool, AllocError> {
-    let FirstTurn {
-        mut scene,
-        mut stepper,
-        report,
-    } = turned;
-    let left = scene.waiting();
-    let second = scene.turn(&mut stepper, &OPEN)?;
-    Ok(
-        reports_done(&report, device, 10usize.saturating_sub(left))
-            && report.lines.len() as u64 + 1 == k
-            && reports_done(&second, None, left),
-    )
+) -> Result<(), Fail> {
+    stage.turn(&OPEN)?;
+    let left = stage.scene.waiting();
+    assert!(rt; is_early(&stage.report, k, device, left), "{k}");
+    stage.turn(&OPEN)?;
+    assert!(rt; reports_done(&stage.report, None, left), "{k}");
+    Ok(())
+}
+
+/// Whether a report is of a turn that ended so, with so many datagrams left.
+fn is_early(report: &Report, k: u64, device: Option<DeviceFault>, left: usize) -> bool {
+    reports_done(report, device, 10usize.saturating_sub(left)) && report.lines.len() as u64 + 1 == k
 }
 
 /// 64 datagrams a turn are read, and 64 events are answered.
 #[test]
 fn long_queues(rt: HostRuntime) -> Result<(), Fail> {
-    let strangers = two_turns(&rt, rt.alloc(), (STRANGE, 100))?;
-    assert!(rt; strangers == ((0, 36), (0, 0)), "{strangers:?}");
-    let asked = two_turns(&rt, rt.alloc(), (ASKED, 65))?;
-    assert!(rt; asked == ((64, 1), (1, 0)), "{asked:?}");
-    Ok(())
+    let comes = (STRANGE, 100);
+    let strangers = Part::Queue((0, 36), (0, 0));
+    play(&rt, Setting { comes, ..TEN }, strangers)?;
+    let comes = (ASKED, 65);
+    let asked = Part::Queue((64, 1), (1, 0));
+    play(&rt, Setting { comes, ..TEN }, asked)
 }
 
-/// How many lines each of two turns has, and how many datagrams are left then.
-fn two_turns<R: Wait>(
+fn expect_queue<R: Abort + AllocGlobal + Wait>(
     rt: &R,
-    alloc: Global,
-    comes: (&[Packet], usize),
-) -> Result<((usize, usize), (usize, usize)), Fail> {
-    let FirstTurn {
-        mut scene,
-        mut stepper,
-        report,
-    } = turned(rt, alloc, comes, NEVER, 0)?;
-    let first = (scene.ended(report), scene.waiting());
-    let report = scene.turn(&mut stepper, &OPEN)?;
-    Ok((first, (scene.ended(report), scene.waiting())))
+    stage: &mut Stage<'_, R>,
+    wanted: ((usize, usize), (usize, usize)),
+) -> Result<(), Fail> {
+    let first = (stage.ended_turn()?, stage.scene.waiting());
+    let second = (stage.ended_turn()?, stage.scene.waiting());
+    let turns = (first, second);
+    assert!(rt; turns == wanted, "{turns:?}");
+    Ok(())
 }
 
 /// A server's mode changes between a query and its reply, which is delivered all the same.
 #[test]
 fn a_mode_meanwhile(rt: HostRuntime) -> Result<(), Fail> {
+    let comes = (FORWARDED, 1);
     let failing = Failing {
         refused: 2,
         ..NEVER
     };
-    let mut turned = turned(&rt, rt.alloc(), (FORWARDED, 1), failing, 0)?;
-    assert!(rt;
-        reports_done(&turned.report, None, 1),
-        "{:?}",
-        turned.report
-    );
-    let report = turn_in_mode(rt.alloc(), &mut turned)?;
-    assert!(rt; reports_done(&report, None, 1), "{report:?}");
-    assert!(rt; turned.scene.took(&rt, DELIVERIES));
+    let setting = Setting {
+        comes,
+        failing,
+        ..TEN
+    };
+    play(&rt, setting, Part::Mode)
+}
+
+fn expect_mode<R: Abort + AllocGlobal + Wait>(
+    rt: &R,
+    stage: &mut Stage<'_, R>,
+) -> Result<(), Fail> {
+    stage.turn(&OPEN)?;
+    expect_one_done(rt, stage)?;
+    put_down(rt.alloc(), stage)?;
+    stage.turn(&OPEN)?;
+    expect_one_done(rt, stage)?;
+    assert!(rt; stage.scene.took(rt, DELIVERIES));
     Ok(())
 }
 
-/// The next turn, before which server 1 is put down.
-fn turn_in_mode<R: Wait>(alloc: Global, turned: &mut FirstTurn<'_, R>) -> Result<Report, Fail> {
-    tell(&mut turned.stepper, alloc, &["edit 0 server mode s1 down"])?;
+fn expect_one_done<R: Abort + AllocGlobal + Wait>(
+    rt: &R,
+    stage: &mut Stage<'_, R>,
+) -> Result<(), Fail> {
+    assert!(rt; reports_done(&stage.report, None, 1), "{:?}", stage.report);
+    Ok(())
+}
+
+/// Puts server 1 down.
+fn put_down<R: Wait>(alloc: Global, stage: &mut Stage<'_, R>) -> Result<(), Fail> {
+    tell(&mut stage.stepper, alloc, &["edit 0 server mode s1 down"])?;
     let place = Place {
         mode: Mode::Down,
         ..place(FIRST)
     };
-    if turned.scene.roster.put(ServerId(1), place).is_err() {
+    if stage.scene.roster.put(ServerId(1), place).is_err() {
         return Err(Fail::from("a full roster"));
     }
-    Ok(turned.scene.turn(&mut turned.stepper, &OPEN)?)
+    Ok(())
 }
 
 /// A server that the roster has no longer, and a listener that is not there.
 #[test]
 fn ways_that_are_gone(rt: HostRuntime) -> Result<(), Fail> {
-    let mut stepper = Stepper::told(rt.alloc(), LINES)?;
-    let mut scene = Scene::new(&rt, rt.alloc(), (ASTRAY, 1), NEVER, 0)?;
-    scene.roster.remove(ServerId(1));
-    let report = scene.turn(&mut stepper, &OPEN)?;
-    assert!(rt; reports(&report, None, GONE), "{report:?}");
-    assert!(rt; scene.took(&rt, &[]));
+    let comes = (ASTRAY, 1);
+    play(&rt, Setting { comes, ..TEN }, Part::Gone)
+}
+
+fn expect_gone<R: Abort + AllocGlobal + Wait>(
+    rt: &R,
+    stage: &mut Stage<'_, R>,
+) -> Result<(), Fail> {
+    stage.scene.roster.remove(ServerId(1));
+    stage.turn(&OPEN)?;
+    assert!(rt; reports(&stage.report, None, GONE), "{:?}", stage.report);
+    assert!(rt; stage.scene.took(rt, &[]));
     Ok(())
 }
 
 /// The desk takes no event: a query that reads is answered ServFail, and nothing else is answered.
 #[test]
 fn a_full_count(rt: HostRuntime) -> Result<(), Fail> {
-    let mut stepper = Stepper::new(rt.alloc(), u64::MAX)?;
-    let mut scene = Scene::new(&rt, rt.alloc(), (MIXED, 1), NEVER, 0)?;
-    let report = scene.turn(&mut stepper, &OPEN)?;
-    assert!(rt; report.lines.iter().all(is_count_full), "{report:?}");
-    assert!(rt; reports(&report, None, ONE_DONE), "{report:?}");
-    assert!(rt; scene.took_all(&rt, &EXCUSED, 1));
+    let setting = Setting {
+        answered: u64::MAX,
+        lines: &[],
+        comes: (MIXED, 1),
+        ..TEN
+    };
+    play(&rt, setting, Part::CountFull)
+}
+
+fn expect_count_full<R: Abort + AllocGlobal + Wait>(
+    rt: &R,
+    stage: &mut Stage<'_, R>,
+) -> Result<(), Fail> {
+    stage.turn(&OPEN)?;
+    assert!(rt;
+        stage.report.lines.iter().all(is_count_full),
+        "{:?}",
+        stage.report
+    );
+    assert!(rt;
+        reports(&stage.report, None, ONE_DONE),
+        "{:?}",
+        stage.report
+    );
+    assert!(rt; stage.scene.took_all(rt, &EXCUSED, 1));
     Ok(())
 }
 
@@ -353,17 +468,24 @@ fn is_count_full(line: &Line) -> bool {
 /// A gate holds the third query: it stands in the report, and the next turn goes on behind it.
 #[test]
 fn a_gate_that_holds(rt: HostRuntime) -> Result<(), Fail> {
-    let mut stepper = Stepper::told(rt.alloc(), LINES)?;
-    let mut scene = Scene::new(&rt, rt.alloc(), (ASKED, 10), NEVER, 0)?;
-    let report = scene.turn(&mut stepper, &HoldsFrom(3))?;
+    play(&rt, TEN, Part::Held)
+}
+
+fn expect_held<R: Abort + AllocGlobal + Wait>(
+    rt: &R,
+    stage: &mut Stage<'_, R>,
+) -> Result<(), Fail> {
+    stage.turn(&HoldsFrom(3))?;
     assert!(rt;
-        holds_at(&report, 3) && reports_done(&report, None, 2),
-        "{report:?}"
+        holds_at(&stage.report, 3) && reports_done(&stage.report, None, 2),
+        "{:?}",
+        stage.report
     );
-    let report = scene.turn(&mut stepper, &OPEN)?;
+    stage.turn(&OPEN)?;
     assert!(rt;
-        !report.is_held && reports_done(&report, None, 7),
-        "{report:?}"
+        !stage.report.is_held && reports_done(&stage.report, None, 7),
+        "{:?}",
+        stage.report
     );
     Ok(())
 }
@@ -377,27 +499,38 @@ fn holds_at(report: &Report, now: u64) -> bool {
 /// most, and no query is lost.
 #[test]
 fn a_growth_refused(rt: HostRuntime) -> Result<(), Fail> {
-    let mut stepper = Stepper::told(rt.alloc(), LINES)?;
-    let mut scene = Scene::new(&rt, rt.alloc(), (ASKED, 3), NEVER, 0)?;
+    let comes = (ASKED, 3);
+    play(&rt, Setting { comes, ..TEN }, Part::Growth)
+}
+
+fn expect_growth<R: Abort + AllocGlobal + Wait + Eprint>(
+    rt: &R,
+    stage: &mut Stage<'_, R>,
+) -> Result<(), Fail> {
     let (mut turns, mut seen, mut wanting) = (0u32, 0usize, 0usize);
     for _ in 0..3 {
-        turns = turns.saturating_add(u32::from(scene.waiting() > 0));
-        let (lines, lacking) = counts_of(scene.turn(&mut stepper, &OPEN));
+        turns = turns.saturating_add(u32::from(stage.scene.waiting() > 0));
+        let (lines, lacking) = counts_of_turn(stage);
         seen = seen.saturating_add(lines);
         wanting = wanting.saturating_add(lacking);
-        assert!(rt; scene.waiting().saturating_add(seen) == 3, "{seen}");
+        assert!(rt; stage.scene.waiting().saturating_add(seen) == 3, "{seen}");
     }
     assert!(rt; seen == 3 && wanting <= 1, "{seen} {wanting}");
-    assert!(rt; has_told(&rt, turns, wanting));
+    assert!(rt; has_told(rt, turns, wanting));
     Ok(())
 }
 
-/// How many lines a report has, and how many of them show want of memory; none where there was no room for it.
-fn counts_of(report: Result<Report, AllocError>) -> (usize, usize) {
-    match report {
-        Ok(report) => (
-            report.lines.len(),
-            report.lines.iter().filter(|line| is_wanting(line)).count(),
+/// How many lines the report of a turn has, and how many of them show want of memory; none where there was no room for it.
+fn counts_of_turn<R: Wait>(stage: &mut Stage<'_, R>) -> (usize, usize) {
+    match stage.turn(&OPEN) {
+        Ok(()) => (
+            stage.report.lines.len(),
+            stage
+                .report
+                .lines
+                .iter()
+                .filter(|line| is_wanting(line))
+                .count(),
         ),
         Err(_) => (0, 0),
     }

@@ -1,5 +1,5 @@
 use Rattle.lb_core.specs.Snapshot.{snapshot_of}
-use Rattle.lb_desk_tests.proofs.rounds.go_round.Given as goal
+use Rattle.lb_loops_tests.proofs.rounds.go_round.Given as goal
 
 abbrev pub ghosts-gone_round-J-Ledger : goal.ghosts-gone_round-J-Ledger
 ghosts-gone_round-J-Ledger g a = record { name = a.blank.name; parts = a.blank.parts }

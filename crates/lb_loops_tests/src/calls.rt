@@ -6,6 +6,7 @@ use lb_core::{Answer, DropReason, Event, Note};
 use lb_desk::{Audit, CloseFault, Entry, SeatId};
 use lb_wire::RuleId;
 use std::alloc::{AllocError, Global};
+use std::process::Abort;
 use std::test::Fail;
 
 /// How many calls a desk counted, and how many its log has.
@@ -85,7 +86,11 @@ fn a_refused_call_changes_nothing(rt: HostRuntime) -> Result<(), Fail> {
 fn two_threads_share_a_desk(rt: HostRuntime) -> Result<(), Fail> {
     let both = Round::Two(Caller::Asks(100), Caller::Edits(100));
     let audit = audit(go_round(&rt, rt.alloc(), 2, 1000, &[both])?)?;
-    let counts = (audit.count, calls_of(&audit, 0), calls_of(&audit, 1));
+    expect_shared(&rt, &audit)
+}
+
+fn expect_shared<T: Abort + AllocGlobal>(rt: &T, audit: &Audit) -> Result<(), Fail> {
+    let counts = (audit.count, calls_of(audit, 0), calls_of(audit, 1));
     assert!(rt; counts == (200, 100, 100), "{counts:?}");
     assert!(rt; are_copied(rt.alloc(), audit.log.as_slice())?);
     Ok(())
