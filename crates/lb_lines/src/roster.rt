@@ -1,7 +1,8 @@
 //! Where servers are.
 
-ghost use Rattle.std.specs.Prelude.{[], IfOk, IsErr, None, OnErr, OnOk, Some, if◌then◌else◌, length, vec_capacity, vec_len, ◌==◌, ◌↔◌, ◌≡◌, ◌≤◌};
+ghost use Rattle.std.specs.Prelude.{[], IfOk, IsErr, None, OnErr, OnOk, Some, if◌then◌else◌, length, option_map, slice_get, vec_capacity, vec_len, ◌==◌, ◌↔◌, ◌≡◌, ◌≤◌};
 ghost use Rattle.lb_lines.specs.Roster.{AreApart, most_servers, next_version, others, place_in};
+ghost use Rattle.lb_lines.specs.declared.roster.Listed.{Listed};
 ghost use Rattle.lb_wire.specs.declared.ids.ServerId.{ServerId};
 
 use crate::endpoint::Endpoint;
@@ -98,6 +99,23 @@ impl Roster {
             .iter()
             .find(|listed| listed.server.0 == server.0)
             .map(|listed| listed.place)
+    }
+
+    /// How many servers there are.
+    pub fn len(&self) -> usize
+        ensures { result ≡ length self.now.listed }
+    {
+        self.listed.len()
+    }
+
+    /// The server at a place of the list, from 0, and where it is. None behind the last one.
+    pub fn nth(&self, index: usize) -> Option<(ServerId, Place)>
+        ensures { result ≡ option_map (λ (l : Listed). (l.server, l.place)) (slice_get self.now.listed index) }
+    {
+        match self.listed.get(index) {
+            Some(listed) => Some((listed.server, listed.place)),
+            None => None,
+        }
     }
 
     /// How often it was changed; 2^64-1 is followed by 0. Two copies of one roster with one version are equal.

@@ -1,0 +1,4 @@
+-- shared by several files: Lines
+pub mod Lines
+pub mod News
+pub mod Turn

@@ -1,0 +1,142 @@
+-- The lines of a turn of the clock.
+use Rattle.std.specs.Prelude.{◌≡◌, ℕ, Bool, true, false, List, [], ◌∷◌, Option, Some, None, flat_map, option_map, option_to_list, slice_get, if◌then◌else◌, ◌==◌}
+use Rattle.lb_core.specs.declared.event.Event.{Event}
+use Rattle.lb_core.specs.declared.event.Event.TheVariants.{HealthResult, Tick}
+use Rattle.lb_health.specs.Probes.{probe_octets}
+use Rattle.lb_lines.specs.Counts.{Fails}
+use Rattle.lb_lines.specs.Letter.{IsOutcome, Letter, outcome_letter}
+use Rattle.lb_lines.specs.Roster.{end_of, place_in}
+use Rattle.lb_lines.specs.Ways.{letter_of, packet_in, posts}
+use Rattle.lb_wire.specs.declared.addr.Origin.{Origin}
+use Rattle.lb_lines.specs.declared.endpoint.Endpoint.{Endpoint}
+use Rattle.lb_lines.specs.declared.letter.End.TheVariants.{Client, Server}
+use Rattle.lb_lines.specs.declared.report.Line.{Line}
+use Rattle.lb_lines.specs.declared.report.Line.TheVariants as lines
+use Rattle.lb_lines.specs.declared.report.Sending.{Sending}
+use Rattle.lb_lines.specs.declared.report.Sending.TheVariants.{Done, Failed, Nothing}
+use Rattle.lb_lines.specs.declared.report.Source.{Source}
+use Rattle.lb_lines.specs.declared.report.Source.TheVariants as sources
+use Rattle.lb_lines.specs.declared.report.Way.{Way}
+use Rattle.lb_lines.specs.declared.report.Way.TheVariants as ways
+use Rattle.lb_lines.specs.declared.report.Why.{Why}
+use Rattle.lb_lines.specs.declared.report.Why.TheVariants as whys
+use Rattle.lb_lines.specs.declared.roster.Listed.{Listed}
+use Rattle.lb_lines.specs.declared.roster.Place.{Place}
+use Rattle.lb_lines.specs.declared.traffic.Datagram.{Datagram}
+use Rattle.lb_lines.specs.declared.traffic.Front.{Front}
+use Rattle.lb_lines.specs.declared.traffic.Front.TheVariants as fronts
+use Rattle.lb_lines.specs.declared.traffic.Socket.TheVariants as sockets
+use Rattle.lb_servers.specs.declared.server.Mode.TheVariants as modes
+use Rattle.lb_wire.specs.declared.ids.ServerId.{ServerId}
+
+-- the way to a client that asked by this listener, in this slot: its datagrams have slot 0; a console, and no listener, is no way
+abbrev pub way_to : Option Front → ℕ → Option Way
+way_to (Some fronts.Datagram) slot = if slot == 0 then Some ways.Datagram else None
+way_to (Some fronts.Stream) slot = Some ways.Outbox
+way_to (Some fronts.Http) slot = Some ways.Post
+way_to (Some fronts.Console) slot = None
+way_to None slot = None
+
+-- the way of a letter: to a client by what its listener is; to a server there is none
+abbrev pub way_of : List Front → Letter → Option Way
+way_of listens (Client origin, bytes) = way_to (slice_get listens origin.front) origin.slot
+way_of listens (Server server lane, bytes) = None
+
+-- whether the sockets have the listener of a letter
+abbrev pub is_listened : (ℕ → Bool) → Letter → Bool
+is_listened listens (Client origin, bytes) = listens origin.front
+is_listened listens (Server server lane, bytes) = false
+
+-- there is no way, or the request had ended, or the sockets have no such listener
+abbrev pub IsGone : Option Way → Bool → Type 0
+IsGone None there = Unit {0}
+IsGone (Some ways.Datagram) there = there ≡ false
+IsGone (Some ways.Post) there = Unit {0}
+IsGone (Some ways.Outbox) there = ⊥
+IsGone (Some (ways.Connection n)) there = ⊥
+
+-- why a letter with this way is not sent: the outbox was full, a socket failed, memory was wanting, or it was gone
+abbrev pub Fits : Option Way → Bool → Why → Type 0
+Fits way there whys.NoServer = ⊥
+Fits way there whys.Gone = IsGone way there
+Fits way there whys.Limit = ⊥
+Fits way there whys.Full = way ≡ Some ways.Outbox
+Fits way there whys.Device = way ≡ Some ways.Datagram
+Fits way there whys.NoMemory = Unit {0}
+
+-- what comes of the send of a letter: it went its way, or failed for a cause
+abbrev pub ComesBy : Option Way → Bool → Sending → Type 0
+ComesBy way there Nothing = ⊥
+ComesBy way there (Done by) = way ≡ Some by
+ComesBy way there (Failed why) = Fits way there why
+
+-- what comes of a send: nothing where there is no letter
+abbrev pub Comes : List Front → (ℕ → Bool) → Option Letter → Sending → Type 0
+Comes listens there None sending = sending ≡ Nothing
+Comes listens there (Some letter) sending = ComesBy (way_of listens letter) (is_listened there letter) sending
+
+-- the events of the clock: a tick, and the result of a probe of that server
+abbrev pub IsFrom : Source → Event → Type 0
+IsFrom sources.Clock (Tick now) = Unit {0}
+IsFrom (sources.Probe server word) (HealthResult now of ok) = of ≡ server
+IsFrom _ _ = ⊥
+
+-- what comes of the send of a probe: a socket took it or failed, or memory was wanting
+abbrev pub ProbeComes : Sending → Type 0
+ProbeComes (Done ways.Datagram) = Unit {0}
+ProbeComes (Failed whys.Device) = Unit {0}
+ProbeComes (Failed whys.NoMemory) = Unit {0}
+ProbeComes _ = ⊥
+
+-- the roster has a server in mode auto
+abbrev pub IsProbed : List Listed → ServerId → Type 0
+IsProbed roster server = (place : Place) × (place_in server roster ≡ Some place) × (place.mode ≡ modes.Auto)
+
+-- a line of the clock: an event with what came of it and of its send; or a probe of a server that the roster has in mode auto
+abbrev pub IsLine : List Listed → List Front → (ℕ → Bool) → Line → Type 0
+IsLine roster listens there (lines.Event source event outcome sending) = IsFrom source event × IsOutcome event outcome × Comes listens there (outcome_letter event outcome) sending
+IsLine roster listens there (lines.Probe server word sending) = ProbeComes sending × IsProbed roster server
+IsLine roster listens there (lines.Job job sending) = ⊥
+
+abbrev pub AreLines : List Listed → List Front → (ℕ → Bool) → List Line → Type 0
+AreLines roster listens there [] = Unit {0}
+AreLines roster listens there (line ∷ more) = IsLine roster listens there line × AreLines roster listens there more
+
+abbrev pub is_done : Sending → Bool
+is_done (Done way) = true
+is_done _ = false
+
+-- the datagram of a probe: from the server's socket to the end that the roster has of it
+abbrev pub probe_to : ServerId → ℕ → Endpoint → Datagram
+probe_to server word at = record { socket = sockets.Server server 0 at; peer = at; bytes = probe_octets word }
+
+abbrev pub probe_in : List Listed → ServerId → ℕ → Sending → List Datagram
+probe_in roster server word sending = if is_done sending then option_to_list (option_map (probe_to server word) (end_of server roster)) else []
+
+-- the datagram of a line whose send was done so: of a letter, or a probe
+abbrev pub datagram_in : List Listed → Line → List Datagram
+datagram_in roster (lines.Probe server word sending) = probe_in roster server word sending
+datagram_in roster (lines.Event source event outcome sending) = packet_in roster (outcome_letter event outcome) sending
+datagram_in roster (lines.Job job sending) = packet_in roster (letter_of (lines.Job job sending)) sending
+
+-- the datagrams of these lines, in order
+abbrev pub datagrams : List Listed → List Line → List Datagram
+datagrams roster = flat_map (datagram_in roster)
+
+-- a line of a probe
+abbrev pub probe_line : Line → List Line
+probe_line (lines.Probe server word sending) = lines.Probe server word sending ∷ []
+probe_line _ = []
+
+-- the probes of these lines, in order
+abbrev pub probes_in : List Line → List Line
+probes_in = flat_map probe_line
+
+-- a count of failures after a send: it rose where the send failed by a device, and is as it was else
+abbrev pub FailsBy : Bool → ℕ → ℕ → Type 0
+FailsBy true before after = Fails before after
+FailsBy false before after = after ≡ before
+
+-- what these lines handed to requests, in order
+abbrev pub handed_in : List Line → List (Origin × List ℕ)
+handed_in = posts

@@ -1,0 +1,175 @@
+//! What a turn of the clock sends.
+
+ghost use Rattle.std.specs.Prelude.{[], Bool, IfOk, List, None, Some, false, if◌then◌else◌, slice_get, ◌++◌, ◌==◌, ◌∷◌, ◌≡◌};
+ghost use Rattle.lb_clock.specs.Lines.{Comes, ComesBy, FailsBy, ProbeComes, is_done, probe_to};
+ghost use Rattle.lb_health.specs.Probes.{probe_octets};
+ghost use Rattle.lb_lines.specs.Letter.{outcome_letter};
+ghost use Rattle.lb_lines.specs.Lines.{is_by_device};
+ghost use Rattle.lb_lines.specs.Ways.{job_in, packet_in, post_in};
+ghost use Rattle.lb_lines.specs.declared.letter.End.TheVariants.{Client};
+ghost use Rattle.lb_lines.specs.declared.report.Way.TheVariants as ways;
+ghost use Rattle.lb_lines.specs.declared.roster.Listed.{Listed};
+
+use lb_core::{Answer, Event};
+use lb_health::probe;
+use lb_lines::{Datagrams, Endpoint, Front, Outcome, Posts, Sending, Socket, Way, Why};
+use lb_outbox::{Job, Sender};
+use lb_wire::{Octets, Origin, ServerId};
+use std::alloc::{AllocError, Global};
+use std::sync::Wait;
+
+/// Sends what came of an event: a message at most. The clock has no way to a server.
+pub(crate) fn send_outcome<R: Wait, S: Datagrams, P: Posts>(
+    rt: &R,
+    alloc: Global,
+    sockets: &mut S,
+    outbox: &mut Sender,
+    posts: &mut P,
+    listens: &[Front],
+    event: &Event,
+    outcome: &Outcome,
+) -> Sending
+    ensures comes { Comes listens.now (S.listens sockets.old) (outcome_letter event.now outcome.now) result }
+    ensures taken { (roster : List Listed) → S.taken sockets.new ≡ S.taken sockets.old ++ packet_in roster (outcome_letter event.now outcome.now) result }
+    ensures sent { outbox.new ≡ record outbox.old { sent = outbox.old.sent ++ job_in (outcome_letter event.now outcome.now) result } }
+    ensures handed { P.handed posts.new ≡ P.handed posts.old ++ post_in (outcome_letter event.now outcome.now) result }
+    ensures failed { FailsBy (is_by_device result) (S.failures sockets.old) (S.failures sockets.new) }
+    ensures same { (S.given sockets.new ≡ S.given sockets.old) × (S.listens sockets.new ≡ S.listens sockets.old) }
+{
+    match outcome {
+        Outcome::Answered(Answer::Local(bytes, _) | Answer::NoMemory(bytes))
+        | Outcome::Fault(_, Some(bytes)) => match event {
+            Event::Query { origin, .. } => {
+                send_to_client(rt, alloc, sockets, outbox, posts, listens, *origin, bytes)
+            }
+            _ => Sending::Nothing,
+        },
+        Outcome::Answered(Answer::Forward(..)) => Sending::Failed(Why::Gone),
+        Outcome::Answered(Answer::Deliver(origin, bytes, _) | Answer::Expired(origin, bytes)) => {
+            send_to_client(rt, alloc, sockets, outbox, posts, listens, *origin, bytes)
+        }
+        _ => Sending::Nothing,
+    }
+}
+
+/// Sends a message to a client, by what its listener is.
+fn send_to_client<R: Wait, S: Datagrams, P: Posts>(
+    rt: &R,
+    alloc: Global,
+    sockets: &mut S,
+    outbox: &mut Sender,
+    posts: &mut P,
+    listens: &[Front],
+    origin: Origin,
+    bytes: &Octets,
+) -> Sending
+    ensures comes { Comes listens.now (S.listens sockets.old) (Some (Client origin, bytes.now)) result }
+    ensures taken { (roster : List Listed) → S.taken sockets.new ≡ S.taken sockets.old ++ packet_in roster (Some (Client origin, bytes.now)) result }
+    ensures sent { outbox.new ≡ record outbox.old { sent = outbox.old.sent ++ job_in (Some (Client origin, bytes.now)) result } }
+    ensures handed { P.handed posts.new ≡ P.handed posts.old ++ post_in (Some (Client origin, bytes.now)) result }
+    ensures failed { FailsBy (is_by_device result) (S.failures sockets.old) (S.failures sockets.new) }
+    ensures same { (S.given sockets.new ≡ S.given sockets.old) × (S.listens sockets.new ≡ S.listens sockets.old) }
+{
+    match front_of(listens, origin) {
+        None | Some(Front::Console) => Sending::Failed(Why::Gone),
+        Some(Front::Datagram) => send_packet(sockets, origin, bytes),
+        Some(Front::Stream) => send_job(rt, alloc, outbox, origin, bytes),
+        Some(Front::Http) => hand(posts, origin, bytes),
+    }
+}
+
+/// What listens at the place that a query came to.
+fn front_of(listens: &[Front], origin: Origin) -> Option<Front>
+    ensures { result ≡ slice_get listens.now origin.front }
+{
+    listens.get(usize::from(origin.front)).copied()
+}
+
+/// Sends a message by the listener's shared socket.
+fn send_packet<S: Datagrams>(sockets: &mut S, origin: Origin, bytes: &Octets) -> Sending
+    ensures comes { ComesBy (if origin.slot == 0 then Some ways.Datagram else None) (S.listens sockets.old origin.front) result }
+    ensures taken { (roster : List Listed) → S.taken sockets.new ≡ S.taken sockets.old ++ packet_in roster (Some (Client origin, bytes.now)) result }
+    ensures apart { (job_in (Some (Client origin, bytes.now)) result ≡ []) × (post_in (Some (Client origin, bytes.now)) result ≡ []) }
+    ensures failed { FailsBy (is_by_device result) (S.failures sockets.old) (S.failures sockets.new) }
+    ensures same { (S.given sockets.new ≡ S.given sockets.old) × (S.listens sockets.new ≡ S.listens sockets.old) }
+{
+    if origin.slot != 0 {
+        return Sending::Failed(Why::Gone);
+    }
+    let to = Endpoint {
+        addr: origin.source,
+        port: origin.port,
+    };
+    match sockets.send(Socket::Listener(origin.front), to, bytes) {
+        Ok(()) => Sending::Done(Way::Datagram),
+        Err(why) => Sending::Failed(why),
+    }
+}
+
+/// Makes a message a job of the loop of streams.
+fn send_job<R: Wait>(
+    rt: &R,
+    alloc: Global,
+    outbox: &mut Sender,
+    origin: Origin,
+    bytes: &Octets,
+) -> Sending
+    ensures comes { (there : Bool) → ComesBy (Some ways.Outbox) there result }
+    ensures sent { outbox.new ≡ record outbox.old { sent = outbox.old.sent ++ job_in (Some (Client origin, bytes.now)) result } }
+    ensures apart { ((roster : List Listed) → packet_in roster (Some (Client origin, bytes.now)) result ≡ []) × (post_in (Some (Client origin, bytes.now)) result ≡ []) × (is_by_device result ≡ false) }
+{
+    let copy = match bytes.copy(alloc) {
+        Ok(copy) => copy,
+        Err(refused) => return Sending::Failed(Why::from(refused)),
+    };
+    match outbox.send(rt, Job::ToClient(origin, copy)) {
+        Ok(()) => Sending::Done(Way::Outbox),
+        Err(_back) => Sending::Failed(Why::Full),
+    }
+}
+
+/// Hands a message to the HTTP request that waits for it.
+fn hand<P: Posts>(posts: &mut P, origin: Origin, bytes: &Octets) -> Sending
+    ensures comes { (there : Bool) → ComesBy (Some ways.Post) there result }
+    ensures handed { P.handed posts.new ≡ P.handed posts.old ++ post_in (Some (Client origin, bytes.now)) result }
+    ensures apart { ((roster : List Listed) → packet_in roster (Some (Client origin, bytes.now)) result ≡ []) × (job_in (Some (Client origin, bytes.now)) result ≡ []) × (is_by_device result ≡ false) }
+{
+    match posts.hand(origin, bytes) {
+        Ok(()) => Sending::Done(Way::Post),
+        Err(why) => match why {
+            Why::NoMemory => Sending::Failed(why),
+            _ => Sending::Failed(Why::Gone),
+        },
+    }
+}
+
+/// Sends a probe with this word to a server, from its first upstream socket.
+pub(crate) fn send_probe<S: Datagrams>(
+    alloc: Global,
+    sockets: &mut S,
+    server: ServerId,
+    word: u16,
+    at: Endpoint,
+) -> Sending
+    ensures comes { ProbeComes result }
+    ensures taken { S.taken sockets.new ≡ S.taken sockets.old ++ (if is_done result then probe_to server word at ∷ [] else []) }
+    ensures failed { FailsBy (is_by_device result) (S.failures sockets.old) (S.failures sockets.new) }
+    ensures same { (S.given sockets.new ≡ S.given sockets.old) × (S.listens sockets.new ≡ S.listens sockets.old) }
+{
+    let bytes = match probe_message(alloc, word) {
+        Ok(bytes) => bytes,
+        Err(refused) => return Sending::Failed(Why::from(refused)),
+    };
+    match sockets.send(Socket::Server(server, 0, at), at, &bytes) {
+        Ok(()) => Sending::Done(Way::Datagram),
+        Err(why) => Sending::Failed(why),
+    }
+}
+
+/// The octets of a probe as a message. The one error is want of memory.
+fn probe_message(alloc: Global, word: u16) -> Result<Octets, AllocError>
+    ensures { IfOk result (λ bytes. bytes ≡ probe_octets word) }
+{
+    let bytes = probe(word);
+    Ok(Octets::from_vec(Vec::from_slice(alloc, bytes.as_slice())?))
+}
