@@ -1,5 +1,5 @@
 -- A connection taken out of its place or put in changes no other.
-use Rattle.std.proofs.Common.{◌≡◌, ◌≢◌, ℕ, ◌⊎◌, ⊎_elim, ◌+◌, ◌<◌, ◌≤◌, ◌%◌, Bool, true, false, true≢false, subst, List, length, zero, suc, set, get_or, replicate, if◌then◌else◌, cond, ◌==◌, Option, Some, None, refl, sym, ap, ◌∙◌, arith, rules}
+use Rattle.std.proofs.Common.{◌≡◌, ◌≢◌, ℕ, ⊎_elim, ◌+◌, ◌<◌, ◌≤◌, ◌%◌, Bool, true, false, true≢false, subst, List, length, zero, suc, set, get_or, replicate, if◌then◌else◌, cond, ◌==◌, Option, Some, None, refl, sym, ap, ◌∙◌, arith, rules}
 use Rattle.std.proofs.lemmas.List.{get_or-set_same, get_or-set_other}
 use Rattle.std.proofs.lemmas.List.Elements.{All-set, All-weaker}
 use Rattle.std.proofs.lemmas.List.Sums.{sum_by-set}
@@ -8,7 +8,7 @@ use Rattle.std.specs.List.{All}
 use Rattle.std.proofs.lemmas.Bool.Decides.{nat_tests}
 use Rattle.std.proofs.lemmas.Bool.{cases_eq}
 use Rattle.lb_streams.specs.declared.connection.Connection.{Connection}
-use Rattle.lb_streams.specs.Table.{IsGiven, IsNew, Narrows, Table, at, at_place, client_count, clients_in, holds_client, if_number, is_client, is_none}
+use Rattle.lb_streams.specs.Table.{IsGiven, IsNew, Narrows, Table, at, at_place, client_count, clients_in, holds_client, if_number, is_none}
 
 pub is_same : (c : ℕ) → (c == c) ≡ true
 is_same c = search rules

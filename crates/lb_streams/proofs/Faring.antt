@@ -1,19 +1,18 @@
 -- How a connection fares in two steps, it fares in all.
-use Rattle.std.proofs.Common.{◌≡◌, ◌≢◌, ℕ, suc, ◌+◌, ◌-◌, ◌<◌, ◌≤◌, ◌^◌, ◌⊎◌, ⊎_elim, inl, inr, Bool, true, false, true≢false, List, [], ◌∷◌, ◌++◌, length, flat_map, Option, Some, None, refl, sym, ap, ◌∙◌, subst, arith, append_assoc, rules}
+use Rattle.std.proofs.Common.{◌≡◌, ℕ, ◌+◌, ◌<◌, ◌≤◌, ◌⊎◌, ⊎_elim, inl, inr, Bool, true, false, true≢false, List, [], ◌∷◌, ◌++◌, length, Option, Some, None, refl, sym, ap, ◌∙◌, subst, arith, append_assoc}
 use Rattle.std.specs.Prelude.{◌&&◌}
 use Rattle.std.specs.List.{Contains}
-use Rattle.std.proofs.lemmas.Bool.{cases_Bool}
 use Rattle.std.proofs.lemmas.Grind.{flat_map-append}
 use Rattle.std.proofs.lemmas.List.{append-nil, length-append}
 use Rattle.std.proofs.lemmas.List.Elements.{Contains-append_left, Contains-append_right}
-use Rattle.lb_frames.specs.Frames.{AreMessages, NoneWhole, framed, frames}
+use Rattle.lb_frames.specs.Frames.{AreMessages, framed, frames}
 use Rattle.lb_lines.specs.Counts.{Rose}
 use Rattle.lb_lines.specs.Moves.{Client}
 use Rattle.lb_lines.specs.declared.endpoint.Endpoint.{Endpoint}
 use Rattle.lb_lines.specs.declared.traffic.Peer.{Peer}
 use Rattle.lb_lines.specs.declared.traffic.Peer.TheVariants as peers
-use Rattle.lb_streams.specs.Connection.{Fares, Finished, HasBeen, HasEnded, Heard, Leaves, Link, Net, NewPeer, Opened, Over, Own, Promised, Still, Wants, WasServer, held, link, max_waiting, shut, unwritten, wants}
-use Rattle.lb_streams.specs.Goes.{Goes, GoesOn, NoNumber, TurnsAway, both, max_clients, places}
+use Rattle.lb_streams.specs.Connection.{Fares, HasBeen, HasEnded, Heard, Leaves, Link, Net, NewPeer, Over, Own, Promised, Still, Wants, WasServer, held, link, shut, unwritten, wants}
+use Rattle.lb_streams.specs.Goes.{GoesOn, TurnsAway}
 use Rattle.lb_streams.specs.Table.{clients, is_client, is_none}
 use Rattle.lb_streams.specs.declared.connection.Connection.{Connection}
 

@@ -1,2 +1,3 @@
 pub mod AtPlaces
 pub mod Faring
+pub mod Steps

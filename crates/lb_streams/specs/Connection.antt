@@ -154,3 +154,55 @@ pub record Fares (a b : Link) (wa wb : Wants) (messages sends : List (List ℕ))
   pub promised : shut b ≡ false → Promised a b (unwritten b.here) sends
   pub own : (x : Connection) → b.here ≡ Some x → Own a b x
   pub left : shut a ≡ false → HasBeen a b → shut b ≡ true → Leaves a b wa wb messages sends
+
+-- What an open connection does while it stays open: octets come and messages are taken of them; messages are put behind what it is to write, and octets of that
+-- are taken; and its peer may close its side.
+pub record Moves (a b : Link) (x y : Connection) (messages sends : List (List ℕ)) : Type 0 where
+  pub was : a.here ≡ Some x
+  pub is : b.here ≡ Some y
+  pub below : b.below ≡ a.below
+  pub came : b.came ≡ a.came
+  pub dialed : b.dialed ≡ a.dialed
+  pub gone : b.gone ≡ a.gone
+  pub ended : a.ended ≤ b.ended
+  pub peer : y.peer ≡ x.peer
+  pub asked : y.is_ended ≡ true → (x.is_ended ≡ true) ⊎ (a.ended < b.ended)
+  pub gave : List ℕ
+  pub given : b.given ≡ a.given ++ gave
+  pub are : AreMessages messages
+  pub told : x.incoming ++ gave ≡ frames messages ++ y.incoming
+  pub took : List ℕ
+  pub taken : b.taken ≡ a.taken ++ took
+  pub put : took ++ y.outgoing ≡ x.outgoing ++ frames sends
+
+-- so it fares
+abbrev pub MovedFares : Type 0
+MovedFares = (a b : Link) (wa wb : Wants) (x y : Connection) (messages sends : List (List ℕ)) → Moves a b x y messages sends → Fares a b wa wb messages sends
+
+-- A connection is closed, and has a cause to be.
+pub record Ends (a b : Link) (wa wb : Wants) (messages sends : List (List ℕ)) : Type 0 where
+  pub here : b.here ≡ None
+  pub before : shut a ≡ false
+  pub below : b.below ≡ true
+  pub came : b.came ≡ a.came
+  pub dialed : b.dialed ≡ a.dialed
+  pub gone : a.gone ≤ b.gone
+  pub ended : a.ended ≤ b.ended
+  pub took : List ℕ
+  pub taken : b.taken ≡ a.taken ++ took
+  pub cause : Leaves a b wa wb messages sends
+
+-- so it fares
+abbrev pub EndedFares : Type 0
+EndedFares = (a b : Link) (wa wb : Wants) (messages sends : List (List ℕ)) → Ends a b wa wb messages sends → Fares a b wa wb messages sends
+
+-- a connection that is not touched
+pub record Same (a b : Link) : Type 0 where
+  pub given : b.given ≡ a.given
+  pub taken : b.taken ≡ a.taken
+  pub came : b.came ≡ a.came
+  pub dialed : b.dialed ≡ a.dialed
+  pub ended : b.ended ≡ a.ended
+  pub gone : b.gone ≡ a.gone
+  pub below : b.below ≡ a.below
+  pub here : b.here ≡ a.here

@@ -1,6 +1,6 @@
 -- What happens to the connections of a loop.
-use Rattle.std.specs.Prelude.{◌≡◌, ℕ, ◌+◌, ◌≤◌, ◌^◌, ◌⊎◌, List, [], ◌∷◌, ◌++◌, length, if◌then◌else◌, ◌==◌}
-use Rattle.lb_streams.specs.Connection.{Fares, Net, link, wants}
+use Rattle.std.specs.Prelude.{◌≡◌, ◌≢◌, ℕ, ◌+◌, ◌≤◌, ◌^◌, ◌⊎◌, List, [], ◌∷◌, ◌++◌, length, if◌then◌else◌, ◌==◌}
+use Rattle.lb_streams.specs.Connection.{Fares, Net, Same, link, wants}
 use Rattle.lb_streams.specs.Table.{clients}
 
 -- how many clients may be connected, and how many connections a table has places for
@@ -28,6 +28,21 @@ pub record Goes (old new : Net) (messages sends : ℕ → List (List ℕ)) : Typ
   pub came : length old.told.came ≤ length new.told.came
   pub connected : clients new.table + length old.told.came ≤ clients old.table + length new.told.came
   pub turned : TurnsAway old new
+
+-- what a step does beside the connection that it is about: no client comes or is turned away
+pub record Beside (old new : Net) : Type 0 where
+  pub failures : old.told.failures ≤ new.told.failures
+  pub refusals : old.table.refusals ≤ new.table.refusals
+  pub next : old.table.next ≤ new.table.next
+  pub gone : length old.told.gone ≤ length new.told.gone
+  pub came : new.told.came ≡ old.told.came
+  pub turned : new.told.turned ≡ old.told.turned
+  pub clients : clients new.table ≤ clients old.table
+
+-- a step of one connection, which fares so, while no other is touched, is what all go through
+abbrev pub OneGoes : Type 0
+OneGoes = (n : ℕ) (old new : Net) (messages sends : ℕ → List (List ℕ)) → ((c : ℕ) → c ≢ n → Same (link c old) (link c new)) → ((c : ℕ) → c ≢ n → (messages c ≡ []) × (sends c ≡ []))
+    → Fares (link n old) (link n new) (wants old) (wants new) (messages n) (sends n) → Beside old new → Goes old new messages sends
 
 -- nothing
 abbrev pub none : ℕ → List (List ℕ)

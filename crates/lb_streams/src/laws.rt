@@ -1,9 +1,21 @@
 //! What holds of connections.
 
-ghost use Rattle.lb_streams.specs.Goes.{GoesOn};
+ghost use Rattle.lb_streams.specs.Connection.{EndedFares, MovedFares};
+ghost use Rattle.lb_streams.specs.Goes.{GoesOn, OneGoes};
 
 /// What connections go through in two steps, they go through in all: the messages that were taken of each, and those that were sent to it,
 /// are those of the first and then those of the second; and each closing has its cause in the whole.
 pub fn goes_on()
     ensures { GoesOn }
+{}
+
+/// An open connection of which messages are taken and to which messages are sent fares so; and one that is closed, where there is a cause.
+pub fn moved_fares()
+    ensures moved { MovedFares }
+    ensures ended { EndedFares }
+{}
+
+/// A step of one connection that leaves all others as they are is a step of all.
+pub fn one_goes()
+    ensures { OneGoes }
 {}

@@ -5,5 +5,5 @@ mod connection;
 mod laws;
 mod table;
 
-pub use laws::goes_on;
+pub use laws::{goes_on, moved_fares, one_goes};
 pub use table::Connections;

@@ -1,5 +1,5 @@
 use Rattle.std.proofs.Common.{◌≡◌, ◌+◌}
-use Rattle.lb_streams.specs.Table.{Narrows, Table}
+use Rattle.lb_streams.specs.Table.{Narrows}
 use Rattle.lb_streams.proofs.table.Connections.candidate.Given as goal
 
 abbrev pub invariant-loop : goal.invariant-loop
