@@ -6,13 +6,15 @@ use Rattle.std.proofs.lemmas.Grind.{flat_map-append}
 use Rattle.std.proofs.lemmas.List.{append-nil, length-append}
 use Rattle.std.proofs.lemmas.List.Elements.{Contains-append_left, Contains-append_right}
 use Rattle.lb_frames.specs.Frames.{AreMessages, framed, frames}
-use Rattle.lb_lines.specs.Counts.{Rose}
+use Rattle.lb_lines.specs.Counts.{Fails, Rose}
 use Rattle.lb_lines.specs.Moves.{Client}
 use Rattle.lb_lines.specs.declared.endpoint.Endpoint.{Endpoint}
+use Rattle.lb_lines.specs.declared.report.DeviceFault.{DeviceFault}
+use Rattle.lb_lines.specs.declared.report.DeviceFault.TheVariants as devices
 use Rattle.lb_lines.specs.declared.traffic.Peer.{Peer}
 use Rattle.lb_lines.specs.declared.traffic.Peer.TheVariants as peers
-use Rattle.lb_streams.specs.Connection.{Fares, HasBeen, HasEnded, Heard, Leaves, Link, Net, NewPeer, Over, Own, Promised, Still, Wants, WasServer, held, link, shut, unwritten, wants}
-use Rattle.lb_streams.specs.Goes.{GoesOn, TurnsAway}
+use Rattle.lb_streams.specs.Connection.{Fares, HasBeen, HasEnded, Heard, IsPeer, Leaves, Link, Net, NewPeer, Over, Own, Promised, Still, Wants, WasServer, held, link, shut, unwritten, wants}
+use Rattle.lb_streams.specs.Goes.{GoesOn, Notes, TurnsAway}
 use Rattle.lb_streams.specs.Table.{clients, is_client, is_none}
 use Rattle.lb_streams.specs.declared.connection.Connection.{Connection}
 
@@ -31,18 +33,18 @@ are_on : (ms ns : List (List ℕ)) → AreMessages ms → AreMessages ns → Are
 are_on [] ns all more = more
 are_on (m ∷ ms) ns all more = (all.0, are_on ms ns all.1 more)
 
-rose_later : (a b c : ℕ) → Rose a b → b ≤ c → Rose a c
+pub rose_later : (a b c : ℕ) → Rose a b → b ≤ c → Rose a c
 rose_later a b c (inl lt) le = inl (omega arith)
 rose_later a b c (inr most) le = inr (omega arith)
 
-rose_earlier : (a b c : ℕ) → a ≤ b → Rose b c → Rose a c
+pub rose_earlier : (a b c : ℕ) → a ≤ b → Rose b c → Rose a c
 rose_earlier a b c le (inl lt) = inl (omega arith)
 rose_earlier a b c le (inr most) = inr most
 
-longer : {A : Type 0} (x y p : List A) → y ≡ x ++ p → length x ≤ length y
+pub longer : {A : Type 0} (x y p : List A) → y ≡ x ++ p → length x ≤ length y
 longer x y p e = let all : length y ≡ length x + length p = ap (λ zs. length zs) e ∙ length-append x p in omega arith
 
-longer_by : {A : Type 0} (x y p : List A) (z : A) → y ≡ x ++ p → Contains p z → length x < length y
+pub longer_by : {A : Type 0} (x y p : List A) (z : A) → y ≡ x ++ p → Contains p z → length x < length y
 longer_by x y p z e has = let all : length y ≡ length x + length p = ap (λ zs. length zs) e ∙ length-append x p in let some = has.1 in omega arith
 
 -- What is shut.
@@ -63,10 +65,10 @@ false_back : (b c : Bool) → (b ≡ true → c ≡ true) → c ≡ false → b 
 false_back true c on e = absurd (true≢false (sym (on refl) ∙ e))
 false_back false c on e = refl
 
-shut_on : (a b : Link) (wa wb : Wants) (m s : List (List ℕ)) → Fares a b wa wb m s → shut a ≡ true → shut b ≡ true
+pub shut_on : (a b : Link) (wa wb : Wants) (m s : List (List ℕ)) → Fares a b wa wb m s → shut a ≡ true → shut b ≡ true
 shut_on a b wa wb m s one is = let parts = and_true a.below (is_none a.here) is in shut_is b (one.below parts.0) (one.stays is).here
 
-shut_back : (a b : Link) (wa wb : Wants) (m s : List (List ℕ)) → Fares a b wa wb m s → shut b ≡ false → shut a ≡ false
+pub shut_back : (a b : Link) (wa wb : Wants) (m s : List (List ℕ)) → Fares a b wa wb m s → shut b ≡ false → shut a ≡ false
 shut_back a b wa wb m s one is = false_back (shut a) (shut b) (shut_on a b wa wb m s one) is
 
 still_on : (a b c : Link) (m n s r : List (List ℕ)) → Still a b m s → Still b c n r → Still a c (m ++ n) (s ++ r)
@@ -94,7 +96,7 @@ promised_on a b c rest s r one two = two ∙ ap (λ zs. zs ++ frames r) one ∙ 
 
 -- Who is there.
 
-new_later : (a b c : Link) (peer : Peer) → ((more : List Client) × (c.came ≡ b.came ++ more)) → ((more : List Endpoint) × (c.dialed ≡ b.dialed ++ more)) → NewPeer a b peer → NewPeer a c peer
+pub new_later : (a b c : Link) (peer : Peer) → ((more : List Client) × (c.came ≡ b.came ++ more)) → ((more : List Endpoint) × (c.dialed ≡ b.dialed ++ more)) → NewPeer a b peer → NewPeer a c peer
 new_later a b c (peers.Client front from) came dialed new = (new.0 ++ came.0, grown a.came b.came c.came new.0 came.0 new.1 came.1, Contains-append_left new.0 came.0 (front, from) new.2)
 new_later a b c (peers.Server server number to) came dialed new = (new.0 ++ dialed.0, grown a.dialed b.dialed c.dialed new.0 dialed.0 new.1 dialed.1, Contains-append_left new.0 dialed.0 to new.2)
 
@@ -110,12 +112,11 @@ ended_on : (a b c : Link) → a.ended ≤ b.ended → b.ended ≤ c.ended → ((
 ended_on a b c ab bc own (inl was) = ended_later a b c bc ((own was.0 was.1).ended was.2)
 ended_on a b c ab bc own (inr lt) = inr (omega arith)
 
-peer_on : (a b c : Link) (wa wb wc : Wants) (m n s r : List (List ℕ)) (x : Connection) → Fares a b wa wb m s → Fares b c wb wc n r
-    → ((y : Connection) × (b.here ≡ Some y) × (y.peer ≡ x.peer)) ⊎ NewPeer b c x.peer → ((y : Connection) × (a.here ≡ Some y) × (y.peer ≡ x.peer)) ⊎ NewPeer a c x.peer
-peer_on a b c wa wb wc m n s r x one two (inl was) =
+pub peer_on : (a b c : Link) (wa wb wc : Wants) (m n s r : List (List ℕ)) (peer : Peer) → Fares a b wa wb m s → Fares b c wb wc n r → IsPeer b c peer → IsPeer a c peer
+peer_on a b c wa wb wc m n s r peer one two (inl was) =
     ⊎_elim (λ (earlier : (y : Connection) × (a.here ≡ Some y) × (y.peer ≡ was.0.peer)). inl (earlier.0, earlier.1, earlier.2 ∙ was.2))
-    (λ (new : NewPeer a b was.0.peer). inr (new_later a b c x.peer two.came two.dialed (subst (NewPeer a b) was.2 new))) (one.own was.0 was.1).peer
-peer_on a b c wa wb wc m n s r x one two (inr new) = inr (new_earlier a b c x.peer one.came one.dialed new)
+    (λ (new : NewPeer a b was.0.peer). inr (new_later a b c peer two.came two.dialed (subst (NewPeer a b) was.2 new))) (one.own was.0 was.1).peer
+peer_on a b c wa wb wc m n s r peer one two (inr new) = inr (new_earlier a b c peer one.came one.dialed new)
 
 -- Why one was closed.
 
@@ -123,7 +124,7 @@ over_later : (a : Link) (s r : List (List ℕ)) (message : List ℕ) → Over a 
 over_later a s r message over =
     let all : length (frames (s ++ r)) ≡ length (frames s) + length (frames r) = ap (λ zs. length zs) (frames_on s r) ∙ length-append (frames s) (frames r) in omega arith
 
-over_earlier : (a b : Link) (s r : List (List ℕ)) (message : List ℕ) → ((more : List ℕ) × (b.taken ≡ a.taken ++ more)) → Promised a b (unwritten b.here) s → Over b r message → Over a (s ++ r) message
+pub over_earlier : (a b : Link) (s r : List (List ℕ)) (message : List ℕ) → ((more : List ℕ) × (b.taken ≡ a.taken ++ more)) → Promised a b (unwritten b.here) s → Over b r message → Over a (s ++ r) message
 over_earlier a b s r message taken promised over =
     let all : length (frames (s ++ r)) ≡ length (frames s) + length (frames r) = ap (λ zs. length zs) (frames_on s r) ∙ length-append (frames s) (frames r) in
     let more : length b.taken ≡ length a.taken + length taken.0 = ap (λ zs. length zs) taken.1 ∙ length-append a.taken taken.0 in
@@ -234,11 +235,17 @@ fares_on a b c wa wb wc m n s r fab rab fbc rbc one two =
       heard = λ e. heard_on a b c (held c.here) m n (one.heard (mid e)) (two.heard e);
       promised = λ e. promised_on a b c (unwritten c.here) s r (one.promised (mid e)) (two.promised e);
       own = λ x e. record {
-        peer = peer_on a b c wa wb wc m n s r x one two (two.own x e).peer;
+        peer = peer_on a b c wa wb wc m n s r x.peer one two (two.own x e).peer;
         ended = λ is. ended_on a b c one.ended two.ended one.own ((two.own x e).ended is);
       };
       left = λ lives been closed. left_on a b c wa wb wc m n s r fab rab fbc rbc one two (shut b) refl lives been closed;
     }
+
+none_some : (fault : DeviceFault) → None ≡ Some fault → true ≡ false
+none_some fault e = cc
+
+two_faults : Some devices.Outside ≡ Some devices.Sockets → ⊥
+two_faults e = cc
 
 turned_on : (a b c : Net) → length a.told.came ≤ length b.told.came → length b.told.came ≤ length c.told.came → a.table.next ≤ b.table.next → b.table.next ≤ c.table.next
     → clients b.table + length a.told.came ≤ clients a.table + length b.told.came → TurnsAway a b → TurnsAway b c → TurnsAway a c
@@ -249,6 +256,17 @@ turned_on a b c ab bc next more few (inr (inr (inr used))) two = inr (inr (inr (
 turned_on a b c ab bc next more few (inl same) (inr (inl full)) = inr (inl (omega arith))
 turned_on a b c ab bc next more few (inl same) (inr (inr (inl passed))) = inr (inr (inl (omega arith)))
 turned_on a b c ab bc next more few (inl same) (inr (inr (inr used))) = inr (inr (inr used))
+
+notes_on : (f g h : Option DeviceFault) (a b c : ℕ) → a ≤ b → b ≤ c → Notes f g a b → Notes g h b c → Notes f h a c
+notes_on (Some fault) None h a b c ab bc one two = absurd (true≢false (none_some fault one))
+notes_on (Some fault) (Some other) h a b c ab bc one two = two ∙ one
+notes_on None None None a b c ab bc one two = two ∙ one
+notes_on None None (Some devices.Sockets) a b c ab bc one two = subst (λ n. Fails n c) one two
+notes_on None None (Some devices.Outside) a b c ab bc one two = two
+notes_on None (Some devices.Sockets) None a b c ab bc one two = absurd (true≢false (none_some devices.Sockets two))
+notes_on None (Some devices.Sockets) (Some devices.Sockets) a b c ab bc one two = (omega arith, rose_later a b c one.1 bc)
+notes_on None (Some devices.Sockets) (Some devices.Outside) a b c ab bc one two = absurd (two_faults two)
+notes_on None (Some devices.Outside) h a b c ab bc one two = absurd one
 
 pub all_on : GoesOn
 all_on a b c m n s r one two =
@@ -263,5 +281,6 @@ all_on a b c m n s r one two =
       gone = omega arith;
       came = omega arith;
       connected = omega arith;
+      noted = notes_on a.device b.device c.device a.told.failures b.told.failures c.told.failures failures_one failures_two one.noted two.noted;
       turned = turned_on a b c came_one came_two next_one next_two few_one one.turned two.turned;
     }

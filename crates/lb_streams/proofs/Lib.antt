@@ -1,3 +1,12 @@
+pub mod Apart
 pub mod AtPlaces
+pub mod Counting
 pub mod Faring
+pub mod Going
+pub mod Letters
+pub mod Lifting
+pub mod Opening
 pub mod Steps
+pub mod Sweeping
+pub mod Then
+pub mod Turning

@@ -9,7 +9,7 @@ use Rattle.lb_streams.specs.Goes.{OneGoes}
 use Rattle.lb_streams.specs.Table.{is_none}
 use Rattle.lb_streams.specs.declared.connection.Connection.{Connection}
 
-and_false : (b : Bool) → (b && false) ≡ false
+pub and_false : (b : Bool) → (b && false) ≡ false
 and_false true = refl
 and_false false = refl
 
@@ -18,7 +18,7 @@ none_of None b e = refl
 none_of (Some x) true e = absurd (true≢false (sym e))
 none_of (Some x) false e = absurd (true≢false (sym e))
 
-lives_at : (a : Link) (x : Connection) → a.here ≡ Some x → shut a ≡ false
+pub lives_at : (a : Link) (x : Connection) → a.here ≡ Some x → shut a ≡ false
 lives_at a x is = ap (λ (o : Option Connection). a.below && is_none o) is ∙ and_false a.below
 
 -- a connection that is not touched
@@ -100,7 +100,7 @@ all_same a b s =
     ∙ ap (λ (z : _). record b { given = a.given; taken = a.taken; came = a.came; dialed = a.dialed; ended = a.ended; gone = a.gone; below = z }) s.below
     ∙ ap (λ (z : _). record b { given = a.given; taken = a.taken; came = a.came; dialed = a.dialed; ended = a.ended; gone = a.gone; below = a.below; here = z }) s.here
 
-fares_same : (a b : Link) (wa wb : Wants) → Same a b → Fares a b wa wb [] []
+pub fares_same : (a b : Link) (wa wb : Wants) → Same a b → Fares a b wa wb [] []
 fares_same a b wa wb s = subst (λ (z : Link). Fares a z wa wb [] []) (sym (all_same a b s)) (fares_none a wa wb)
 
 pub goes_step : OneGoes
@@ -121,4 +121,5 @@ goes_step n old new m s others nothing here beside =
       came = omega arith;
       connected = omega arith;
       turned = inl beside.turned;
+      noted = beside.noted;
     }

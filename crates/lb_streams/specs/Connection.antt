@@ -5,6 +5,7 @@ use Rattle.lb_frames.specs.Frames.{AreMessages, NoneWhole, framed, frames}
 use Rattle.lb_lines.specs.Counts.{Rose}
 use Rattle.lb_lines.specs.Moves.{Client, Traffic, octets_of}
 use Rattle.lb_lines.specs.declared.endpoint.Endpoint.{Endpoint}
+use Rattle.lb_lines.specs.declared.report.DeviceFault.{DeviceFault}
 use Rattle.lb_lines.specs.declared.traffic.Peer.{Peer}
 use Rattle.lb_lines.specs.declared.traffic.Peer.TheVariants as peers
 use Rattle.lb_streams.specs.Table.{Table, at, is_client, is_none}
@@ -40,10 +41,11 @@ pub record Link : Type 0 where
   pub below : Bool
   pub here : Option Connection
 
--- sockets of streams, and the table of their connections
+-- sockets of streams, the table of their connections, and the first device fault since it was last asked for
 pub record Net : Type 0 where
   pub told : Traffic
   pub table : Table
+  pub device : Option DeviceFault
 
 abbrev pub link : ℕ → Net → Link
 link c net = record {
@@ -97,9 +99,13 @@ abbrev pub NewPeer : Link → Link → Peer → Type 0
 NewPeer a b (peers.Client front from) = (more : List Client) × (b.came ≡ a.came ++ more) × Contains more (front, from)
 NewPeer a b (peers.Server server number to) = (more : List Endpoint) × (b.dialed ≡ a.dialed ++ more) × Contains more to
 
+-- who is at the other end of a connection is who was there, or came or was dialled since
+abbrev pub IsPeer : Link → Link → Peer → Type 0
+IsPeer a b peer = ((y : Connection) × (a.here ≡ Some y) × (y.peer ≡ peer)) ⊎ NewPeer a b peer
+
 -- its peer is who it was, or came since; and where it asks no more, it did so before, or closed its side since
 pub record Own (a b : Link) (x : Connection) : Type 0 where
-  pub peer : ((y : Connection) × (a.here ≡ Some y) × (y.peer ≡ x.peer)) ⊎ NewPeer a b x.peer
+  pub peer : IsPeer a b x.peer
   pub ended : x.is_ended ≡ true → HasEnded a b
 
 -- a server was at the other end

@@ -1,6 +1,13 @@
 -- What happens to the connections of a loop.
-use Rattle.std.specs.Prelude.{◌≡◌, ◌≢◌, ℕ, ◌+◌, ◌≤◌, ◌^◌, ◌⊎◌, List, [], ◌∷◌, ◌++◌, length, if◌then◌else◌, ◌==◌}
-use Rattle.lb_streams.specs.Connection.{Fares, Net, Same, link, wants}
+use Rattle.std.specs.Prelude.{◌≡◌, ◌≢◌, ℕ, ◌+◌, ◌≤◌, ◌^◌, ◌⊎◌, List, [], ◌∷◌, ◌++◌, Option, Some, None, Result, Ok, Err, length, true, false, if◌then◌else◌, ◌==◌}
+use Rattle.lb_lines.specs.Counts.{Fails, Rose}
+use Rattle.lb_lines.specs.Moves.{Traffic, TurnedAway}
+use Rattle.lb_lines.specs.declared.report.DeviceFault.{DeviceFault}
+use Rattle.lb_lines.specs.declared.report.DeviceFault.TheVariants as devices
+use Rattle.lb_lines.specs.declared.report.Why.{Why}
+use Rattle.lb_lines.specs.declared.report.Why.TheVariants as whys
+use Rattle.lb_lines.specs.declared.traffic.Accepted.{Accepted}
+use Rattle.lb_streams.specs.Connection.{Fares, Net, Over, Same, link, shut, wants}
 use Rattle.lb_streams.specs.Table.{clients}
 
 -- how many clients may be connected, and how many connections a table has places for
@@ -18,6 +25,23 @@ NoNumber old new = (old.table.next + places ≤ new.table.next) ⊎ (2 ^ 64 ≤ 
 abbrev pub TurnsAway : Net → Net → Type 0
 TurnsAway old new = (new.told.turned ≡ old.told.turned) ⊎ ((max_clients + length old.told.came ≤ clients old.table + length new.told.came) ⊎ NoNumber old new)
 
+-- a fault of the sockets, where none was noted before
+abbrev pub noted : Option DeviceFault → Option DeviceFault
+noted None = Some devices.Sockets
+noted (Some fault) = Some fault
+
+-- the same, where a call of the sockets was refused for this
+abbrev pub noted_by : Why → Option DeviceFault → Option DeviceFault
+noted_by whys.Device device = noted device
+noted_by _ device = device
+
+-- The first device fault is noted: it stands while more is done, and there is none where the sockets did not fail.
+abbrev pub Notes : Option DeviceFault → Option DeviceFault → ℕ → ℕ → Type 0
+Notes (Some fault) device before after = device ≡ Some fault
+Notes None None before after = after ≡ before
+Notes None (Some devices.Sockets) before after = Fails before after
+Notes None (Some devices.Outside) before after = ⊥
+
 -- What happens to connections while these messages are taken from them, and these are sent to them, each by the number of its connection.
 pub record Goes (old new : Net) (messages sends : ℕ → List (List ℕ)) : Type 0 where
   pub fares : (c : ℕ) → Fares (link c old) (link c new) (wants old) (wants new) (messages c) (sends c)
@@ -28,6 +52,11 @@ pub record Goes (old new : Net) (messages sends : ℕ → List (List ℕ)) : Typ
   pub came : length old.told.came ≤ length new.told.came
   pub connected : clients new.table + length old.told.came ≤ clients old.table + length new.told.came
   pub turned : TurnsAway old new
+  pub noted : Notes old.device new.device old.told.failures new.told.failures
+
+-- sockets that turned a client away, or had none to, or failed
+abbrev pub TurnedFrom : Traffic → Traffic → Type 0
+TurnedFrom old new = (result : Accepted) × TurnedAway result old new
 
 -- what a step does beside the connection that it is about: no client comes or is turned away
 pub record Beside (old new : Net) : Type 0 where
@@ -38,6 +67,7 @@ pub record Beside (old new : Net) : Type 0 where
   pub came : new.told.came ≡ old.told.came
   pub turned : new.told.turned ≡ old.told.turned
   pub clients : clients new.table ≤ clients old.table
+  pub noted : Notes old.device new.device old.told.failures new.told.failures
 
 -- a step of one connection, which fares so, while no other is touched, is what all go through
 abbrev pub OneGoes : Type 0
@@ -59,3 +89,41 @@ both a b c = a c ++ b c
 -- what connections go through in two steps, they go through in all
 abbrev pub GoesOn : Type 0
 GoesOn = (a b c : Net) (m n s r : ℕ → List (List ℕ)) → Goes a b m s → Goes b c n r → Goes a c (both m n) (both s r)
+
+-- a message sent to this connection, where it was put behind what that is to write
+abbrev pub sent_so : Result (Unit {0}) Why → ℕ → List ℕ → ℕ → List (List ℕ)
+sent_so (Ok done) n message = just n message
+sent_so (Err why) n message = none
+
+-- a message sent to the connection that was found
+abbrev pub sent_by : Result ℕ Why → List ℕ → ℕ → List (List ℕ)
+sent_by (Ok n) message = just n message
+sent_by (Err why) message = none
+
+-- its connection had ended, or its number was never given
+abbrev pub IsOver : ℕ → Net → Net → Type 0
+IsOver n old new = (shut (link n new) ≡ true) ⊎ (old.table.next ≤ n)
+
+-- with this message, and what was sent to it in this time, more would wait to be written to a connection than may: it is closed
+abbrev pub IsFull : ℕ → Net → Net → List (List ℕ) → List ℕ → Type 0
+IsFull n old new sends message = (shut (link n old) ≡ false) × (shut (link n new) ≡ true) × Over (link n old) sends message
+
+-- why a message is not put behind what a connection is to write
+abbrev pub Misses : Net → Net → ℕ → List ℕ → Why → Type 0
+Misses old new n message whys.Gone = IsOver n old new
+Misses old new n message whys.Limit = IsFull n old new [] message
+Misses old new n message whys.NoMemory = Unit {0}
+Misses old new n message _ = ⊥
+
+-- why there is no connection to a server
+abbrev pub Lacks : Net → Net → Why → Type 0
+Lacks old new whys.Gone = NoNumber old new
+Lacks old new whys.Device = Rose old.told.failures new.told.failures
+Lacks old new whys.NoMemory = Unit {0}
+Lacks old new _ = ⊥
+
+-- a client that waited was turned away, or there was none
+pub record TurnsOneAway (old new : Net) : Type 0 where
+  pub told : TurnedFrom old.told new.told
+  pub table : new.table ≡ old.table
+  pub noted : Notes old.device new.device old.told.failures new.told.failures

@@ -1,4 +1,9 @@
--- shared by several files: Goes
+-- shared by several files: Ends, Goes, Lines, Steps, World
 pub mod Table
 pub mod Connection
 pub mod Goes
+pub mod World
+pub mod Lines
+pub mod Turn
+pub mod Steps
+pub mod Ends

@@ -1,9 +1,12 @@
 -- Connections by their numbers.
-use Rattle.std.specs.Prelude.{◌≡◌, ℕ, ◌≤◌, ◌%◌, nat_le, nat_lt, Bool, true, false, List, if◌then◌else◌, ◌==◌, Option, Some, None, get_or}
+use Rattle.std.specs.Prelude.{◌≡◌, ℕ, ◌≤◌, ◌%◌, nat_le, nat_lt, Bool, true, false, List, length, ◌++◌, ◌<◌, ◌^◌, if◌then◌else◌, ◌==◌, Option, Some, None, get_or}
 use Rattle.std.specs.List.{count_by}
+use Rattle.lb_frames.specs.Frames.{framed}
+use Rattle.lb_lines.specs.declared.endpoint.Endpoint.{Endpoint}
 use Rattle.lb_lines.specs.declared.traffic.Peer.{Peer}
 use Rattle.lb_lines.specs.declared.traffic.Peer.TheVariants as peers
 use Rattle.lb_streams.specs.declared.connection.Connection.{Connection}
+use Rattle.lb_wire.specs.declared.ids.ServerId.{ServerId}
 
 -- the connection at a place, where it has this number
 abbrev pub if_number : ℕ → Option Connection → Option Connection
@@ -70,3 +73,15 @@ pub record Narrows (old new : Table) : Type 0 where
   pub next : old.next ≤ new.next
   pub same : new ≡ record old { next = new.next }
   pub all : (c : ℕ) → at c new ≡ at c old
+
+-- the open connection of this number is one to a server at this end, by the upstream socket with this number
+abbrev pub IsTo : ℕ → ServerId → ℕ → Endpoint → Table → Type 0
+IsTo n server lane end t = (x : Connection) × (at n t ≡ Some x) × (x.peer ≡ peers.Server server lane end)
+
+-- this message stands first in what came of the open connection of this number, which has this peer
+abbrev pub IsFirst : ℕ → Peer → List ℕ → Table → Type 0
+IsFirst n peer message t = (x : Connection) × (rest : List ℕ) × (at n t ≡ Some x) × (x.peer ≡ peer) × (length message < 2 ^ 16) × (x.incoming ≡ framed message ++ rest)
+
+-- the time of a connection is over at this moment
+abbrev pub IsOverdue : ℕ → Connection → Type 0
+IsOverdue now x = (until : ℕ) × (x.until ≡ Some until) × (until ≤ now)

@@ -2,10 +2,11 @@
 
 ghost use Rattle.std.specs.Prelude.{[], IsTrue, None, OnErr, OnOk, drop, false, length, true, ◌++◌, ◌+◌, ◌<◌, ◌≡◌, ◌≤◌};
 ghost use Rattle.lb_frames.specs.Frames.{NoneWhole, framed};
+ghost use Rattle.lb_streams.specs.Table.{IsOverdue};
 ghost use Rattle.lb_wire.specs.Octets.{max_message};
 
 use lb_frames::{Incoming, Outgoing};
-use lb_lines::Peer;
+use lb_lines::{Peer, Roster};
 use lb_wire::Octets;
 use std::alloc::{AllocError, Global};
 
@@ -21,6 +22,10 @@ const LENGTH: usize = 2;
 /// How long a client that has closed its side is kept for its answers, in milliseconds: as long as a query may wait for its reply, and a
 /// second.
 const KEPT: u64 = 61_000;
+
+/// How long the connection to a server is read on when the server has left the roster, or its end there, in milliseconds: as long as a
+/// query may wait for its reply.
+const READ_ON: u64 = 60_000;
 
 /// One connection: what came and was not taken yet, and what is to be written.
 #[derive(Drop)]
@@ -99,11 +104,44 @@ impl Connection {
         self.outgoing.push_framed(message.as_slice())
     }
 
-    /// Its peer has closed its side, at this moment.
-    pub(crate) fn end(&mut self, now: u64)
+    /// Its peer has closed its side, at this moment. Tells the moment at which it is closed at the latest.
+    pub(crate) fn end(&mut self, now: u64) -> u64
         ensures rest { (self.new.number ≡ self.old.number) × (self.new.peer ≡ self.old.peer) × (self.new.incoming ≡ self.old.incoming) × (self.new.outgoing ≡ self.old.outgoing) }
     {
+        let until = now.saturating_add(KEPT);
         self.is_ended = true;
-        self.until = Some(now.saturating_add(KEPT));
+        self.until = Some(until);
+        until
+    }
+
+    /// A server's connection that is not at the roster's end of the server is read on from this moment for a while, and then closed; one
+    /// that is there is kept. Tells the moment at which it is closed; 2^64-1 where none is set now.
+    pub(crate) fn follow(&mut self, roster: &Roster, now: u64) -> u64
+        ensures rest { (self.new.number ≡ self.old.number) × (self.new.peer ≡ self.old.peer) × (self.new.incoming ≡ self.old.incoming) × (self.new.outgoing ≡ self.old.outgoing) × (self.new.is_ended ≡ self.old.is_ended) }
+    {
+        let Peer::Server(server, _, end) = self.peer else {
+            return u64::MAX;
+        };
+        let stands = match roster.get(server) {
+            Some(place) => place.at.is(end),
+            None => false,
+        };
+        if stands {
+            self.until = None;
+            return u64::MAX;
+        }
+        let until = self.until.unwrap_or(now.saturating_add(READ_ON));
+        self.until = Some(until);
+        until
+    }
+
+    /// Whether its time is over at this moment.
+    pub(crate) fn is_overdue(&self, now: u64) -> bool
+        ensures { IsTrue result → IsOverdue now self.now }
+    {
+        match self.until {
+            Some(until) => until <= now,
+            None => false,
+        }
     }
 }

@@ -1,9 +1,20 @@
-//! The connections of the loop of streams.
+//! The loop of streams: its connections, and its turn.
 #![tactic(auto)]
 
 mod connection;
+mod dialing;
 mod laws;
+mod links;
+mod owing;
+mod reading;
+mod rounds;
+mod sending;
+mod streams;
 mod table;
+mod taking;
+mod turn;
+mod writing;
 
 pub use laws::{goes_on, moved_fares, one_goes};
-pub use table::Connections;
+pub use streams::StreamLoop;
+pub use turn::stream_turn;

@@ -1,13 +1,13 @@
 //! The connections of a loop, by their numbers.
 
-ghost use Rattle.std.specs.Prelude.{IfNone, IfOk, IfSome, None, Some, false, if◌then◌else◌, true, vec_len, ◌%◌, ◌+◌, ◌<◌, ◌^◌, ◌≡◌, ◌≢◌, ◌≤◌, ◌⊎◌, ℕ};
+ghost use Rattle.std.specs.Prelude.{IfNone, IfOk, IfSome, IsTrue, None, Some, false, if◌then◌else◌, option_map, true, vec_len, ◌%◌, ◌+◌, ◌<◌, ◌^◌, ◌≡◌, ◌≢◌, ◌≤◌, ◌⊎◌, ℕ};
 ghost use Rattle.std.specs.List.{All};
 ghost use Rattle.lb_lines.specs.Counts.{Rose};
-ghost use Rattle.lb_streams.specs.Table.{IsGiven, IsNew, Narrows, at, at_place, client_count, clients, clients_in, is_none, vacant};
+ghost use Rattle.lb_streams.specs.Table.{IsGiven, IsNew, IsTo, Narrows, at, at_place, client_count, clients, clients_in, is_none, vacant};
 
 use crate::connection::Connection;
 use lb_lines::{Endpoint, Peer};
-use lb_wire::ServerId;
+use lb_wire::{Octets, ServerId};
 use std::alloc::{AllocError, Global};
 use std::collections::VecDeque;
 use std::marker::Model;
@@ -15,19 +15,21 @@ use std::marker::Model;
 /// How many connections a table has places for.
 pub(crate) const PLACES: usize = 4096;
 
+/// How many clients may be connected.
+const MOST_CLIENTS: usize = 1024;
+
 /// The connection that was last begun to a server, by one of its upstream sockets.
 #[derive(Clone, Copy, Debug)]
 pub(crate) struct Route {
     pub(crate) server: ServerId,
     pub(crate) lane: u8,
-    pub(crate) at: Endpoint,
     pub(crate) number: u64,
 }
 
 /// Connections, each at the place that is its number modulo 4,096. A number is given once, so that an answer to a connection that has
 /// ended never goes to another. A contract sees the connection of each number.
 #[derive(Drop)]
-pub struct Connections {
+pub(crate) struct Connections {
     /// The last number that was given, 0 at first.
     pub(crate) last: u64,
     pub(crate) slots: Vec<Option<Connection>>,
@@ -59,7 +61,7 @@ impl Model for Connections {
 }
 
 /// The place of a number.
-fn place_of(number: u64) -> usize
+pub(crate) fn place_of(number: u64) -> usize
     ensures { (result ≡ number % 4096) × (result < 4096) }
 {
     (number % 4096) as usize
@@ -89,7 +91,7 @@ fn clients_of(connection: &Connection) -> usize
 impl Connections {
     /// No connection, and places for 4,096. The one error is want of memory.
     #[tactic(auto, using(crate::proofs::AtPlaces::new_is))]
-    pub fn made(alloc: Global) -> Result<Connections, AllocError>
+    pub(crate) fn made(alloc: Global) -> Result<Connections, AllocError>
         ensures { IfOk result IsNew }
     {
         let mut slots = Vec::with_capacity(alloc, PLACES)?;
@@ -195,20 +197,130 @@ impl Connections {
         self.refusals = self.refusals.saturating_add(1);
     }
 
-    /// The connection that was last begun to a server, by one of its upstream sockets, at this end.
-    pub(crate) fn route(&self, server: ServerId, lane: u8, at: Endpoint) -> Option<u64> {
-        self.routes
-            .iter()
-            .find(|route| route.server.0 == server.0 && route.lane == lane && route.at.is(at))
-            .map(|route| route.number)
+    /// Who is at the other end of a connection.
+    pub(crate) fn peer_of(&self, number: u64) -> Option<Peer>
+        ensures { result ≡ option_map (λ (x : Connection). x.peer) (at number self.now) }
+    {
+        if number > self.last {
+            return None;
+        }
+        match &self.slots[place_of(number)] {
+            Some(connection) if connection.number == number => Some(connection.peer),
+            _ => None,
+        }
     }
 
-    /// Notes a connection to a server, in place of an earlier one.
+    /// The connection that was last begun to a server at this end, by one of its upstream sockets, where it is open.
+    pub(crate) fn route(&self, server: ServerId, lane: u8, end: Endpoint) -> Option<u64>
+        ensures { IfSome result (λ n. IsTo n server lane end self.now) }
+    {
+        let route = self
+            .routes
+            .iter()
+            .find(|route| route.server.0 == server.0 && route.lane == lane)?;
+        match self.peer_of(route.number) {
+            Some(peer) if peer == Peer::Server(server, lane, end) => Some(route.number),
+            _ => None,
+        }
+    }
+
+    /// Notes a connection to a server, in place of an earlier one. The one error is want of memory.
     pub(crate) fn note(&mut self, route: Route) -> Result<(), AllocError>
         ensures same { self.new ≡ self.old }
     {
         self.routes.retain(|other| other.server.0 != route.server.0 || other.lane != route.lane);
         self.routes.push(route)?;
         Ok(())
+    }
+
+    /// Whether as many clients are connected as may be.
+    pub(crate) fn is_full(&self) -> bool
+        ensures { IsTrue result → 1024 ≤ clients self.now }
+    {
+        self.clients >= MOST_CLIENTS
+    }
+
+    /// Whether with this message more octets would wait to be written to a connection than may.
+    pub(crate) fn is_over(&self, number: u64, message: &Octets) -> bool {
+        match &self.slots[place_of(number)] {
+            Some(connection) => connection.number == number && connection.is_over(message),
+            None => false,
+        }
+    }
+
+    /// Whether a connection is written before the turn ends: much waits to be written to it, or there was no memory to note that it is to be
+    /// written.
+    pub(crate) fn is_urgent(&self, number: u64) -> bool {
+        match &self.slots[place_of(number)] {
+            Some(connection) => {
+                connection.number == number && (connection.is_heavy() || !connection.is_touched)
+            }
+            None => false,
+        }
+    }
+
+    /// Puts a connection that has a whole message behind those that wait for their turn, where it does not stand there yet. The one error
+    /// is want of memory.
+    pub(crate) fn enqueue(&mut self, connection: &mut Connection) -> Result<(), AllocError>
+        ensures same { self.new ≡ self.old }
+        ensures rest { (connection.new.number ≡ connection.old.number) × (connection.new.peer ≡ connection.old.peer) × (connection.new.incoming ≡ connection.old.incoming) × (connection.new.outgoing ≡ connection.old.outgoing) × (connection.new.is_ended ≡ connection.old.is_ended) }
+    {
+        if connection.is_queued || !connection.incoming.has_message() {
+            return Ok(());
+        }
+        self.queue.push_back(connection.number)?;
+        connection.is_queued = true;
+        Ok(())
+    }
+
+    /// The connection whose turn it is.
+    pub(crate) fn first_queued(&self) -> Option<u64> {
+        self.queue.front().copied()
+    }
+
+    /// The connection whose turn it is has had it.
+    pub(crate) fn drop_queued(&mut self)
+        ensures same { self.new ≡ self.old }
+    {
+        let _ = self.queue.pop_front();
+    }
+
+    /// Notes that a connection is to be written at the end of the turn, where there is memory for that.
+    pub(crate) fn touch(&mut self, connection: &mut Connection)
+        ensures same { self.new ≡ self.old }
+        ensures rest { (connection.new.number ≡ connection.old.number) × (connection.new.peer ≡ connection.old.peer) × (connection.new.incoming ≡ connection.old.incoming) × (connection.new.outgoing ≡ connection.old.outgoing) × (connection.new.is_ended ≡ connection.old.is_ended) }
+    {
+        if !connection.is_touched {
+            connection.is_touched = self.touched.push(connection.number).is_ok();
+        }
+    }
+
+    /// A connection that is to be written at the end of the turn.
+    pub(crate) fn next_touched(&mut self) -> Option<u64>
+        ensures same { self.new ≡ self.old }
+    {
+        self.touched.pop()
+    }
+
+    /// Connections are looked through at this moment, or before.
+    pub(crate) fn look_by(&mut self, moment: u64)
+        ensures same { self.new ≡ self.old }
+    {
+        self.due = self.due.min(moment);
+    }
+
+    /// How many connections are to be written at the end of the turn.
+    pub(crate) fn touched(&self) -> usize {
+        self.touched.len()
+    }
+
+    /// The number of the connection at a place.
+    pub(crate) fn number_at(&self, place: usize) -> Option<u64>
+        requires { place < 4096 }
+    {
+        match &self.slots[place] {
+            Some(connection) => Some(connection.number),
+            None => None,
+        }
     }
 }

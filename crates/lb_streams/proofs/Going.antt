@@ -1,0 +1,521 @@
+-- Steps of one connection.
+use Rattle.std.proofs.Common.{◌≡◌, ◌≢◌, ℕ, ◌+◌, ◌<◌, ◌≤◌, ◌⊎◌, inl, inr, Bool, true, false, List, [], ◌∷◌, ◌++◌, length, Option, Some, None, Result, Ok, Err, if◌then◌else◌, ◌==◌, refl, sym, ap, ◌∙◌, arith, rules, subst, append_assoc}
+use Rattle.std.specs.Prelude.{nat_lt, take, drop, ◌&&◌}
+use Rattle.std.specs.List.{count_by}
+use Rattle.std.proofs.lemmas.Bool.Decides.{nat_tests}
+use Rattle.std.proofs.lemmas.List.{append-nil, length-append, take-append-drop}
+use Rattle.lb_frames.specs.Frames.{AreMessages, NoneWhole, framed, frames}
+use Rattle.lb_lines.specs.Counts.{Fails, Rose}
+use Rattle.lb_lines.specs.Moves.{Faulty, GavePiece, Took, Traffic, octets_of}
+use Rattle.lb_lines.specs.declared.report.DeviceFault.{DeviceFault}
+use Rattle.lb_lines.specs.declared.report.DeviceFault.TheVariants as devices
+use Rattle.lb_lines.specs.declared.report.Why.{Why}
+use Rattle.lb_lines.specs.declared.report.Why.TheVariants as whys
+use Rattle.lb_lines.specs.declared.traffic.Read.{Read}
+use Rattle.lb_streams.proofs.Apart.{Apart, apart_ended, apart_failed, apart_given, apart_gone, apart_none, apart_taken, count_here, octets_here}
+use Rattle.lb_streams.proofs.AtPlaces.{is_other, is_same}
+use Rattle.lb_streams.proofs.Faring.{rose_earlier}
+use Rattle.lb_streams.proofs.Steps.{fares_ended, fares_moved, fares_same, goes_step, lives_at}
+use Rattle.lb_streams.specs.Connection.{Ends, HasEnded, Leaves, Link, Moves, Net, Over, Same, WasServer, held, link, max_waiting, of_number, shut, unwritten, wants}
+use Rattle.lb_streams.specs.Goes.{Beside, Goes, IsFull, IsOver, Notes, both, just, none, noted, noted_by}
+use Rattle.lb_streams.specs.Table.{Table, at, client_count, clients, is_client, is_none}
+use Rattle.lb_streams.specs.declared.connection.Connection.{Connection}
+
+-- the connection of a number was x and is y, and no other changed
+pub record Swaps (n : ℕ) (a b : Table) (x y : Connection) : Type 0 where
+  pub was : at n a ≡ Some x
+  pub is : at n b ≡ Some y
+  pub others : (c : ℕ) → c ≢ n → at c b ≡ at c a
+  pub next : b.next ≡ a.next
+  pub refusals : b.refusals ≡ a.refusals
+  pub clients : clients b ≡ clients a
+
+-- the connection of a number was x and is closed, and no other changed
+pub record Drops (n : ℕ) (a b : Table) (x : Connection) : Type 0 where
+  pub was : at n a ≡ Some x
+  pub is : at n b ≡ None
+  pub given : n < b.next
+  pub others : (c : ℕ) → c ≢ n → at c b ≡ at c a
+  pub next : b.next ≡ a.next
+  pub refusals : a.refusals ≤ b.refusals
+  pub clients : clients b ≤ clients a
+
+count_as : (x y : Connection) → y.peer ≡ x.peer → client_count y ≡ client_count x
+count_as x y e = ap (λ p. if is_client p then 1 else 0) e
+
+pub swaps : (n : ℕ) (a mid b : Table) (x y : Connection)
+    → at n a ≡ Some x → x.number ≡ n → ((c : ℕ) → c ≢ n → at c mid ≡ at c a) → clients mid + client_count x ≡ clients a → mid.next ≡ a.next → mid.refusals ≡ a.refusals
+    → at y.number b ≡ Some y → ((c : ℕ) → c ≢ y.number → at c b ≡ at c mid) → clients b ≡ clients mid + client_count y → b.next ≡ mid.next → b.refusals ≡ mid.refusals
+    → y.number ≡ x.number → y.peer ≡ x.peer → Swaps n a b x y
+swaps n a mid b x y was num others few next refusals is rest many next' refusals' same peer =
+    let here : y.number ≡ n = same ∙ num in
+    let counts = count_as x y peer in
+    record {
+      was = was;
+      is = ap (λ (k : ℕ). at k b) (sym here) ∙ is;
+      others = λ c apart. rest c (λ e. apart (e ∙ here)) ∙ others c apart;
+      next = next' ∙ next;
+      refusals = refusals' ∙ refusals;
+      clients = omega (arith, few, many, counts);
+    }
+
+-- the same, where the table was looked at in between
+pub swaps_by : (n : ℕ) (a mid between b : Table) (x y : Connection) → between ≡ mid
+    → at n a ≡ Some x → x.number ≡ n → ((c : ℕ) → c ≢ n → at c mid ≡ at c a) → clients mid + client_count x ≡ clients a → mid.next ≡ a.next → mid.refusals ≡ a.refusals
+    → at y.number b ≡ Some y → ((c : ℕ) → c ≢ y.number → at c b ≡ at c between) → clients b ≡ clients between + client_count y → b.next ≡ between.next → b.refusals ≡ between.refusals
+    → y.number ≡ x.number → y.peer ≡ x.peer → Swaps n a b x y
+swaps_by n a mid between b x y e was num others few next refusals is rest many next' refusals' same peer = swaps n a between b x y was num
+    (λ c apart. ap (at c) e ∙ others c apart) (ap (λ (t : Table). clients t + client_count x) e ∙ few) (ap (λ (t : Table). t.next) e ∙ next) (ap (λ (t : Table). t.refusals) e ∙ refusals)
+    is rest many next' refusals' same peer
+
+pub drops : (n : ℕ) (a b : Table) (x : Connection) → at n a ≡ Some x → n < b.next → at n b ≡ None → ((c : ℕ) → c ≢ n → at c b ≡ at c a) → clients b + client_count x ≡ clients a → b.next ≡ a.next → b.refusals ≡ a.refusals → Drops n a b x
+drops n a b x was lt none_here others few next refusals = record {
+  was = was;
+  is = none_here;
+  given = lt;
+  others = others;
+  next = next;
+  refusals = omega (arith, refusals);
+  clients = omega (arith, few);
+}
+
+pub drops_wanting : (n : ℕ) (a mid b : Table) (x : Connection) → Drops n a mid x → b ≡ record mid { refusals = b.refusals } → mid.refusals ≤ b.refusals → Drops n a b x
+drops_wanting n a mid b x d e le =
+    let next : b.next ≡ mid.next = ap (λ (t : Table). t.next) e in
+    let given = d.given in let refusals = d.refusals in let few = d.clients in
+    let same : clients b ≡ clients mid = ap clients e in
+    record {
+      was = d.was;
+      is = ap (at n) e ∙ d.is;
+      given = omega (arith, given, next);
+      others = λ c apart. ap (at c) e ∙ d.others c apart;
+      next = next ∙ d.next;
+      refusals = omega (arith, refusals, le);
+      clients = omega (arith, few, same);
+    }
+
+pub rose_wanting : (a mid b : ℕ) → a ≤ mid → Rose mid b → Rose a b
+rose_wanting a mid b le rose = rose_earlier a mid b le rose
+
+given_of : (t : Table) (n : ℕ) → n < t.next → nat_lt n t.next ≡ true
+given_of t n lt = grind (arith, nat_tests)
+
+same_of : (n c : ℕ) (old new : Net) → Apart n old.told new.told → c ≢ n → at c new.table ≡ at c old.table → new.table.next ≡ old.table.next → Same (link c old) (link c new)
+same_of n c old new told apart here next = record {
+  given = told.given c apart;
+  taken = told.taken c apart;
+  came = ap (λ zs. of_number c zs) told.came;
+  dialed = told.dialed c apart;
+  ended = told.ended c apart;
+  gone = told.gone c apart;
+  below = ap (λ (k : ℕ). nat_lt c k) next;
+  here = here;
+}
+
+-- nothing at other numbers
+abbrev Only : ℕ → (ℕ → List (List ℕ)) → Type 0
+Only n m = (c : ℕ) → c ≢ n → m c ≡ []
+
+only_none : (n : ℕ) → Only n none
+only_none n c apart = refl
+
+only_just : (n : ℕ) (message : List ℕ) → Only n (just n message)
+only_just n message c apart = ap (λ (b : Bool). if b then message ∷ [] else []) (is_other n c apart)
+
+just_here : (n : ℕ) (message : List ℕ) → just n message n ≡ message ∷ []
+just_here n message = ap (λ (b : Bool). if b then message ∷ [] else []) (is_same n)
+
+-- What is noted.
+
+pub same_noted : (f g : Option DeviceFault) (a b : ℕ) → g ≡ f → b ≡ a → Notes f g a b
+same_noted None None a b e is = is
+same_noted None (Some d) a b e is = cc
+same_noted (Some d) g a b e is = e
+
+pub faulty_noted : (f g : Option DeviceFault) (a b : ℕ) → g ≡ noted f → Fails a b → Notes f g a b
+faulty_noted None (Some devices.Sockets) a b e is = is
+faulty_noted None (Some devices.Outside) a b e is = cc
+faulty_noted None None a b e is = cc
+faulty_noted (Some d) g a b e is = e
+
+not_lt : (n m : ℕ) → nat_lt n m ≡ false → m ≤ n
+not_lt n m e = grind (arith, nat_tests)
+
+quiet_goes : (a : Net) → Goes a a none none
+quiet_goes a = goes_step 0 a a none none (λ c apart. record { given = refl; taken = refl; came = refl; dialed = refl; ended = refl; gone = refl; below = refl; here = refl }) (λ c apart. (refl, refl))
+    (fares_same (link 0 a) (link 0 a) (wants a) (wants a) (record { given = refl; taken = refl; came = refl; dialed = refl; ended = refl; gone = refl; below = refl; here = refl }))
+    (record { failures = omega arith; refusals = omega arith; next = omega arith; gone = omega arith; came = refl; turned = refl; clients = omega arith; noted = same_noted a.device a.device a.told.failures a.told.failures refl refl })
+
+goes_nothing_at : (old new : Net) → new ≡ old → Goes old new none none
+goes_nothing_at old new e = subst (λ (z : Net). Goes old z none none) (sym e) (quiet_goes old)
+
+-- one that stays open
+goes_swap : (n : ℕ) (old new : Net) (x y : Connection) (m s : ℕ → List (List ℕ)) → Swaps n old.table new.table x y → Apart n old.told new.told → Notes old.device new.device old.told.failures new.told.failures
+    → Only n m → Only n s → Moves (link n old) (link n new) x y (m n) (s n) → Goes old new m s
+goes_swap n old new x y m s table told noted only_m only_s moves =
+    let refusals = table.refusals in let next = table.next in let few = table.clients in
+    goes_step n old new m s (λ c apart. same_of n c old new told apart (table.others c apart) next) (λ c apart. (only_m c apart, only_s c apart))
+    (fares_moved (link n old) (link n new) (wants old) (wants new) x y (m n) (s n) moves)
+    (record { failures = told.failures; refusals = omega arith; next = omega arith; gone = told.all_gone; came = told.came; turned = told.turned; clients = omega arith; noted = noted })
+
+-- one that is closed
+goes_drop : (n : ℕ) (old new : Net) (x : Connection) (m s : ℕ → List (List ℕ)) → Drops n old.table new.table x → Apart n old.told new.told → Notes old.device new.device old.told.failures new.told.failures
+    → Only n m → Only n s → Ends (link n old) (link n new) (wants old) (wants new) (m n) (s n) → Goes old new m s
+goes_drop n old new x m s table told noted only_m only_s ends =
+    let next = table.next in
+    goes_step n old new m s (λ c apart. same_of n c old new told apart (table.others c apart) next) (λ c apart. (only_m c apart, only_s c apart))
+    (fares_ended (link n old) (link n new) (wants old) (wants new) (m n) (s n) ends)
+    (record { failures = told.failures; refusals = table.refusals; next = omega arith; gone = told.all_gone; came = told.came; turned = told.turned; clients = table.clients; noted = noted })
+
+-- What is at the number of a swap.
+
+below_same : (n : ℕ) (a b : Table) → b.next ≡ a.next → nat_lt n b.next ≡ nat_lt n a.next
+below_same n a b e = ap (λ (k : ℕ). nat_lt n k) e
+
+one_frame : (message : List ℕ) → frames (message ∷ []) ≡ framed message
+one_frame message = append-nil (framed message)
+
+take_drop : (k : ℕ) (xs : List ℕ) → take k xs ++ drop k xs ≡ xs
+take_drop k xs = take-append-drop k xs
+
+-- a connection of which nothing but what the loop notes of it changes
+pub goes_kept : (n : ℕ) (old new : Net) (x y : Connection) → Swaps n old.table new.table x y → new.told ≡ old.told → new.device ≡ old.device
+    → y.peer ≡ x.peer → y.incoming ≡ x.incoming → y.outgoing ≡ x.outgoing → y.is_ended ≡ x.is_ended → Goes old new none none
+goes_kept n old new x y table told device peer incoming outgoing ended =
+    let gone_same : count_by (λ (k : ℕ). k == n) new.told.ended ≡ count_by (λ (k : ℕ). k == n) old.told.ended = ap (λ (t : Traffic). count_by (λ (k : ℕ). k == n) t.ended) told in
+    goes_swap n old new x y none none table (apart_none n old.told new.told told) (same_noted old.device new.device old.told.failures new.told.failures device (ap (λ (t : Traffic). t.failures) told)) (only_none n) (only_none n) (record {
+      was = table.was;
+      is = table.is;
+      below = below_same n old.table new.table table.next;
+      came = ap (λ (t : Traffic). of_number n t.came) told;
+      dialed = ap (λ (t : Traffic). of_number n t.dialed) told;
+      gone = ap (λ (t : Traffic). count_by (λ (k : ℕ). k == n) t.gone) told;
+      ended = omega (arith, gone_same);
+      peer = peer;
+      asked = λ is. inl (sym ended ∙ is);
+      gave = [];
+      given = ap (λ (t : Traffic). octets_of n t.given) told ∙ sym (append-nil (octets_of n old.told.given));
+      are = tt;
+      told = append-nil x.incoming ∙ sym incoming;
+      took = [];
+      taken = ap (λ (t : Traffic). octets_of n t.taken) told ∙ sym (append-nil (octets_of n old.told.taken));
+      put = outgoing ∙ sym (append-nil x.outgoing);
+    })
+
+-- octets came of it
+pub goes_heard : (n : ℕ) (old new : Net) (x y : Connection) (o : List ℕ) → Swaps n old.table new.table x y → new.told ≡ record old.told { given = old.told.given ++ (n, o) ∷ [] } → new.device ≡ old.device
+    → y.peer ≡ x.peer → y.incoming ≡ x.incoming ++ o → y.outgoing ≡ x.outgoing → y.is_ended ≡ x.is_ended → Goes old new none none
+goes_heard n old new x y o table told device peer incoming outgoing ended =
+    let gone_same : count_by (λ (k : ℕ). k == n) new.told.ended ≡ count_by (λ (k : ℕ). k == n) old.told.ended = ap (λ (t : Traffic). count_by (λ (k : ℕ). k == n) t.ended) told in
+    goes_swap n old new x y none none table (apart_given n old.told new.told o told) (same_noted old.device new.device old.told.failures new.told.failures device (ap (λ (t : Traffic). t.failures) told)) (only_none n) (only_none n) (record {
+      was = table.was;
+      is = table.is;
+      below = below_same n old.table new.table table.next;
+      came = ap (λ (t : Traffic). of_number n t.came) told;
+      dialed = ap (λ (t : Traffic). of_number n t.dialed) told;
+      gone = ap (λ (t : Traffic). count_by (λ (k : ℕ). k == n) t.gone) told;
+      ended = omega (arith, gone_same);
+      peer = peer;
+      asked = λ is. inl (sym ended ∙ is);
+      gave = o;
+      given = ap (λ (t : Traffic). octets_of n t.given) told ∙ octets_here n old.told.given o;
+      are = tt;
+      told = sym incoming;
+      took = [];
+      taken = ap (λ (t : Traffic). octets_of n t.taken) told ∙ sym (append-nil (octets_of n old.told.taken));
+      put = outgoing ∙ sym (append-nil x.outgoing);
+    })
+
+-- its peer closed its side
+pub goes_asked : (n : ℕ) (old new : Net) (x y : Connection) → Swaps n old.table new.table x y → new.told ≡ record old.told { ended = old.told.ended ++ n ∷ [] } → new.device ≡ old.device
+    → y.peer ≡ x.peer → y.incoming ≡ x.incoming → y.outgoing ≡ x.outgoing → Goes old new none none
+goes_asked n old new x y table told device peer incoming outgoing =
+    let more : count_by (λ (k : ℕ). k == n) new.told.ended ≡ count_by (λ (k : ℕ). k == n) old.told.ended + 1 = ap (λ (t : Traffic). count_by (λ (k : ℕ). k == n) t.ended) told ∙ count_here n old.told.ended in
+    goes_swap n old new x y none none table (apart_ended n old.told new.told told) (same_noted old.device new.device old.told.failures new.told.failures device (ap (λ (t : Traffic). t.failures) told)) (only_none n) (only_none n) (record {
+      was = table.was;
+      is = table.is;
+      below = below_same n old.table new.table table.next;
+      came = ap (λ (t : Traffic). of_number n t.came) told;
+      dialed = ap (λ (t : Traffic). of_number n t.dialed) told;
+      gone = ap (λ (t : Traffic). count_by (λ (k : ℕ). k == n) t.gone) told;
+      ended = omega (arith, more);
+      peer = peer;
+      asked = λ is. inr (omega (arith, more));
+      gave = [];
+      given = ap (λ (t : Traffic). octets_of n t.given) told ∙ sym (append-nil (octets_of n old.told.given));
+      are = tt;
+      told = append-nil x.incoming ∙ sym incoming;
+      took = [];
+      taken = ap (λ (t : Traffic). octets_of n t.taken) told ∙ sym (append-nil (octets_of n old.told.taken));
+      put = outgoing ∙ sym (append-nil x.outgoing);
+    })
+
+-- its socket took octets from the front of what waited
+pub goes_written : (n k : ℕ) (old new : Net) (x y : Connection) → Swaps n old.table new.table x y → new.told ≡ record old.told { taken = old.told.taken ++ (n, take k x.outgoing) ∷ [] } → new.device ≡ old.device
+    → y.peer ≡ x.peer → y.incoming ≡ x.incoming → y.outgoing ≡ drop k x.outgoing → y.is_ended ≡ x.is_ended → Goes old new none none
+goes_written n k old new x y table told device peer incoming outgoing ended =
+    let gone_same : count_by (λ (k : ℕ). k == n) new.told.ended ≡ count_by (λ (k : ℕ). k == n) old.told.ended = ap (λ (t : Traffic). count_by (λ (k : ℕ). k == n) t.ended) told in
+    goes_swap n old new x y none none table (apart_taken n old.told new.told (take k x.outgoing) told) (same_noted old.device new.device old.told.failures new.told.failures device (ap (λ (t : Traffic). t.failures) told)) (only_none n) (only_none n) (record {
+      was = table.was;
+      is = table.is;
+      below = below_same n old.table new.table table.next;
+      came = ap (λ (t : Traffic). of_number n t.came) told;
+      dialed = ap (λ (t : Traffic). of_number n t.dialed) told;
+      gone = ap (λ (t : Traffic). count_by (λ (k : ℕ). k == n) t.gone) told;
+      ended = omega (arith, gone_same);
+      peer = peer;
+      asked = λ is. inl (sym ended ∙ is);
+      gave = [];
+      given = ap (λ (t : Traffic). octets_of n t.given) told ∙ sym (append-nil (octets_of n old.told.given));
+      are = tt;
+      told = append-nil x.incoming ∙ sym incoming;
+      took = take k x.outgoing;
+      taken = ap (λ (t : Traffic). octets_of n t.taken) told ∙ octets_here n old.told.taken (take k x.outgoing);
+      put = ap (λ zs. take k x.outgoing ++ zs) outgoing ∙ take_drop k x.outgoing ∙ sym (append-nil x.outgoing);
+    })
+
+-- a message was put behind what it is to write
+pub goes_promised : (n : ℕ) (old new : Net) (x y : Connection) (message : List ℕ) → Swaps n old.table new.table x y → new.told ≡ old.told → new.device ≡ old.device
+    → y.peer ≡ x.peer → y.incoming ≡ x.incoming → y.outgoing ≡ x.outgoing ++ framed message → y.is_ended ≡ x.is_ended → Goes old new none (just n message)
+goes_promised n old new x y message table told device peer incoming outgoing ended =
+    let gone_same : count_by (λ (k : ℕ). k == n) new.told.ended ≡ count_by (λ (k : ℕ). k == n) old.told.ended = ap (λ (t : Traffic). count_by (λ (k : ℕ). k == n) t.ended) told in
+    goes_swap n old new x y none (just n message) table (apart_none n old.told new.told told) (same_noted old.device new.device old.told.failures new.told.failures device (ap (λ (t : Traffic). t.failures) told)) (only_none n) (only_just n message) (record {
+      was = table.was;
+      is = table.is;
+      below = below_same n old.table new.table table.next;
+      came = ap (λ (t : Traffic). of_number n t.came) told;
+      dialed = ap (λ (t : Traffic). of_number n t.dialed) told;
+      gone = ap (λ (t : Traffic). count_by (λ (k : ℕ). k == n) t.gone) told;
+      ended = omega (arith, gone_same);
+      peer = peer;
+      asked = λ is. inl (sym ended ∙ is);
+      gave = [];
+      given = ap (λ (t : Traffic). octets_of n t.given) told ∙ sym (append-nil (octets_of n old.told.given));
+      are = tt;
+      told = append-nil x.incoming ∙ sym incoming;
+      took = [];
+      taken = ap (λ (t : Traffic). octets_of n t.taken) told ∙ sym (append-nil (octets_of n old.told.taken));
+      put = outgoing ∙ ap (λ zs. x.outgoing ++ zs) (sym (one_frame message)) ∙ ap (λ ms. x.outgoing ++ frames ms) (sym (just_here n message));
+    })
+
+-- a message was taken of what came
+pub goes_taken : (n : ℕ) (old new : Net) (x y : Connection) (message : List ℕ) → Swaps n old.table new.table x y → new.told ≡ old.told → new.device ≡ old.device
+    → y.peer ≡ x.peer → length message < 65536 → x.incoming ≡ framed message ++ y.incoming → y.outgoing ≡ x.outgoing → y.is_ended ≡ x.is_ended → Goes old new (just n message) none
+goes_taken n old new x y message table told device peer fits incoming outgoing ended =
+    let gone_same : count_by (λ (k : ℕ). k == n) new.told.ended ≡ count_by (λ (k : ℕ). k == n) old.told.ended = ap (λ (t : Traffic). count_by (λ (k : ℕ). k == n) t.ended) told in
+    goes_swap n old new x y (just n message) none table (apart_none n old.told new.told told) (same_noted old.device new.device old.told.failures new.told.failures device (ap (λ (t : Traffic). t.failures) told)) (only_just n message) (only_none n) (record {
+      was = table.was;
+      is = table.is;
+      below = below_same n old.table new.table table.next;
+      came = ap (λ (t : Traffic). of_number n t.came) told;
+      dialed = ap (λ (t : Traffic). of_number n t.dialed) told;
+      gone = ap (λ (t : Traffic). count_by (λ (k : ℕ). k == n) t.gone) told;
+      ended = omega (arith, gone_same);
+      peer = peer;
+      asked = λ is. inl (sym ended ∙ is);
+      gave = [];
+      given = ap (λ (t : Traffic). octets_of n t.given) told ∙ sym (append-nil (octets_of n old.told.given));
+      are = subst AreMessages (sym (just_here n message)) (fits, tt);
+      told = append-nil x.incoming ∙ incoming ∙ ap (λ zs. zs ++ y.incoming) (sym (one_frame message)) ∙ ap (λ ms. frames ms ++ y.incoming) (sym (just_here n message));
+      took = [];
+      taken = ap (λ (t : Traffic). octets_of n t.taken) told ∙ sym (append-nil (octets_of n old.told.taken));
+      put = outgoing ∙ sym (append-nil x.outgoing);
+    })
+
+-- Why one is closed.
+
+below_of : (n : ℕ) (t : Table) → n < t.next → nat_lt n t.next ≡ true
+below_of n t lt = given_of t n lt
+
+-- a device failed
+pub goes_failed : (n : ℕ) (old new : Net) (x : Connection) → Drops n old.table new.table x → Faulty old.told new.told → new.device ≡ noted old.device → Goes old new none none
+goes_failed n old new x table faulty device =
+    let told = faulty.2 in let le = faulty.1.0 in
+    let fails : Fails old.told.failures new.told.failures = subst (λ (k : ℕ). Fails old.told.failures k) (sym (ap (λ (t : Traffic). t.failures) told)) faulty.1 in
+    let ends : count_by (λ (k : ℕ). k == n) new.told.ended ≡ count_by (λ (k : ℕ). k == n) old.told.ended = ap (λ (t : Traffic). count_by (λ (k : ℕ). k == n) t.ended) told in
+    let gone : count_by (λ (k : ℕ). k == n) new.told.gone ≡ count_by (λ (k : ℕ). k == n) old.told.gone = ap (λ (t : Traffic). count_by (λ (k : ℕ). k == n) t.gone) told in
+    goes_drop n old new x none none table (apart_failed n faulty.0 old.told new.told told le) (faulty_noted old.device new.device old.told.failures new.told.failures device fails) (only_none n) (only_none n) (record {
+      here = table.is;
+      before = lives_at (link n old) x table.was;
+      below = below_of n new.table table.given;
+      came = ap (λ (t : Traffic). of_number n t.came) told;
+      dialed = ap (λ (t : Traffic). of_number n t.dialed) told;
+      gone = omega (arith, gone);
+      ended = omega (arith, ends);
+      took = [];
+      taken = ap (λ (t : Traffic). octets_of n t.taken) told ∙ sym (append-nil (octets_of n old.told.taken));
+      cause = inl fails.1;
+    })
+
+-- memory was wanting, before it was read or behind that
+pub goes_wanting : (n : ℕ) (old new : Net) (x : Connection) → Drops n old.table new.table x → Rose old.table.refusals new.table.refusals → new.told ≡ old.told → new.device ≡ old.device → Goes old new none none
+goes_wanting n old new x table rose told device =
+    let ends : count_by (λ (k : ℕ). k == n) new.told.ended ≡ count_by (λ (k : ℕ). k == n) old.told.ended = ap (λ (t : Traffic). count_by (λ (k : ℕ). k == n) t.ended) told in
+    let gone : count_by (λ (k : ℕ). k == n) new.told.gone ≡ count_by (λ (k : ℕ). k == n) old.told.gone = ap (λ (t : Traffic). count_by (λ (k : ℕ). k == n) t.gone) told in
+    goes_drop n old new x none none table (apart_none n old.told new.told told) (same_noted old.device new.device old.told.failures new.told.failures device (ap (λ (t : Traffic). t.failures) told)) (only_none n) (only_none n) (record {
+      here = table.is;
+      before = lives_at (link n old) x table.was;
+      below = below_of n new.table table.given;
+      came = ap (λ (t : Traffic). of_number n t.came) told;
+      dialed = ap (λ (t : Traffic). of_number n t.dialed) told;
+      gone = omega (arith, gone);
+      ended = omega (arith, ends);
+      took = [];
+      taken = ap (λ (t : Traffic). octets_of n t.taken) told ∙ sym (append-nil (octets_of n old.told.taken));
+      cause = inr (inl rose);
+    })
+
+pub goes_wanting_read : (n : ℕ) (old new : Net) (x : Connection) (o : List ℕ) → Drops n old.table new.table x → Rose old.table.refusals new.table.refusals → new.told ≡ record old.told { given = old.told.given ++ (n, o) ∷ [] } → new.device ≡ old.device → Goes old new none none
+goes_wanting_read n old new x o table rose told device =
+    let ends : count_by (λ (k : ℕ). k == n) new.told.ended ≡ count_by (λ (k : ℕ). k == n) old.told.ended = ap (λ (t : Traffic). count_by (λ (k : ℕ). k == n) t.ended) told in
+    let gone : count_by (λ (k : ℕ). k == n) new.told.gone ≡ count_by (λ (k : ℕ). k == n) old.told.gone = ap (λ (t : Traffic). count_by (λ (k : ℕ). k == n) t.gone) told in
+    goes_drop n old new x none none table (apart_given n old.told new.told o told) (same_noted old.device new.device old.told.failures new.told.failures device (ap (λ (t : Traffic). t.failures) told)) (only_none n) (only_none n) (record {
+      here = table.is;
+      before = lives_at (link n old) x table.was;
+      below = below_of n new.table table.given;
+      came = ap (λ (t : Traffic). of_number n t.came) told;
+      dialed = ap (λ (t : Traffic). of_number n t.dialed) told;
+      gone = omega (arith, gone);
+      ended = omega (arith, ends);
+      took = [];
+      taken = ap (λ (t : Traffic). octets_of n t.taken) told ∙ sym (append-nil (octets_of n old.told.taken));
+      cause = inr (inl rose);
+    })
+
+-- memory was wanting for its place in the queue, behind a message that was taken of it
+pub goes_wanting_taken : (n : ℕ) (old new : Net) (x : Connection) (message : List ℕ) → Drops n old.table new.table x → Rose old.table.refusals new.table.refusals → new.told ≡ old.told → new.device ≡ old.device → Goes old new (just n message) none
+goes_wanting_taken n old new x message table rose told device =
+    let ends : count_by (λ (k : ℕ). k == n) new.told.ended ≡ count_by (λ (k : ℕ). k == n) old.told.ended = ap (λ (t : Traffic). count_by (λ (k : ℕ). k == n) t.ended) told in
+    let gone : count_by (λ (k : ℕ). k == n) new.told.gone ≡ count_by (λ (k : ℕ). k == n) old.told.gone = ap (λ (t : Traffic). count_by (λ (k : ℕ). k == n) t.gone) told in
+    goes_drop n old new x (just n message) none table (apart_none n old.told new.told told) (same_noted old.device new.device old.told.failures new.told.failures device (ap (λ (t : Traffic). t.failures) told)) (only_just n message) (only_none n) (record {
+      here = table.is;
+      before = lives_at (link n old) x table.was;
+      below = below_of n new.table table.given;
+      came = ap (λ (t : Traffic). of_number n t.came) told;
+      dialed = ap (λ (t : Traffic). of_number n t.dialed) told;
+      gone = omega (arith, gone);
+      ended = omega (arith, ends);
+      took = [];
+      taken = ap (λ (t : Traffic). octets_of n t.taken) told ∙ sym (append-nil (octets_of n old.told.taken));
+      cause = inr (inl rose);
+    })
+
+-- its server closed its side
+pub goes_left : (n : ℕ) (old new : Net) (x : Connection) → Drops n old.table new.table x → is_client x.peer ≡ false → new.told ≡ record old.told { ended = old.told.ended ++ n ∷ [] } → new.device ≡ old.device → Goes old new none none
+goes_left n old new x table server told device =
+    let ends : count_by (λ (k : ℕ). k == n) new.told.ended ≡ count_by (λ (k : ℕ). k == n) old.told.ended + 1 = ap (λ (t : Traffic). count_by (λ (k : ℕ). k == n) t.ended) told ∙ count_here n old.told.ended in
+    let gone : count_by (λ (k : ℕ). k == n) new.told.gone ≡ count_by (λ (k : ℕ). k == n) old.told.gone = ap (λ (t : Traffic). count_by (λ (k : ℕ). k == n) t.gone) told in
+    goes_drop n old new x none none table (apart_ended n old.told new.told told) (same_noted old.device new.device old.told.failures new.told.failures device (ap (λ (t : Traffic). t.failures) told)) (only_none n) (only_none n) (record {
+      here = table.is;
+      before = lives_at (link n old) x table.was;
+      below = below_of n new.table table.given;
+      came = ap (λ (t : Traffic). of_number n t.came) told;
+      dialed = ap (λ (t : Traffic). of_number n t.dialed) told;
+      gone = omega (arith, gone);
+      ended = omega (arith, ends);
+      took = [];
+      taken = ap (λ (t : Traffic). octets_of n t.taken) told ∙ sym (append-nil (octets_of n old.told.taken));
+      cause = inr (inr (inr (inl (omega (arith, ends), inl (x, table.was, server)))));
+    })
+
+-- its peer takes no more
+pub goes_gone : (n : ℕ) (old new : Net) (x : Connection) → Drops n old.table new.table x → new.told ≡ record old.told { gone = old.told.gone ++ n ∷ [] } → new.device ≡ old.device → Goes old new none none
+goes_gone n old new x table told device =
+    let ends : count_by (λ (k : ℕ). k == n) new.told.ended ≡ count_by (λ (k : ℕ). k == n) old.told.ended = ap (λ (t : Traffic). count_by (λ (k : ℕ). k == n) t.ended) told in
+    let gone : count_by (λ (k : ℕ). k == n) new.told.gone ≡ count_by (λ (k : ℕ). k == n) old.told.gone + 1 = ap (λ (t : Traffic). count_by (λ (k : ℕ). k == n) t.gone) told ∙ count_here n old.told.gone in
+    goes_drop n old new x none none table (apart_gone n old.told new.told told) (same_noted old.device new.device old.told.failures new.told.failures device (ap (λ (t : Traffic). t.failures) told)) (only_none n) (only_none n) (record {
+      here = table.is;
+      before = lives_at (link n old) x table.was;
+      below = below_of n new.table table.given;
+      came = ap (λ (t : Traffic). of_number n t.came) told;
+      dialed = ap (λ (t : Traffic). of_number n t.dialed) told;
+      gone = omega (arith, gone);
+      ended = omega (arith, ends);
+      took = [];
+      taken = ap (λ (t : Traffic). octets_of n t.taken) told ∙ sym (append-nil (octets_of n old.told.taken));
+      cause = inr (inr (inl (omega (arith, gone))));
+    })
+
+-- it has all that it waits for
+pub goes_finished : (n : ℕ) (old new : Net) (x : Connection) → Drops n old.table new.table x → x.is_ended ≡ true → x.outgoing ≡ [] → NoneWhole x.incoming → new.told ≡ old.told → new.device ≡ old.device → Goes old new none none
+goes_finished n old new x table asked written whole told device =
+    let ends : count_by (λ (k : ℕ). k == n) new.told.ended ≡ count_by (λ (k : ℕ). k == n) old.told.ended = ap (λ (t : Traffic). count_by (λ (k : ℕ). k == n) t.ended) told in
+    let gone : count_by (λ (k : ℕ). k == n) new.told.gone ≡ count_by (λ (k : ℕ). k == n) old.told.gone = ap (λ (t : Traffic). count_by (λ (k : ℕ). k == n) t.gone) told in
+    goes_drop n old new x none none table (apart_none n old.told new.told told) (same_noted old.device new.device old.told.failures new.told.failures device (ap (λ (t : Traffic). t.failures) told)) (only_none n) (only_none n) (record {
+      here = table.is;
+      before = lives_at (link n old) x table.was;
+      below = below_of n new.table table.given;
+      came = ap (λ (t : Traffic). of_number n t.came) told;
+      dialed = ap (λ (t : Traffic). of_number n t.dialed) told;
+      gone = omega (arith, gone);
+      ended = omega (arith, ends);
+      took = [];
+      taken = ap (λ (t : Traffic). octets_of n t.taken) told ∙ sym (append-nil (octets_of n old.told.taken));
+      cause = inr (inr (inr (inr (inl (record {
+        ended = inl (x, table.was, asked);
+        rest = x.incoming;
+        none = whole;
+        heard = record {
+          gave = [];
+          given = ap (λ (t : Traffic). octets_of n t.given) told ∙ sym (append-nil (octets_of n old.told.given));
+          are = tt;
+          told = ap (λ (o : Option Connection). held o ++ []) table.was ∙ append-nil x.incoming;
+        };
+        promised = ap (λ (t : Traffic). octets_of n t.taken ++ []) told
+            ∙ sym (append-nil (octets_of n old.told.taken ++ []))
+            ∙ ap (λ (zs : List ℕ). (octets_of n old.told.taken ++ zs) ++ []) (sym (ap unwritten table.was ∙ written));
+      })))));
+    })
+
+-- more would wait to be written to it than may
+pub goes_over : (n : ℕ) (old new : Net) (x : Connection) (message : List ℕ) → Drops n old.table new.table x → max_waiting < length x.outgoing + length (framed message) → new.told ≡ old.told → new.device ≡ old.device → Goes old new none none
+goes_over n old new x message table over told device =
+    let ends : count_by (λ (k : ℕ). k == n) new.told.ended ≡ count_by (λ (k : ℕ). k == n) old.told.ended = ap (λ (t : Traffic). count_by (λ (k : ℕ). k == n) t.ended) told in
+    let gone : count_by (λ (k : ℕ). k == n) new.told.gone ≡ count_by (λ (k : ℕ). k == n) old.told.gone = ap (λ (t : Traffic). count_by (λ (k : ℕ). k == n) t.gone) told in
+    let left : length (unwritten (at n old.table)) ≡ length x.outgoing = ap (λ (o : Option Connection). length (unwritten o)) table.was in
+    goes_drop n old new x none none table (apart_none n old.told new.told told) (same_noted old.device new.device old.told.failures new.told.failures device (ap (λ (t : Traffic). t.failures) told)) (only_none n) (only_none n) (record {
+      here = table.is;
+      before = lives_at (link n old) x table.was;
+      below = below_of n new.table table.given;
+      came = ap (λ (t : Traffic). of_number n t.came) told;
+      dialed = ap (λ (t : Traffic). of_number n t.dialed) told;
+      gone = omega (arith, gone);
+      ended = omega (arith, ends);
+      took = [];
+      taken = ap (λ (t : Traffic). octets_of n t.taken) told ∙ sym (append-nil (octets_of n old.told.taken));
+      cause = inr (inr (inr (inr (inr (message, omega (arith, left, over))))));
+    })
+
+-- Nothing happened.
+
+-- where all parts are as they were
+pub goes_still : (old new : Net) → new.told ≡ old.told → new.table ≡ old.table → new.device ≡ old.device → Goes old new none none
+goes_still old new told table device = goes_nothing_at old new (ap (λ (t : Traffic). record new { told = t }) told ∙ ap (λ (t : Table). record old { table = t; device = new.device }) table ∙ ap (λ (d : Option DeviceFault). record old { device = d }) device)
+
+-- Why a message is not put behind.
+
+over_by : (n : ℕ) (old new : Net) (b : Bool) → nat_lt n old.table.next ≡ b → at n old.table ≡ None → new.table ≡ old.table → IsOver n old new
+over_by n old new true below none_here same = inl (ap (λ (t : Table). nat_lt n t.next && is_none (at n t)) same ∙ ap (λ (b : Bool). b && is_none (at n old.table)) below ∙ ap is_none none_here)
+over_by n old new false below none_here same = inr (not_lt n old.table.next below)
+
+pub over_at : (n : ℕ) (old new : Net) → at n old.table ≡ None → new.table ≡ old.table → IsOver n old new
+over_at n old new none_here same = over_by n old new (nat_lt n old.table.next) refl none_here same
+
+pub full_at : (n : ℕ) (old new : Net) (x : Connection) (message : List ℕ) → Drops n old.table new.table x → max_waiting < length x.outgoing + length (framed message) → IsFull n old new [] message
+full_at n old new x message table over =
+    let left : length (unwritten (at n old.table)) ≡ length x.outgoing = ap (λ (o : Option Connection). length (unwritten o)) table.was in (
+      lives_at (link n old) x table.was,
+      ap (λ (b : Bool). b && is_none (at n new.table)) (below_of n new.table table.given) ∙ ap is_none table.is,
+      omega (arith, left, over),
+    )
+
+-- What a call of the sockets told.
+
+-- a write that was refused closes its connection
+pub goes_refused : (n : ℕ) (old new : Net) (x : Connection) (told : Traffic) (octets : List ℕ) (why : Why) → Drops n old.table new.table x → Took (Err why) n octets old.told told → new.told ≡ told → new.device ≡ noted_by why old.device → Goes old new none none
+goes_refused n old new x told octets whys.NoServer table took same device = absurd took
+goes_refused n old new x told octets whys.Gone table took same device = goes_gone n old new x table (same ∙ took) device
+goes_refused n old new x told octets whys.Limit table took same device = absurd took
+goes_refused n old new x told octets whys.Full table took same device = absurd took
+goes_refused n old new x told octets whys.Device table took same device = goes_failed n old new x table (subst (λ (t : Traffic). Faulty old.told t) (sym same) took) device
+goes_refused n old new x told octets whys.NoMemory table took same device = absurd took

@@ -1,0 +1,23 @@
+use Rattle.std.proofs.Common.{rules, tests, ◌≡◌, ◌+◌, ℕ, List, [], ◌∷◌, ◌++◌, Some, None, true, false, refl, sym, ap, ◌∙◌, subst, arith}
+use Rattle.lb_lines.specs.Moves.{Came, Faulty, Traffic}
+use Rattle.lb_lines.specs.declared.traffic.Accepted.TheVariants as accepted
+use Rattle.lb_lines.specs.declared.traffic.Peer.{Peer}
+use Rattle.lb_lines.specs.declared.traffic.Read.TheVariants as reads
+use Rattle.lb_streams.proofs.Going.{goes_kept}
+use Rattle.lb_streams.proofs.Opening.{Adds, adds, goes_begun, goes_came, goes_undialed, undialed_lacks}
+use Rattle.lb_streams.specs.Connection.{Net}
+use Rattle.lb_streams.specs.Goes.{Goes, Lacks, just, none}
+use Rattle.lb_streams.specs.Table.{IsFirst, Table, at, clients, client_count}
+use Rattle.lb_streams.specs.declared.connection.Connection.{Connection}
+use Rattle.lb_streams.proofs.links.Links.admit.Goals as goal
+
+pub returns-in-Ok-Client : goal.returns-in-Ok-Client
+returns-in-Ok-Client g c =
+    let old : Net = record { told = g.S.Streams.told c.self.inside.sockets; table = c.self.inside.table; device = c.self.inside.device } in
+    let mid : Net = record { told = g.S.Streams.told c.self.inside.sockets; table = c.candidate.new.self; device = c.self.inside.device } in
+    let new : Net = record { told = g.S.Streams.told c.accept.new.self; table = c.add.new.self; device = c.self.inside.device } in
+    let x : Connection = c.new.result in
+    let n : ℕ = c.in-Some.number in
+    let added : Adds n mid.table new.table x = adds n mid.table new.table x c.in-Some.ensures.found.0 c.new.ensures.who.0 c.add.ensures.here c.add.ensures.others c.add.ensures.clients c.add.ensures.next c.add.ensures.same in
+    let came = rw c.in-Ok-Client.field-0-is at c.in-Ok-Client.ensures.came in
+    subst (λ (z : Net). Goes z new none none) c.self.view_is (goes_came n old mid new x c.in-Ok-Client.front c.in-Ok-Client.at c.candidate.ensures.narrows refl refl added c.new.ensures.who.1 c.new.ensures.empty.0 c.new.ensures.empty.1 c.new.ensures.asks.0 came refl)

@@ -1,0 +1,38 @@
+use Rattle.std.proofs.Common.{rules, tests, ◌≡◌, ◌+◌, ℕ, List, [], ◌∷◌, ◌++◌, Some, None, true, false, refl, sym, ap, ◌∙◌, subst, arith}
+use Rattle.lb_lines.specs.Moves.{Came, Faulty, Traffic}
+use Rattle.lb_lines.specs.declared.traffic.Accepted.TheVariants as accepted
+use Rattle.lb_lines.specs.declared.traffic.Peer.{Peer}
+use Rattle.lb_lines.specs.declared.traffic.Read.TheVariants as reads
+use Rattle.lb_streams.proofs.Going.{goes_kept}
+use Rattle.lb_streams.proofs.Opening.{Adds, adds, goes_begun, goes_came, goes_undialed, undialed_lacks}
+use Rattle.lb_streams.specs.Connection.{Net}
+use Rattle.lb_streams.specs.Goes.{Goes, Lacks, just, none}
+use Rattle.lb_streams.specs.Table.{Narrows, Table, at, clients, client_count}
+use Rattle.lb_streams.specs.declared.connection.Connection.{Connection}
+use Rattle.lb_streams.proofs.links.Links.dialed.Goals as goal
+
+pub returns-in-Ok-clause-goes : goal.returns-in-Ok-clause-goes
+returns-in-Ok-clause-goes g c =
+    let old : Net = record { told = g.S.Streams.told c.self.inside.sockets; table = c.self.inside.table; device = c.self.inside.device } in
+    let mid : Net = record { told = g.S.Streams.told c.self.inside.sockets; table = c.note.new.self; device = c.self.inside.device } in
+    let new : Net = record { told = g.S.Streams.told c.dial.new.self; table = c.add.new.self; device = c.self.inside.device } in
+    let x : Connection = c.new.result in
+    let n : ℕ = c.in-Some-candidate.number in
+    let narrow = subst (λ (t : Table). Narrows old.table t) (sym c.note.ensures.same) c.candidate.ensures.narrows in
+    let number : n ≡ mid.table.next = c.in-Some-candidate.ensures.found.0 ∙ ap (λ (t : Table). t.next) (sym c.note.ensures.same) in
+    let added : Adds n mid.table new.table x = adds n mid.table new.table x number c.new.ensures.who.0 c.add.ensures.here c.add.ensures.others c.add.ensures.clients c.add.ensures.next c.add.ensures.same in
+    subst (λ (z : Net). Goes z new none none) c.self.view_is (goes_begun n old mid new x c.args.server c.args.lane c.args.at narrow refl refl added c.new.ensures.who.1 c.new.ensures.empty.0 c.new.ensures.empty.1 c.new.ensures.asks.0 c.in-Ok.ensures.dialed refl)
+
+pub returns-in-Err : goal.returns-in-Err
+returns-in-Err g c =
+    let old : Net = record { told = g.S.Streams.told c.self.inside.sockets; table = c.self.inside.table; device = c.self.inside.device } in
+    let mid : Net = record { told = g.S.Streams.told c.self.inside.sockets; table = c.note.new.self; device = c.self.inside.device } in
+    let new : Net = c.note-in-Err.new.self in
+    let narrow = subst (λ (t : Table). Narrows old.table t) (sym c.note.ensures.same) c.candidate.ensures.narrows in
+    let goes = goes_undialed c.in-Some-candidate.number old mid new (g.S.Streams.told c.dial.new.self) c.args.at c.in-Err.why narrow refl refl (ap (λ (z : Net). z.table) c.note-in-Err.ensures) c.in-Err.ensures.dialed (ap (λ (z : Net). z.told) c.note-in-Err.ensures) (ap (λ (z : Net). z.device) c.note-in-Err.ensures) in
+    let why = undialed_lacks c.in-Some-candidate.number old new (g.S.Streams.told c.dial.new.self) c.args.at c.in-Err.why c.in-Err.ensures.dialed (ap (λ (z : Net). z.told) c.note-in-Err.ensures) in
+    record {
+      goes = subst (λ (z : Net). Goes z new none none) c.self.view_is goes;
+      to = tt;
+      why = subst (λ (z : Net). Lacks z new c.in-Err.why) c.self.view_is why;
+    }

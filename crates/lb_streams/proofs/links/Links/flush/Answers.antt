@@ -1,0 +1,42 @@
+use Rattle.std.proofs.Common.{rules, tests, ◌≡◌, ◌+◌, ℕ, List, [], ◌∷◌, ◌++◌, Some, None, true, false, refl, sym, ap, ◌∙◌, subst, arith}
+use Rattle.lb_lines.specs.Moves.{Came, Faulty, Traffic}
+use Rattle.lb_lines.specs.declared.traffic.Accepted.TheVariants as accepted
+use Rattle.lb_lines.specs.declared.traffic.Peer.{Peer}
+use Rattle.lb_lines.specs.declared.traffic.Read.TheVariants as reads
+use Rattle.lb_streams.proofs.Going.{Drops, drops, goes_kept, goes_refused, goes_written, swaps}
+use Rattle.lb_streams.proofs.Opening.{Adds, adds, goes_begun, goes_came, goes_undialed, undialed_lacks}
+use Rattle.lb_streams.specs.Connection.{Net}
+use Rattle.lb_streams.specs.Goes.{Goes, Lacks, just, none}
+use Rattle.lb_streams.specs.Table.{IsFirst, Table, at, clients, client_count}
+use Rattle.lb_streams.specs.declared.connection.Connection.{Connection}
+use Rattle.lb_streams.proofs.links.Links.flush.Goals as goal
+
+pub returns-then-len-eq0 : goal.returns-then-len-eq0
+returns-then-len-eq0 g c =
+    let old : Net = record { told = g.S.Streams.told c.self.inside.sockets; table = c.self.inside.table; device = c.self.inside.device } in
+    let x : Connection = c.in-Some.connection in
+    let new : Net = record { told = g.S.Streams.told c.self.inside.sockets; table = c.put.new.self; device = c.self.inside.device } in
+    let y : Connection = record x { is_touched = false } in
+    let swap = swaps c.args.number old.table c.take.new.self new.table x y c.in-Some.ensures.here c.in-Some.ensures.number.0 c.take.ensures.others c.in-Some.ensures.clients c.take.ensures.same.0 c.take.ensures.same.1
+    c.put.ensures.here c.put.ensures.others c.put.ensures.clients c.put.ensures.same.0 c.put.ensures.same.1 (refl) (refl) in
+    subst (λ (z : Net). Goes z new none none) c.self.view_is (goes_kept c.args.number old new x y swap refl refl refl refl refl refl)
+
+pub returns-in-Ok : goal.returns-in-Ok
+returns-in-Ok g c =
+    let old : Net = record { told = g.S.Streams.told c.self.inside.sockets; table = c.self.inside.table; device = c.self.inside.device } in
+    let x : Connection = c.in-Some.connection in
+    let new : Net = record { told = g.S.Streams.told c.write_to.new.self; table = c.put-in-Ok.new.self; device = c.self.inside.device } in
+    let y : Connection = record x { outgoing = c.advance.new.self; is_touched = false } in
+    let swap = swaps c.args.number old.table c.take.new.self new.table x y c.in-Some.ensures.here c.in-Some.ensures.number.0 c.take.ensures.others c.in-Some.ensures.clients c.take.ensures.same.0 c.take.ensures.same.1
+    c.put-in-Ok.ensures.here c.put-in-Ok.ensures.others c.put-in-Ok.ensures.clients c.put-in-Ok.ensures.same.0 c.put-in-Ok.ensures.same.1 (refl) (refl) in
+    subst (λ (z : Net). Goes z new none none) c.self.view_is (goes_written c.args.number c.in-Ok.written old new x y swap (search rules) refl refl refl (search rules) refl)
+
+pub returns-in-Err : goal.returns-in-Err
+returns-in-Err g c =
+    let old : Net = record { told = g.S.Streams.told c.self.inside.sockets; table = c.self.inside.table; device = c.self.inside.device } in
+    let x : Connection = c.in-Some.connection in
+    let new : Net = c.note.new.self in
+    let drop = drops c.args.number old.table c.take.new.self x c.in-Some.ensures.here c.in-Some.ensures.number.1 c.take.ensures.gone c.take.ensures.others c.in-Some.ensures.clients c.take.ensures.same.0 c.take.ensures.same.1 in
+    let table : new.table ≡ c.take.new.self = ap (λ (z : Net). z.table) c.note.ensures in
+    let took = c.in-Err.ensures.took in
+    subst (λ (z : Net). Goes z new none none) c.self.view_is (goes_refused c.args.number old new x (g.S.Streams.told c.write_to.new.self) c.as_slice.result.now c.in-Err.why (subst (λ (t : Table). Drops c.args.number old.table t x) (sym table) drop) took (ap (λ (z : Net). z.told) c.note.ensures ∙ c.close.ensures.same) (ap (λ (z : Net). z.device) c.note.ensures))

@@ -1,0 +1,5 @@
+use Rattle.lb_streams.specs.Goes.{Goes, none}
+use Rattle.lb_streams.proofs.links.Links.follow.Given as goal
+
+abbrev pub invariant-loop-place : goal.invariant-loop-place
+invariant-loop-place g l = Goes l.fn.self l.self none none

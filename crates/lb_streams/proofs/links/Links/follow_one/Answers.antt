@@ -1,0 +1,22 @@
+use Rattle.std.proofs.Common.{rules, tests, ◌≡◌, ◌+◌, ℕ, List, [], ◌∷◌, ◌++◌, Some, None, true, false, refl, sym, ap, ◌∙◌, subst, arith}
+use Rattle.lb_lines.specs.Moves.{Came, Faulty, Traffic}
+use Rattle.lb_lines.specs.declared.traffic.Accepted.TheVariants as accepted
+use Rattle.lb_lines.specs.declared.traffic.Peer.{Peer}
+use Rattle.lb_lines.specs.declared.traffic.Read.TheVariants as reads
+use Rattle.lb_streams.proofs.Going.{goes_kept, swaps, swaps_by}
+use Rattle.lb_streams.proofs.Opening.{Adds, adds, goes_begun, goes_came, goes_undialed, undialed_lacks}
+use Rattle.lb_streams.specs.Connection.{Net}
+use Rattle.lb_streams.specs.Goes.{Goes, Lacks, just, none}
+use Rattle.lb_streams.specs.Table.{IsFirst, Table, at, clients, client_count}
+use Rattle.lb_streams.specs.declared.connection.Connection.{Connection}
+use Rattle.lb_streams.proofs.links.Links.follow_one.Goals as goal
+
+pub returns : goal.returns
+returns g c =
+    let old : Net = record { told = g.S.Streams.told c.self.inside.sockets; table = c.self.inside.table; device = c.self.inside.device } in
+    let x : Connection = c.in-Some-take.connection in
+    let new : Net = record { told = g.S.Streams.told c.self.inside.sockets; table = c.put.new.self; device = c.self.inside.device } in
+    let y : Connection = c.follow.new.self in
+    let swap = swaps_by c.in-Some.number old.table c.take.new.self c.look_by.new.self new.table x y (c.look_by.ensures.same) c.in-Some-take.ensures.here c.in-Some-take.ensures.number.0 c.take.ensures.others c.in-Some-take.ensures.clients c.take.ensures.same.0 c.take.ensures.same.1
+    c.put.ensures.here c.put.ensures.others c.put.ensures.clients c.put.ensures.same.0 c.put.ensures.same.1 (c.follow.ensures.rest.0) (c.follow.ensures.rest.1) in
+    subst (λ (z : Net). Goes z new none none) c.self.view_is (goes_kept c.in-Some.number old new x y swap refl refl c.follow.ensures.rest.1 c.follow.ensures.rest.2 c.follow.ensures.rest.3 c.follow.ensures.rest.4)

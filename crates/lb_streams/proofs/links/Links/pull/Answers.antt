@@ -1,0 +1,96 @@
+use Rattle.std.proofs.Common.{rules, tests, ◌≡◌, ◌+◌, ℕ, List, [], ◌∷◌, ◌++◌, Some, None, true, false, refl, sym, ap, ◌∙◌, subst, arith}
+use Rattle.lb_lines.specs.Moves.{Came, Faulty, Traffic}
+use Rattle.lb_lines.specs.declared.traffic.Accepted.TheVariants as accepted
+use Rattle.lb_lines.specs.declared.traffic.Peer.{Peer}
+use Rattle.lb_lines.specs.declared.traffic.Read.TheVariants as reads
+use Rattle.lb_streams.proofs.Going.{Drops, drops, drops_wanting, goes_asked, goes_failed, goes_heard, goes_kept, goes_left, goes_wanting, goes_wanting_read, rose_wanting, swaps, swaps_by}
+use Rattle.lb_streams.proofs.Opening.{Adds, adds, goes_begun, goes_came, goes_undialed, undialed_lacks}
+use Rattle.lb_streams.specs.Connection.{Net}
+use Rattle.lb_streams.specs.Goes.{Goes, Lacks, just, none}
+use Rattle.lb_streams.specs.Table.{Table, at, clients, client_count, is_client}
+use Rattle.lb_streams.specs.declared.connection.Connection.{Connection}
+use Rattle.lb_streams.proofs.links.Links.pull.Goals as goal
+
+pub returns-then-not-may_be_read : goal.returns-then-not-may_be_read
+returns-then-not-may_be_read g c =
+    let old : Net = record { told = g.S.Streams.told c.self.inside.sockets; table = c.self.inside.table; device = c.self.inside.device } in
+    let x : Connection = c.in-Some.connection in
+    let new : Net = record { told = g.S.Streams.told c.self.inside.sockets; table = c.put.new.self; device = c.self.inside.device } in
+    let y : Connection = record x { is_passed_over = true } in
+    let swap = swaps c.args.number old.table c.take.new.self new.table x y c.in-Some.ensures.here c.in-Some.ensures.number.0 c.take.ensures.others c.in-Some.ensures.clients c.take.ensures.same.0 c.take.ensures.same.1
+    c.put.ensures.here c.put.ensures.others c.put.ensures.clients c.put.ensures.same.0 c.put.ensures.same.1 (refl) (refl) in
+    subst (λ (z : Net). Goes z new none none) c.self.view_is (goes_kept c.args.number old new x y swap refl refl refl refl refl refl)
+
+pub returns-in-Ok : goal.returns-in-Ok
+returns-in-Ok g c =
+    let old : Net = record { told = g.S.Streams.told c.self.inside.sockets; table = c.self.inside.table; device = c.self.inside.device } in
+    let x : Connection = c.in-Some.connection in
+    let new : Net = record { told = g.S.Streams.told c.read_from.new.self; table = c.put-in-Ok.new.self; device = c.self.inside.device } in
+    let y : Connection = c.hear.new.connection in
+    let swap = swaps_by c.args.number old.table c.take.new.self c.hear.new.table new.table x y (c.hear.ensures.same) c.in-Some.ensures.here c.in-Some.ensures.number.0 c.take.ensures.others c.in-Some.ensures.clients c.take.ensures.same.0 c.take.ensures.same.1
+    c.put-in-Ok.ensures.here c.put-in-Ok.ensures.others c.put-in-Ok.ensures.clients c.put-in-Ok.ensures.same.0 c.put-in-Ok.ensures.same.1 (c.hear.ensures.rest.0) (c.hear.ensures.rest.1) in
+    let told = rw c.in-Ok-Piece.field-0-is at c.in-Ok-Piece.ensures.gave in
+    subst (λ (z : Net). Goes z new none none) c.self.view_is (goes_heard c.args.number old new x y c.in-Ok-Piece.octets swap told refl c.hear.ensures.rest.1 c.in-Ok.ensures.heard c.hear.ensures.rest.2 c.hear.ensures.rest.3)
+
+pub returns-in-Err-hear : goal.returns-in-Err-hear
+returns-in-Err-hear g c =
+    let old : Net = record { told = g.S.Streams.told c.self.inside.sockets; table = c.self.inside.table; device = c.self.inside.device } in
+    let x : Connection = c.in-Some.connection in
+    let new : Net = record { told = g.S.Streams.told c.close.new.self; table = c.lacks.new.self; device = c.self.inside.device } in
+    let gone : Drops c.args.number old.table c.hear.new.table x = subst (λ (t : Table). Drops c.args.number old.table t x) (sym (c.hear.ensures.same)) (drops c.args.number old.table c.take.new.self x c.in-Some.ensures.here c.in-Some.ensures.number.1 c.take.ensures.gone c.take.ensures.others c.in-Some.ensures.clients c.take.ensures.same.0 c.take.ensures.same.1) in
+    let drop = drops_wanting c.args.number old.table c.hear.new.table new.table x gone c.lacks.ensures.same c.lacks.ensures.refusals.1 in
+    let rose = rose_wanting old.table.refusals c.hear.new.table.refusals new.table.refusals gone.refusals c.lacks.ensures.refusals.0 in
+    let told = rw c.in-Ok-Piece.field-0-is at c.in-Ok-Piece.ensures.gave in
+    subst (λ (z : Net). Goes z new none none) c.self.view_is (goes_wanting_read c.args.number old new x c.in-Ok-Piece.octets drop rose (c.close.ensures.same ∙ told) refl)
+
+pub returns-in-Ok-Nothing : goal.returns-in-Ok-Nothing
+returns-in-Ok-Nothing g c =
+    let old : Net = record { told = g.S.Streams.told c.self.inside.sockets; table = c.self.inside.table; device = c.self.inside.device } in
+    let x : Connection = c.in-Some.connection in
+    let new : Net = record { told = g.S.Streams.told c.read_from.new.self; table = c.put-in-Ok-Nothing.new.self; device = c.self.inside.device } in
+    let y : Connection = x in
+    let swap = swaps c.args.number old.table c.take.new.self new.table x y c.in-Some.ensures.here c.in-Some.ensures.number.0 c.take.ensures.others c.in-Some.ensures.clients c.take.ensures.same.0 c.take.ensures.same.1
+    c.put-in-Ok-Nothing.ensures.here c.put-in-Ok-Nothing.ensures.others c.put-in-Ok-Nothing.ensures.clients c.put-in-Ok-Nothing.ensures.same.0 c.put-in-Ok-Nothing.ensures.same.1 (refl) (refl) in
+    let told = rw c.in-Ok-Nothing.field-0-is at c.in-Ok-Nothing.ensures.gave in
+    subst (λ (z : Net). Goes z new none none) c.self.view_is (goes_kept c.args.number old new x y swap told refl refl refl refl refl)
+
+pub returns-in-Server : goal.returns-in-Server
+returns-in-Server g c =
+    let old : Net = record { told = g.S.Streams.told c.self.inside.sockets; table = c.self.inside.table; device = c.self.inside.device } in
+    let x : Connection = c.in-Some.connection in
+    let new : Net = record { told = g.S.Streams.told c.close-in-Server.new.self; table = c.take.new.self; device = c.self.inside.device } in
+    let drop = drops c.args.number old.table c.take.new.self x c.in-Some.ensures.here c.in-Some.ensures.number.1 c.take.ensures.gone c.take.ensures.others c.in-Some.ensures.clients c.take.ensures.same.0 c.take.ensures.same.1 in
+    let told = rw c.in-Ok-Ended.field-0-is at c.in-Ok-Ended.ensures.gave in
+    subst (λ (z : Net). Goes z new none none) c.self.view_is (goes_left c.args.number old new x drop (ap (λ (p : Peer). is_client p) c.in-Server.is) (c.close-in-Server.ensures.same ∙ told) refl)
+
+pub returns-in-Client : goal.returns-in-Client
+returns-in-Client g c =
+    let old : Net = record { told = g.S.Streams.told c.self.inside.sockets; table = c.self.inside.table; device = c.self.inside.device } in
+    let x : Connection = c.in-Some.connection in
+    let new : Net = record { told = g.S.Streams.told c.read_from.new.self; table = c.put-in-Client.new.self; device = c.self.inside.device } in
+    let y : Connection = c.end.new.self in
+    let swap = swaps_by c.args.number old.table c.take.new.self c.look_by.new.self new.table x y (c.look_by.ensures.same) c.in-Some.ensures.here c.in-Some.ensures.number.0 c.take.ensures.others c.in-Some.ensures.clients c.take.ensures.same.0 c.take.ensures.same.1
+    c.put-in-Client.ensures.here c.put-in-Client.ensures.others c.put-in-Client.ensures.clients c.put-in-Client.ensures.same.0 c.put-in-Client.ensures.same.1 (c.end.ensures.rest.0) (c.end.ensures.rest.1) in
+    let told = rw c.in-Ok-Ended.field-0-is at c.in-Ok-Ended.ensures.gave in
+    subst (λ (z : Net). Goes z new none none) c.self.view_is (goes_asked c.args.number old new x y swap told refl c.end.ensures.rest.1 c.end.ensures.rest.2 c.end.ensures.rest.3)
+
+pub returns-in-Ok-Failed : goal.returns-in-Ok-Failed
+returns-in-Ok-Failed g c =
+    let old : Net = record { told = g.S.Streams.told c.self.inside.sockets; table = c.self.inside.table; device = c.self.inside.device } in
+    let x : Connection = c.in-Some.connection in
+    let new : Net = c.fails.new.self in
+    let drop = drops c.args.number old.table c.take.new.self x c.in-Some.ensures.here c.in-Some.ensures.number.1 c.take.ensures.gone c.take.ensures.others c.in-Some.ensures.clients c.take.ensures.same.0 c.take.ensures.same.1 in
+    let told = rw c.in-Ok-Failed.field-0-is at c.in-Ok-Failed.ensures.gave in
+    let faulty = subst (λ (t : Traffic). Faulty old.told t) (sym (ap (λ (z : Net). z.told) c.fails.ensures ∙ c.close-in-Ok-Failed.ensures.same)) told in
+    let table : new.table ≡ c.take.new.self = ap (λ (z : Net). z.table) c.fails.ensures in
+    subst (λ (z : Net). Goes z new none none) c.self.view_is (goes_failed c.args.number old new x (subst (λ (t : Table). Drops c.args.number old.table t x) (sym table) drop) faulty (ap (λ (z : Net). z.device) c.fails.ensures))
+
+pub returns-in-Err : goal.returns-in-Err
+returns-in-Err g c =
+    let old : Net = record { told = g.S.Streams.told c.self.inside.sockets; table = c.self.inside.table; device = c.self.inside.device } in
+    let x : Connection = c.in-Some.connection in
+    let new : Net = record { told = g.S.Streams.told c.close-in-Err.new.self; table = c.lacks-in-Err.new.self; device = c.self.inside.device } in
+    let gone : Drops c.args.number old.table c.take.new.self x = drops c.args.number old.table c.take.new.self x c.in-Some.ensures.here c.in-Some.ensures.number.1 c.take.ensures.gone c.take.ensures.others c.in-Some.ensures.clients c.take.ensures.same.0 c.take.ensures.same.1 in
+    let drop = drops_wanting c.args.number old.table c.take.new.self new.table x gone c.lacks-in-Err.ensures.same c.lacks-in-Err.ensures.refusals.1 in
+    let rose = rose_wanting old.table.refusals c.take.new.self.refusals new.table.refusals gone.refusals c.lacks-in-Err.ensures.refusals.0 in
+    subst (λ (z : Net). Goes z new none none) c.self.view_is (goes_wanting c.args.number old new x drop rose (c.close-in-Err.ensures.same ∙ c.in-Err.ensures.gave) refl)

@@ -1,0 +1,26 @@
+use Rattle.std.proofs.Common.{rules, tests, ◌≡◌, ◌+◌, ℕ, [], Some, None, true, false, refl, sym, ap, ◌∙◌, subst, arith}
+use Rattle.lb_lines.specs.Moves.{Faulty, Traffic}
+use Rattle.lb_streams.proofs.Going.{drops, goes_finished, goes_kept, swaps}
+use Rattle.lb_streams.specs.Connection.{Net}
+use Rattle.lb_streams.specs.Goes.{Goes, just, none}
+use Rattle.lb_streams.specs.Table.{Table, at, clients, client_count}
+use Rattle.lb_streams.specs.declared.connection.Connection.{Connection}
+use Rattle.lb_streams.proofs.links.Links.settle.Goals as goal
+
+pub returns-then-is_finished : goal.returns-then-is_finished
+returns-then-is_finished g c =
+    let old : Net = record { told = g.S.Streams.told c.self.inside.sockets; table = c.self.inside.table; device = c.self.inside.device } in
+    let x : Connection = c.in-Some.connection in
+    let new : Net = record { told = g.S.Streams.told c.close.new.self; table = c.take.new.self; device = c.self.inside.device } in
+    let drop = drops c.args.number old.table c.take.new.self x c.in-Some.ensures.here c.in-Some.ensures.number.1 c.take.ensures.gone c.take.ensures.others c.in-Some.ensures.clients c.take.ensures.same.0 c.take.ensures.same.1 in
+    subst (λ (z : Net). Goes z new none none) c.self.view_is (goes_finished c.args.number old new x drop (c.is_finished.ensures.ended c.if-is_finished.true) (c.is_finished.ensures.written c.if-is_finished.true) (c.is_finished.ensures.none c.if-is_finished.true) c.close.ensures.same refl)
+
+pub returns : goal.returns
+returns g c =
+    let old : Net = record { told = g.S.Streams.told c.self.inside.sockets; table = c.self.inside.table; device = c.self.inside.device } in
+    let x : Connection = c.in-Some.connection in
+    let new : Net = record { told = g.S.Streams.told c.resume.new.sockets; table = c.put.new.self; device = c.self.inside.device } in
+    let y : Connection = c.resume.new.connection in
+    let swap = swaps c.args.number old.table c.take.new.self new.table x y c.in-Some.ensures.here c.in-Some.ensures.number.0 c.take.ensures.others c.in-Some.ensures.clients c.take.ensures.same.0 c.take.ensures.same.1
+    c.put.ensures.here c.put.ensures.others c.put.ensures.clients c.put.ensures.same.0 c.put.ensures.same.1 (c.resume.ensures.rest.0) (c.resume.ensures.rest.1) in
+    subst (λ (z : Net). Goes z new none none) c.self.view_is (goes_kept c.args.number old new x y swap c.resume.ensures.same refl c.resume.ensures.rest.1 c.resume.ensures.rest.2 c.resume.ensures.rest.3 c.resume.ensures.rest.4)

@@ -1,0 +1,5 @@
+use Rattle.lb_streams.specs.Goes.{Goes, none}
+use Rattle.lb_streams.proofs.links.Links.write_all.Given as goal
+
+abbrev pub invariant-loop : goal.invariant-loop
+invariant-loop g l = Goes l.fn.self l.self none none

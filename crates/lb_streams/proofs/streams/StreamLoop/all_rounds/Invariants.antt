@@ -1,0 +1,6 @@
+use Rattle.std.proofs.Common.{◌≤◌, ◌*◌, false, vec_capacity, vec_len}
+use Rattle.lb_streams.specs.Turn.{Turns}
+use Rattle.lb_streams.proofs.streams.StreamLoop.all_rounds.Given as goal
+
+abbrev pub invariant-loop : goal.invariant-loop
+invariant-loop g l = Turns l.roster.listed l.counter l.counter l.fn.self l.self l.lines.items false × (vec_len l.lines ≤ 2 * l.counter) × (128 ≤ vec_capacity l.lines)

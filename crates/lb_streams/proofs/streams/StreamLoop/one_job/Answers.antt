@@ -1,0 +1,48 @@
+use Rattle.std.proofs.Common.{rules, tests, ◌≡◌, ◌+◌, ◌*◌, ◌≤◌, ℕ, List, [], ◌∷◌, ◌++◌, Some, None, true, false, option_to_list, refl, sym, ap, ◌∙◌, subst, arith, inl, inr}
+use Rattle.std.specs.Prelude.{Bool, length, slice_get}
+use Rattle.lb_core.specs.declared.event.Event.{Event}
+use Rattle.lb_lines.specs.Counts.{Grows}
+use Rattle.lb_lines.specs.Letter.{IsOutcome, Letter, job_letter, outcome_letter}
+use Rattle.lb_lines.specs.Lines.{FirstFault, answered_as}
+use Rattle.lb_lines.specs.declared.letter.End.TheVariants.{Client, Server}
+use Rattle.lb_lines.specs.declared.report.DeviceFault.{DeviceFault}
+use Rattle.lb_lines.specs.declared.report.Line.{Line}
+use Rattle.lb_lines.specs.declared.report.Line.TheVariants as lines
+use Rattle.lb_lines.specs.declared.report.Sending.{Sending}
+use Rattle.lb_lines.specs.declared.report.Source.TheVariants as sources
+use Rattle.lb_outbox.specs.Outbox.{Receiving}
+use Rattle.lb_outbox.specs.Rule.{delivery}
+use Rattle.lb_outbox.specs.declared.job.Job.{Job}
+use Rattle.lb_streams.proofs.Letters.{client_done, client_failed}
+use Rattle.lb_streams.proofs.Then.{goes_after, goes_before, misses_before}
+use Rattle.lb_streams.proofs.Turning.{turns_job, turns_round, turns_said, turns_told, turns_within, went, went_first}
+use Rattle.lb_streams.specs.Connection.{Net}
+use Rattle.lb_streams.specs.Ends.{first_device, is_blind, is_blinded}
+use Rattle.lb_streams.specs.Goes.{Goes, just, none}
+use Rattle.lb_streams.specs.Lines.{is_http}
+use Rattle.lb_streams.specs.Steps as steps
+use Rattle.lb_streams.specs.Table.{IsFirst}
+use Rattle.lb_streams.specs.Turn.{Sends, Turns}
+use Rattle.lb_streams.specs.World.{World}
+use Rattle.lb_streams.proofs.streams.StreamLoop.one_job.Goals as goal
+use Rattle.lb_streams.proofs.streams.StreamLoop.one_job.Goals.{in-ToServer, in-ToClient}
+
+pub returns : goal.returns
+returns g c =
+    let old : World = record { net = c.self.inside.links; jobs = c.self.inside.receiver; fronts = c.self.inside.fronts.items; handed = g.P.Posts.handed c.self.inside.posts; answered = g.T.Taker.answered c.self.inside.taker; pairs = g.T.Taker.pairs c.self.inside.taker; said = g.O.Outside.said c.self.inside.outside; outside = g.O.Outside.failures c.self.inside.outside } in
+    let mid : World = record { net = c.self.inside.links; jobs = c.receive.new.self; fronts = c.self.inside.fronts.items; handed = g.P.Posts.handed c.self.inside.posts; answered = g.T.Taker.answered c.self.inside.taker; pairs = g.T.Taker.pairs c.self.inside.taker; said = g.O.Outside.said c.self.inside.outside; outside = g.O.Outside.failures c.self.inside.outside } in
+    let roster = c.args.roster.now.listed in
+    let job : Job = c.in_ok-job.job in
+    let from = c.in_ok-job.ensures.received.0 in
+    let came : mid ≡ record c.args.self.now { jobs = record c.args.self.now.jobs { received = c.args.self.now.jobs.received ++ delivery from job ∷ [] } } =
+    ap (λ (j : Receiving). record old { jobs = j }) c.in_ok-job.ensures.received.1 ∙ ap (λ (w : World). record w { jobs = record w.jobs { received = w.jobs.received ++ delivery from job ∷ [] } }) c.self.view_is in
+    elim c.match-job.branch [
+      | in-ToServer w ↦
+          let sent = subst (λ (s : Sending). Sends roster mid c.match-job.self (Some (job_letter job)) s) (sym w.sending-is) (subst (λ (z : World). Sends roster mid z (Some (job_letter job)) w.send_to_server-sending.result) (sym w.self-is)
+          (subst (λ (l : Letter). Sends roster mid w.send_to_server-sending.new.self (Some l) w.send_to_server-sending.result) (sym (ap job_letter w.in-ToServer.is)) w.send_to_server-sending.ensures)) in
+          turns_job roster c.args.self.now mid c.match-job.self from job c.match-job.sending came sent
+      | in-ToClient w ↦
+          let sent = subst (λ (s : Sending). Sends roster mid c.match-job.self (Some (job_letter job)) s) (sym w.sending-is) (subst (λ (z : World). Sends roster mid z (Some (job_letter job)) w.send_to_client-sending.result) (sym w.self-is)
+          (subst (λ (l : Letter). Sends roster mid w.send_to_client-sending.new.self (Some l) w.send_to_client-sending.result) (sym (ap job_letter w.in-ToClient.is)) w.send_to_client-sending.ensures)) in
+          turns_job roster c.args.self.now mid c.match-job.self from job c.match-job.sending came sent
+    ]

@@ -1,0 +1,45 @@
+use Rattle.std.proofs.Common.{rules, tests, ◌≡◌, ◌+◌, ◌*◌, ◌≤◌, ℕ, List, [], ◌∷◌, ◌++◌, Some, None, true, false, option_to_list, refl, sym, ap, ◌∙◌, subst, arith, inl, inr}
+use Rattle.std.specs.Prelude.{Bool, length, slice_get}
+use Rattle.lb_core.specs.declared.event.Event.{Event}
+use Rattle.lb_lines.specs.Counts.{Grows}
+use Rattle.lb_lines.specs.Letter.{IsOutcome, Letter, job_letter, outcome_letter}
+use Rattle.lb_lines.specs.Lines.{FirstFault, answered_as}
+use Rattle.lb_lines.specs.declared.letter.End.TheVariants.{Client, Server}
+use Rattle.lb_lines.specs.declared.report.DeviceFault.{DeviceFault}
+use Rattle.lb_lines.specs.declared.report.Line.{Line}
+use Rattle.lb_lines.specs.declared.report.Line.TheVariants as lines
+use Rattle.lb_lines.specs.declared.report.Sending.{Sending}
+use Rattle.lb_lines.specs.declared.report.Source.TheVariants as sources
+use Rattle.lb_outbox.specs.Outbox.{Receiving}
+use Rattle.lb_outbox.specs.Rule.{delivery}
+use Rattle.lb_outbox.specs.declared.job.Job.{Job}
+use Rattle.lb_streams.proofs.Letters.{client_done, client_failed}
+use Rattle.lb_streams.proofs.Then.{goes_after, goes_before, misses_before}
+use Rattle.lb_streams.proofs.Turning.{turns_job, turns_round, turns_said, turns_told, turns_within, went, went_first}
+use Rattle.lb_streams.specs.Connection.{Net}
+use Rattle.lb_streams.specs.Ends.{first_device, is_blind, is_blinded}
+use Rattle.lb_streams.specs.Goes.{Goes, just, none}
+use Rattle.lb_streams.specs.Lines.{is_http}
+use Rattle.lb_streams.specs.Steps as steps
+use Rattle.lb_streams.specs.Table.{IsFirst}
+use Rattle.lb_streams.specs.Turn.{Sends, Turns}
+use Rattle.lb_streams.specs.World.{World}
+use Rattle.lb_streams.proofs.streams.StreamLoop.send_to_client.Goals as goal
+use Rattle.lb_streams.proofs.streams.StreamLoop.send_to_client.Goals.{in-Ok, in-Err}
+
+pub returns : goal.returns
+returns g c =
+    let old : World = record { net = c.self.inside.links; jobs = c.self.inside.receiver; fronts = c.self.inside.fronts.items; handed = g.P.Posts.handed c.self.inside.posts; answered = g.T.Taker.answered c.self.inside.taker; pairs = g.T.Taker.pairs c.self.inside.taker; said = g.O.Outside.said c.self.inside.outside; outside = g.O.Outside.failures c.self.inside.outside } in
+    let new : World = record { net = c.put_behind.new.self; jobs = c.self.inside.receiver; fronts = c.self.inside.fronts.items; handed = g.P.Posts.handed c.self.inside.posts; answered = g.T.Taker.answered c.self.inside.taker; pairs = g.T.Taker.pairs c.self.inside.taker; said = g.O.Outside.said c.self.inside.outside; outside = g.O.Outside.failures c.self.inside.outside } in
+    let roster = c.args.roster.now.listed in
+    let slot = c.args.origin.slot in
+    let bytes = c.args.bytes.now in
+    let stream : is_http (slice_get old.fronts c.args.origin.front) ≡ false = ap (λ (w : World). is_http (slice_get w.fronts c.args.origin.front)) c.self.view_is ∙ sym c.is_http.ensures ∙ c.if-is_http.false in
+    subst (λ (w : World). Sends roster w new (Some (Client c.args.origin, bytes)) c.match-put_behind.result) c.self.view_is
+    (elim c.match-put_behind.branch [
+      | in-Ok w ↦ subst (λ (s : Sending). Sends roster old new (Some (Client c.args.origin, bytes)) s) (sym w.result-is)
+          (client_done roster old new c.args.origin bytes stream (goes_before old.net c.pay.new.self new.net none (just slot bytes) c.pay.ensures w.in-Ok.ensures.goes) refl)
+      | in-Err w ↦ subst (λ (s : Sending). Sends roster old new (Some (Client c.args.origin, bytes)) s) (sym w.result-is)
+          (client_failed roster old new c.args.origin bytes w.in-Err.why stream (goes_before old.net c.pay.new.self new.net none none c.pay.ensures w.in-Err.ensures.goes)
+          (misses_before old.net c.pay.new.self new.net slot bytes w.in-Err.why c.pay.ensures w.in-Err.ensures.why) refl)
+    ])

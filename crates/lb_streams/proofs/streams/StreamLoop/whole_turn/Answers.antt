@@ -1,0 +1,42 @@
+use Rattle.std.proofs.Common.{rules, tests, ◌≡◌, ◌+◌, ◌*◌, ◌≤◌, ℕ, List, [], ◌∷◌, ◌++◌, Some, None, true, false, option_to_list, refl, sym, ap, ◌∙◌, subst, arith, inl, inr}
+use Rattle.std.specs.Prelude.{Bool, Option, length, slice_get}
+use Rattle.lb_core.specs.declared.event.Event.{Event}
+use Rattle.lb_lines.specs.Counts.{Grows}
+use Rattle.lb_lines.specs.Letter.{IsOutcome, Letter, job_letter, outcome_letter}
+use Rattle.lb_lines.specs.Lines.{FirstFault, answered_as}
+use Rattle.lb_lines.specs.declared.letter.End.TheVariants.{Client, Server}
+use Rattle.lb_lines.specs.declared.report.DeviceFault.{DeviceFault}
+use Rattle.lb_lines.specs.declared.report.Line.{Line}
+use Rattle.lb_lines.specs.declared.report.Line.TheVariants as lines
+use Rattle.lb_lines.specs.declared.report.Sending.{Sending}
+use Rattle.lb_lines.specs.declared.report.Source.TheVariants as sources
+use Rattle.lb_outbox.specs.Outbox.{Receiving}
+use Rattle.lb_outbox.specs.Rule.{delivery}
+use Rattle.lb_outbox.specs.declared.job.Job.{Job}
+use Rattle.lb_streams.proofs.Letters.{client_done, client_failed}
+use Rattle.lb_streams.proofs.Then.{goes_after, goes_before, misses_before}
+use Rattle.lb_streams.proofs.Turning.{turns_job, turns_round, turns_said, turns_told, turns_within, went, went_first}
+use Rattle.lb_streams.specs.Connection.{Net}
+use Rattle.lb_streams.specs.Ends.{first_device, is_blind, is_blinded}
+use Rattle.lb_streams.specs.Goes.{Goes, just, none}
+use Rattle.lb_streams.specs.Lines.{is_http}
+use Rattle.lb_streams.specs.Steps as steps
+use Rattle.lb_streams.specs.Table.{IsFirst}
+use Rattle.lb_streams.specs.Turn.{Sends, Turned, Turns}
+use Rattle.lb_streams.specs.World.{World}
+use Rattle.lb_streams.proofs.streams.StreamLoop.whole_turn.Goals as goal
+
+pub returns-clause-turned : goal.returns-clause-turned
+returns-clause-turned g c =
+    subst (λ (zs : List Line). Turned c.args.roster.now.listed c.args.self.now c.write_all.new.self zs) (sym (ap (λ v. v.items) c.report-2.ensures.lines.0))
+    (inl (went c.args.roster.now.listed c.args.self.now c.begin.new.self c.follow.new.self c.all_rounds-end.new.self c.write_all.new.self c.begin.new.self.net c.in-Some.now c.in-Some.ensures.said.0 c.all_rounds-end.new.lines.items
+    (is_blind c.all_rounds-end.result) c.in-Some.ensures.sweeps c.in-Some.ensures.said.1 c.follow.ensures.goes c.follow.ensures.same c.all_rounds-end.ensures c.write_all.ensures.goes c.write_all.ensures.same))
+
+pub returns-clause-device : goal.returns-clause-device
+returns-clause-device g c =
+    let old : World = c.args.self.now in
+    let new : World = c.write_all.new.self in
+    subst (λ (d : Option DeviceFault). FirstFault d old.net.told.failures new.net.told.failures old.outside new.outside)
+    (ap (first_device (is_blind c.all_rounds-end.result)) (sym c.device-2.ensures) ∙ sym c.report-2.ensures.device)
+    (went_first c.args.roster.now.listed old c.begin.new.self c.follow.new.self c.all_rounds-end.new.self new c.begin.new.self.net c.in-Some.now c.in-Some.ensures.said.0 c.all_rounds-end.new.lines.items
+    (is_blind c.all_rounds-end.result) c.in-Some.ensures.sweeps c.in-Some.ensures.said.1 c.follow.ensures.goes c.follow.ensures.same c.all_rounds-end.ensures c.write_all.ensures.goes c.write_all.ensures.same)

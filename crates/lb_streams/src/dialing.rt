@@ -1,0 +1,50 @@
+//! Connections to servers.
+
+ghost use Rattle.std.specs.Prelude.{IfErr, IfOk, ◌≡◌};
+ghost use Rattle.lb_streams.specs.Goes.{Goes, Lacks, none};
+ghost use Rattle.lb_streams.specs.Table.{IsTo};
+
+use crate::connection::Connection;
+use crate::links::Links;
+use crate::table::Route;
+use lb_lines::{Endpoint, Peer, Streams, Why};
+use lb_wire::ServerId;
+use std::alloc::Global;
+
+impl<S: Streams> Links<S> {
+    /// The connection to a server at this end, by one of its upstream sockets: the one that is open, or one that is begun now.
+    pub(crate) fn dialed(
+        &mut self,
+        alloc: Global,
+        server: ServerId,
+        lane: u8,
+        at: Endpoint,
+    ) -> Result<u64, Why>
+        ensures goes { Goes self.old self.new none none }
+        ensures to { IfOk result (λ n. IsTo n server lane at self.new.table) }
+        ensures why { IfErr result (λ why. Lacks self.old self.new why) }
+    {
+        if let Some(number) = self.table.route(server, lane, at) {
+            return Ok(number);
+        }
+        let Some(number) = self.table.candidate() else {
+            return Err(Why::Gone);
+        };
+        self.table.note(Route {
+            server,
+            lane,
+            number,
+        })?;
+        match self.sockets.dial(number, at) {
+            Ok(()) => {
+                let peer = Peer::Server(server, lane, at);
+                self.table.add(Connection::new(alloc, number, peer));
+                Ok(number)
+            }
+            Err(why) => {
+                self.note(why);
+                Err(why)
+            }
+        }
+    }
+}

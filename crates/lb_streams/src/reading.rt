@@ -1,0 +1,128 @@
+//! What comes of sockets of streams: clients, octets, and ends.
+
+ghost use Rattle.std.specs.Prelude.{OnOk, ◌++◌, ◌≡◌};
+ghost use Rattle.lb_streams.specs.Goes.{Goes, TurnsOneAway, none};
+
+use crate::connection::Connection;
+use crate::links::Links;
+use crate::table::Connections;
+use lb_lines::{Accepted, Peer, Read, Streams};
+use lb_wire::Octets;
+use std::alloc::{AllocError, Global};
+
+impl<S: Streams> Links<S> {
+    /// Takes in a client that waits. One is closed at once where 1,024 are connected, or where no number is left. Where memory is
+    /// wanting, it waits on.
+    pub(crate) fn admit(&mut self, alloc: Global)
+        ensures { Goes self.old self.new none none }
+    {
+        if self.table.is_full() {
+            self.turn_away();
+            return;
+        }
+        let Some(number) = self.table.candidate() else {
+            self.turn_away();
+            return;
+        };
+        match self.sockets.accept(number) {
+            Ok(Accepted::Client(front, at)) => {
+                let peer = Peer::Client(front, at);
+                self.table.add(Connection::new(alloc, number, peer));
+            }
+            Ok(Accepted::Nothing) | Err(_) => {}
+            Ok(Accepted::Failed) => self.fails(),
+        }
+    }
+
+    /// Closes a client that waits.
+    fn turn_away(&mut self)
+        ensures { TurnsOneAway self.old self.new }
+    {
+        match self.sockets.turn_away() {
+            Accepted::Client(..) | Accepted::Nothing => {}
+            Accepted::Failed => self.fails(),
+        }
+    }
+
+    /// Reads a piece of a connection. One that may not be read is passed over. A server's connection is closed where the server has
+    /// closed its side, and each where its socket failed, or no room was found for what came.
+    pub(crate) fn pull(&mut self, number: u64, now: u64)
+        ensures { Goes self.old self.new none none }
+    {
+        let Some(mut connection) = self.table.take(number) else {
+            return;
+        };
+        if !connection.may_be_read() {
+            connection.is_passed_over = true;
+            self.table.put(connection);
+            return;
+        }
+        match self.sockets.read_from(number) {
+            Ok(Read::Piece(octets)) => match hear(&mut self.table, &mut connection, &octets) {
+                Ok(()) => self.table.put(connection),
+                Err(refused) => {
+                    self.sockets.close(number);
+                    self.table.lacks(refused);
+                }
+            },
+            Ok(Read::Nothing) => self.table.put(connection),
+            Ok(Read::Ended) => match connection.peer {
+                Peer::Server(..) => self.sockets.close(number),
+                Peer::Client(..) => {
+                    self.table.look_by(connection.end(now));
+                    self.table.put(connection);
+                }
+            },
+            Ok(Read::Failed) => {
+                self.sockets.close(number);
+                self.fails();
+            }
+            Err(refused) => {
+                self.sockets.close(number);
+                self.table.lacks(refused);
+            }
+        }
+    }
+
+    /// Closes a connection whose peer has closed its side and has all that it waits for. One that was passed over and may be read now is
+    /// told to be read once more.
+    pub(crate) fn settle(&mut self, number: u64)
+        ensures { Goes self.old self.new none none }
+    {
+        let Some(mut connection) = self.table.take(number) else {
+            return;
+        };
+        if connection.is_finished() {
+            self.sockets.close(number);
+            return;
+        }
+        resume(&mut self.sockets, &mut connection);
+        self.table.put(connection);
+    }
+}
+
+/// Has a connection that was passed over and may be read now be told once more.
+fn resume<S: Streams>(sockets: &mut S, connection: &mut Connection)
+    ensures rest { (connection.new.number ≡ connection.old.number) × (connection.new.peer ≡ connection.old.peer) × (connection.new.incoming ≡ connection.old.incoming) × (connection.new.outgoing ≡ connection.old.outgoing) × (connection.new.is_ended ≡ connection.old.is_ended) }
+    ensures same { S.told sockets.new ≡ S.told sockets.old }
+{
+    if connection.is_passed_over && connection.may_be_read() {
+        connection.is_passed_over = false;
+        sockets.resume(connection.number);
+    }
+}
+
+/// Puts what came behind what is held of a connection, which then waits for its turn where it has a whole message. The one error is want of
+/// memory.
+fn hear(
+    table: &mut Connections,
+    connection: &mut Connection,
+    octets: &Octets,
+) -> Result<(), AllocError>
+    ensures heard { OnOk result (connection.new.incoming ≡ connection.old.incoming ++ octets.now) }
+    ensures rest { (connection.new.number ≡ connection.old.number) × (connection.new.peer ≡ connection.old.peer) × (connection.new.outgoing ≡ connection.old.outgoing) × (connection.new.is_ended ≡ connection.old.is_ended) }
+    ensures same { table.new ≡ table.old }
+{
+    connection.incoming.push(octets.as_slice())?;
+    table.enqueue(connection)
+}

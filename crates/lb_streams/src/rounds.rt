@@ -1,0 +1,172 @@
+//! The rounds of a turn: a job, what a socket has, and an event.
+
+ghost use Rattle.std.specs.Prelude.{[], List, false, option_to_list, ◌++◌, ◌∷◌, ◌≡◌};
+ghost use Rattle.lb_lines.specs.Stamps.{Stamp};
+ghost use Rattle.lb_streams.specs.Lines.{event_by};
+ghost use Rattle.lb_streams.specs.Steps.{is_blind, lines_of};
+ghost use Rattle.lb_streams.specs.Table.{IsFirst};
+ghost use Rattle.lb_streams.specs.Turn.{Turns};
+
+use crate::streams::StreamLoop;
+use crate::taking::First;
+use lb_core::{Answer, Event};
+use lb_frames::Message;
+use lb_lines::{
+    Gate, Line, Outcome, Outside, Peer, Posts, Ready, Roster, Source, Streams, Taker, outcome_of,
+};
+use lb_outbox::Job;
+use lb_wire::{Kind, Lane, Octets, Origin};
+use std::sync::Wait;
+
+/// What came of the step of an event.
+#[derive(Drop)]
+pub(crate) enum Step {
+    /// No connection has a message.
+    Idle,
+    /// There was one that had none any more.
+    Passed,
+    Told(Line),
+    /// The gate held the event, whose message stays.
+    Held,
+    /// There was no moment to be had.
+    Blind,
+    /// No memory was to be had for a copy of the message, which stays.
+    Wanting,
+}
+
+impl<S: Streams, T: Taker, O: Outside, P: Posts> StreamLoop<S, T, O, P> {
+    /// Takes a job, and sends its message.
+    pub(crate) fn one_job<R: Wait>(&mut self, rt: &R, roster: &Roster) -> Option<Line>
+        ensures { Turns roster.now.listed 0 1 self.old self.new (option_to_list result) false }
+    {
+        let job = self.receiver.receive(rt)?;
+        let sending = match &job {
+            Job::ToServer(server, lane, bytes) => {
+                self.send_to_server(roster, *server, *lane, bytes)
+            }
+            Job::ToClient(origin, bytes) => self.send_to_client(roster, *origin, bytes, true),
+        };
+        Some(Line::Job(job, sending))
+    }
+
+    /// Sees to one socket: takes in a client, reads a piece, or writes. Whether there was one.
+    #[tactic(auto, using(crate::proofs::Turning::turns_none, crate::proofs::Turning::turns_net))]
+    pub(crate) fn one_arrival(&mut self, roster: &Roster, now: u64) -> bool
+        ensures { Turns roster.now.listed 0 0 self.old self.new [] false }
+    {
+        match self.links.sockets.ready() {
+            Ready::Nothing => return false,
+            Ready::Incoming => self.links.admit(self.alloc),
+            Ready::Readable(number) => self.links.read(number, now),
+            Ready::Writable(number) => self.links.write(number),
+        }
+        true
+    }
+
+    /// Hands the first message of the connection whose turn it is to the desk, and sends what it answers.
+    #[tactic(auto, using(crate::proofs::Turning::turns_none, crate::proofs::Turning::turns_said, crate::proofs::Turning::turns_blind))]
+    pub(crate) fn one_event<G: Gate>(&mut self, roster: &Roster, gate: &G) -> Step
+        ensures { Turns roster.now.listed 1 0 self.old self.new (lines_of result) (is_blind result) }
+    {
+        let Some(number) = self.links.table.first_queued() else {
+            return Step::Idle;
+        };
+        let Some((now, word)) = self.outside.ask() else {
+            return Step::Blind;
+        };
+        let first = match self.links.table.first_of(self.alloc, number) {
+            Ok(Some(first)) => first,
+            Ok(None) => {
+                self.links.table.drop_queued();
+                return Step::Passed;
+            }
+            Err(_refused) => return Step::Wanting,
+        };
+        self.told(roster, gate, now, word, number, first)
+    }
+
+    /// The same for this first message, where the gate lets its event pass.
+    fn told<G: Gate>(
+        &mut self,
+        roster: &Roster,
+        gate: &G,
+        now: u64,
+        word: u16,
+        number: u64,
+        first: First,
+    ) -> Step
+        requires first { IsFirst number first.peer first.message self.old.net.table }
+        requires copy { first.copy ≡ first.message }
+        ensures { (said : List Stamp) → self.old.said ≡ said ++ (now, word) ∷ [] → Turns roster.now.listed 1 0 (record self.old { said = said }) self.new (lines_of result) (is_blind result) }
+    {
+        let First {
+            peer,
+            message,
+            copy,
+        } = first;
+        let event = event_made(now, word, number, peer, message);
+        if !gate.pass(&event) {
+            return Step::Held;
+        }
+        Step::Told(self.answered(roster, now, word, number, peer, event, copy))
+    }
+
+    /// Takes the message of an event off its connection, hands the event to the desk, and sends what comes of it. The line has an event
+    /// of the message's copy.
+    fn answered(
+        &mut self,
+        roster: &Roster,
+        now: u64,
+        word: u16,
+        number: u64,
+        peer: Peer,
+        event: Event,
+        copy: Message,
+    ) -> Line
+        requires made { event ≡ event_by now word number peer copy }
+        requires first { IsFirst number peer copy self.old.net.table }
+        ensures { (said : List Stamp) → self.old.said ≡ said ++ (now, word) ∷ [] → Turns roster.now.listed 1 0 (record self.old { said = said }) self.new (result ∷ []) false }
+    {
+        self.links.drop_first(number);
+        let outcome = outcome_of(&mut self.taker, event);
+        self.links.owe(number, is_sent_on(&outcome));
+        let told = event_made(now, word, number, peer, copy);
+        let sending = self.send_outcome(roster, &told, &outcome);
+        self.links.settle(number);
+        Line::Event(Source::Connection(number), told, outcome, sending)
+    }
+}
+
+/// Whether a query was sent on.
+fn is_sent_on(outcome: &Outcome) -> bool {
+    matches!(outcome, Outcome::Answered(Answer::Forward(..)))
+}
+
+/// The event that a message of a connection makes.
+fn event_made(now: u64, word: u16, number: u64, peer: Peer, bytes: Octets) -> Event
+    ensures { result ≡ event_by now word number peer bytes }
+{
+    match peer {
+        Peer::Client(front, from) => Event::Query {
+            now,
+            origin: Origin {
+                front,
+                slot: number,
+                source: from.addr,
+                port: from.port,
+            },
+            kind: Kind::Stream,
+            word,
+            bytes,
+        },
+        Peer::Server(server, lane, _) => Event::Reply {
+            now,
+            server,
+            lane: Lane {
+                kind: Kind::Stream,
+                number: lane,
+            },
+            bytes,
+        },
+    }
+}

@@ -1,0 +1,118 @@
+//! What the loop of streams holds.
+
+ghost use Rattle.std.specs.Prelude.{[], IfOk, length, vec_capacity, vec_len, ◌≡◌};
+ghost use Rattle.lb_streams.specs.Table.{IsNew};
+
+use crate::links::Links;
+use crate::table::Connections;
+use lb_lines::{Front, Line, Outside, Posts, Streams, Taker, WaitFailed};
+use lb_outbox::Receiver;
+use std::alloc::{AllocError, Global};
+use std::marker::Model;
+use std::mem;
+
+/// What the loop of streams holds: its sockets and connections, the jobs that come to it, what listens at each place of the listen
+/// lines, the HTTP requests that wait, its event handler, and its source of moments and words. A contract sees what each of them tells.
+#[derive(Drop)]
+pub struct StreamLoop<S: Streams, T: Taker, O: Outside, P: Posts> {
+    pub(crate) alloc: Global,
+    pub(crate) links: Links<S>,
+    pub(crate) receiver: Receiver,
+    pub(crate) fronts: Vec<Front>,
+    pub(crate) posts: P,
+    pub(crate) taker: T,
+    pub(crate) outside: O,
+    /// Room for the lines of a report, which is kept from turn to turn.
+    lines: Vec<Line>,
+    ghost blank: { (lines.items ≡ []) × (vec_len lines ≡ 0) },
+}
+
+impl<S: Streams, T: Taker, O: Outside, P: Posts> Model for StreamLoop<S, T, O, P> {
+    ghost use Rattle.lb_streams.specs.World.{World};
+
+    ghost Value = { World };
+
+    ghost use Rattle.lb_terms.specs.contracts.term.CheckedTerm as contract;
+    ghost use Rattle.std.specs.Coded.{codes};
+
+    ghost coded = { Prim.hlevel (codes, contract.the_row.coded) };
+
+    ghost view = { λ l. record { net = l.links; jobs = l.receiver; fronts = l.fronts.items; handed = P.handed l.posts; answered = T.answered l.taker; pairs = T.pairs l.taker; said = O.said l.outside; outside = O.failures l.outside } };
+}
+
+impl<S: Streams, T: Taker, O: Outside, P: Posts> StreamLoop<S, T, O, P> {
+    /// A loop without connections. The one error is want of memory.
+    pub fn made(
+        alloc: Global,
+        sockets: S,
+        receiver: Receiver,
+        fronts: Vec<Front>,
+        posts: P,
+        taker: T,
+        outside: O,
+    ) -> Result<StreamLoop<S, T, O, P>, AllocError>
+        ensures net { IfOk result (λ l. IsNew l.net.table × (l.net.told ≡ S.told sockets)) }
+        ensures parts { IfOk result (λ l. (l.jobs ≡ receiver) × (l.fronts ≡ fronts.items) × (l.handed ≡ P.handed posts)) }
+        ensures others { IfOk result (λ l. (l.answered ≡ T.answered taker) × (l.pairs ≡ T.pairs taker) × (l.said ≡ O.said outside) × (l.outside ≡ O.failures outside)) }
+    {
+        let table = Connections::made(alloc)?;
+        let links = Links {
+            sockets,
+            table,
+            device: None,
+        };
+        Ok(StreamLoop {
+            alloc,
+            links,
+            receiver,
+            fronts,
+            posts,
+            taker,
+            outside,
+            lines: Vec::new(alloc),
+        })
+    }
+
+    /// Takes the room of a report's lines back for the next turn. The lines go.
+    pub fn take_back(&mut self, mut lines: Vec<Line>)
+        ensures { self.new ≡ self.old }
+    {
+        lines.clear();
+        self.lines = lines;
+    }
+
+    /// The room for lines that is here.
+    pub(crate) fn blank_lines(&mut self) -> Vec<Line>
+        ensures blank { (result.items ≡ []) × (vec_len result ≡ 0) }
+        ensures same { self.new ≡ self.old }
+    {
+        mem::replace(&mut self.lines, Vec::new(self.alloc))
+    }
+
+    /// Waits until a socket has something to do, or somebody wakes it, or so many milliseconds have passed.
+    pub fn wait(&mut self, at_most: u64) -> Result<(), WaitFailed>
+        ensures { self.new ≡ self.old }
+    {
+        self.links.sockets.wait(at_most)
+    }
+
+    /// The sockets, for what they tell beside.
+    pub fn sockets(&self) -> &S
+        ensures { S.told result.now ≡ self.now.net.told }
+    {
+        &self.links.sockets
+    }
+
+    /// The event handler and the receiver, when the loop has ended.
+    pub fn into_parts(self) -> (T, Receiver)
+        ensures taker { (T.answered result.0 ≡ self.answered) × (T.pairs result.0 ≡ self.pairs) }
+        ensures jobs { result.1 ≡ self.jobs }
+    {
+        let StreamLoop {
+            taker,
+            receiver,
+            ..
+        } = self;
+        (taker, receiver)
+    }
+}

@@ -1,0 +1,152 @@
+//! What is written to connections.
+
+ghost use Rattle.std.specs.Prelude.{IfErr, ◌≡◌};
+ghost use Rattle.lb_streams.specs.Goes.{Goes, Misses, none, noted_by, sent_so};
+
+use crate::links::Links;
+use lb_lines::{Streams, Why};
+use lb_wire::Octets;
+
+impl<S: Streams> Links<S> {
+    /// Writes what waits to be written to a connection, as much as its socket takes. It is closed where the socket failed, or the peer takes
+    /// no more.
+    pub(crate) fn flush(&mut self, number: u64)
+        ensures { Goes self.old self.new none none }
+    {
+        let Some(mut connection) = self.table.take(number) else {
+            return;
+        };
+        connection.is_touched = false;
+        if connection.outgoing.len() == 0 {
+            self.table.put(connection);
+            return;
+        }
+        match self
+            .sockets
+            .write_to(number, connection.outgoing.as_slice())
+        {
+            Ok(written) => {
+                connection.outgoing.advance(written);
+                self.table.put(connection);
+            }
+            Err(why) => {
+                self.sockets.close(number);
+                self.note(why);
+            }
+        }
+    }
+
+    /// Notes the fault of a device, where this is one.
+    pub(crate) fn note(&mut self, why: Why)
+        ensures { self.new ≡ record self.old { device = noted_by why self.old.device } }
+    {
+        if why == Why::Device {
+            self.fails();
+        }
+    }
+
+    /// Puts a message behind what a connection is to write. Where the limit would be passed, what waits is written first; where it is
+    /// passed all the same, the connection is closed. Where much waits then, it is written at once; else at the end of the turn.
+    pub(crate) fn put_behind(&mut self, number: u64, message: &Octets) -> Result<(), Why>
+        ensures goes { Goes self.old self.new none (sent_so result number message.now) }
+        ensures why { IfErr result (λ why. Misses self.old self.new number message.now why) }
+    {
+        self.make_room(number, message);
+        match self.promise(number, message) {
+            Ok(()) => {
+                self.write_urgent(number);
+                Ok(())
+            }
+            Err(why) => Err(why),
+        }
+    }
+
+    /// Writes what waits to be written to a connection, where with this message more would wait than may.
+    #[tactic(auto, using(crate::proofs::Opening::goes_nothing))]
+    fn make_room(&mut self, number: u64, message: &Octets)
+        ensures { Goes self.old self.new none none }
+    {
+        if self.table.is_over(number, message) {
+            self.flush(number);
+        }
+    }
+
+    /// Writes what waits to be written to a connection, where it is not to wait for the turn's end.
+    #[tactic(auto, using(crate::proofs::Opening::goes_nothing))]
+    fn write_urgent(&mut self, number: u64)
+        ensures { Goes self.old self.new none none }
+    {
+        if self.table.is_urgent(number) {
+            self.flush(number);
+        }
+    }
+
+    /// Puts a message behind what a connection is to write, which is closed where more would wait than may.
+    fn promise(&mut self, number: u64, message: &Octets) -> Result<(), Why>
+        ensures goes { Goes self.old self.new none (sent_so result number message.now) }
+        ensures why { IfErr result (λ why. Misses self.old self.new number message.now why) }
+    {
+        let Some(mut connection) = self.table.take(number) else {
+            return Err(Why::Gone);
+        };
+        if connection.is_over(message) {
+            self.sockets.close(number);
+            return Err(Why::Limit);
+        }
+        match connection.promise(message) {
+            Ok(()) => {
+                self.table.touch(&mut connection);
+                self.table.put(connection);
+                Ok(())
+            }
+            Err(refused) => {
+                self.table.put(connection);
+                Err(Why::from(refused))
+            }
+        }
+    }
+
+    /// Writes what is to be written at the end of a turn.
+    #[tactic(auto, using(crate::proofs::Opening::goes_nothing, crate::proofs::Then::goes_before))]
+    pub(crate) fn write_all(&mut self)
+        ensures { Goes self.old self.new none none }
+    {
+        for _ in 0..self.table.touched() {
+            self.write_next();
+        }
+    }
+
+    /// Writes to a connection that is to be written at the end of a turn.
+    fn write_next(&mut self)
+        ensures { Goes self.old self.new none none }
+    {
+        let Some(number) = self.next_touched() else {
+            return;
+        };
+        self.flush(number);
+        self.settle(number);
+    }
+
+    /// A connection that is to be written at the end of a turn.
+    fn next_touched(&mut self) -> Option<u64>
+        ensures { self.new ≡ self.old }
+    {
+        self.table.next_touched()
+    }
+
+    /// Writes to a connection whose socket takes more.
+    pub(crate) fn write(&mut self, number: u64)
+        ensures { Goes self.old self.new none none }
+    {
+        self.flush(number);
+        self.settle(number);
+    }
+
+    /// Reads a connection that may have something.
+    pub(crate) fn read(&mut self, number: u64, now: u64)
+        ensures { Goes self.old self.new none none }
+    {
+        self.pull(number, now);
+        self.settle(number);
+    }
+}
