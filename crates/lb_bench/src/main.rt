@@ -2,7 +2,8 @@
 //! say is measured by tools/bench. With the argument `messages` it reads queries, makes their answers and surveys replies; with
 //! `desk` it calls desks from one thread and from several; with `full-desk` it fills the log of a desk, and with `empty-desk` it
 //! makes the same calls of one without a log, so that their memory can be compared. Of what stands between sockets and the desk: with
-//! `turns` it answers datagrams by calls of a desk alone, and by turns over sockets in memory; with `streams` it feeds streams and
+//! `turns` it answers datagrams by calls of a desk alone, and by turns over sockets in memory; with `loops` it has turns of streams and
+//! of the clock; with `streams` it feeds streams and
 //! writes them; with `outbox` it sends jobs and receives them; with `framers` it holds 1,024 streams that announce more than they
 //! send, so that their memory can be told. With no argument it does nothing.
 #![tactic(auto)]
@@ -10,6 +11,7 @@
 mod desk;
 mod events;
 mod jobs;
+mod loops;
 mod messages;
 mod rounds;
 mod streams;
@@ -17,6 +19,7 @@ mod turns;
 
 use desk::{LIMIT, fill_desk, time_desk};
 use jobs::time_jobs;
+use loops::time_loops;
 use messages::time_messages;
 use std::sync::Wait;
 use std::thread::Threads;
@@ -44,6 +47,7 @@ fn measure<R: Threads + Wait + Clock + Sync>(
         "full-desk" => fill_desk(rt, starts, LIMIT),
         "empty-desk" => fill_desk(rt, starts, 0),
         "turns" => time_turns(rt, starts),
+        "loops" => time_loops(rt, starts),
         "streams" => time_streams(rt),
         "outbox" => time_jobs(rt, starts),
         "framers" => hold_framers(rt),

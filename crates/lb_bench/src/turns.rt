@@ -6,7 +6,7 @@ ghost use Rattle.lb_core.specs.Snapshot.{snapshot_of};
 use lb_core::{Answer, Balancer, BoxedCommand, Command, Event, StatedAction, StatedRule};
 use lb_desk::{Desk, Naming};
 use lb_loops::{Caller, Datagram, Endpoint, Gate, Roster, Socket, Spare, Taker, datagram_turn};
-use lb_memory::{Failing, MemoryDatagrams, MemoryOutside};
+use lb_memory::{Failing, MemoryDatagrams, MemoryOutside, Moments, Packets};
 use lb_terms::Term;
 use lb_wire::{Addr, Kind, Octets, Origin, Rcode};
 use std::alloc::{AllocError, Global};
@@ -27,18 +27,18 @@ const BLOCKS: u32 = 40;
 const DATAGRAMS: usize = 64;
 
 /// example.com A IN.
-const QUERY: &[u8] =
+pub(crate) const QUERY: &[u8] =
     b"\x12\x34\x01\x00\x00\x01\x00\x00\x00\x00\x00\x00\x07example\x03com\x00\x00\x01\x00\x01";
 
 /// Who asks.
-const PEER: Endpoint = Endpoint {
+pub(crate) const PEER: Endpoint = Endpoint {
     addr: Addr::V4([192, 0, 2, 1]),
     port: 5353,
 };
 
 /// Holds nothing.
 #[derive(Drop)]
-struct Open;
+pub(crate) struct Open;
 
 impl Gate for Open {
     fn pass(&self, _event: &Event) -> bool {
@@ -90,7 +90,7 @@ fn least_of<R: Wait + Clock, T: Taker>(rt: &R, alloc: Global, taker: &mut T) -> 
     if !is_ruled(alloc, taker)? {
         return Ok(Times { call: 0, turn: 0 });
     }
-    let mut around = Around::new(alloc)?;
+    let mut around = Around::new(rt, alloc)?;
     least_around(rt, alloc, &mut around, taker)
 }
 
@@ -98,7 +98,7 @@ fn least_of<R: Wait + Clock, T: Taker>(rt: &R, alloc: Global, taker: &mut T) -> 
 fn least_around<R: Wait + Clock, T: Taker>(
     rt: &R,
     alloc: Global,
-    around: &mut Around,
+    around: &mut Around<'_, R>,
     taker: &mut T,
 ) -> io::Result<Times> {
     let mut least = Times { call: 0, turn: 0 };
@@ -114,26 +114,27 @@ fn least_around<R: Wait + Clock, T: Taker>(
 }
 
 /// The lesser of two times; 0 is none yet.
-fn less(least: u128, time: u128) -> u128 {
+pub(crate) fn less(least: u128, time: u128) -> u128 {
     if least == 0 { time } else { least.min(time) }
 }
 
 /// What stands around turns.
 #[derive(Drop)]
-struct Around {
-    kept: Arc<Mutex<Vec<Datagram>>>,
+struct Around<'a, R: Wait> {
+    packets: Arc<Mutex<Packets>>,
     roster: Roster,
     spare: Spare,
-    outside: MemoryOutside,
+    outside: MemoryOutside<'a, R>,
 }
 
-impl Around {
-    fn new(alloc: Global) -> Result<Around, AllocError> {
+impl<'a, R: Wait> Around<'a, R> {
+    fn new(rt: &'a R, alloc: Global) -> Result<Around<'a, R>, AllocError> {
+        let moments = Arc::new(alloc, Mutex::new(Moments::new(1, 1, 16, 0)))?;
         Ok(Around {
-            kept: Arc::new(alloc, Mutex::new(Vec::new(alloc)))?,
+            packets: Arc::new(alloc, Mutex::new(Packets::new(alloc)))?,
             roster: Roster::made(alloc)?,
             spare: Spare::new(alloc),
-            outside: MemoryOutside::new(1, 16, 0),
+            outside: MemoryOutside::new(rt, moments),
         })
     }
 }
@@ -142,7 +143,7 @@ impl Around {
 fn time_block<R: Wait + Clock, T: Taker>(
     rt: &R,
     alloc: Global,
-    around: &mut Around,
+    around: &mut Around<'_, R>,
     taker: &mut T,
     is_turn: bool,
 ) -> io::Result<u128> {
@@ -153,17 +154,17 @@ fn time_block<R: Wait + Clock, T: Taker>(
         let more = if is_turn {
             by_turn(rt, alloc, coming, around, taker)?
         } else {
-            by_calls(rt, alloc, coming, &around.kept, taker)?
+            by_calls(rt, alloc, coming, &around.packets, taker)?
         };
         answered = answered.wrapping_add(more);
-        around.kept.lock(rt).clear();
+        around.packets.lock(rt).taken.clear();
     }
     let nanos = start.elapsed(rt)?.as_nanos();
     Ok(nanos / (answered as u128).max(1))
 }
 
 /// Has a rule taken by which every query is refused. Whether there is one.
-fn is_ruled<T: Taker>(alloc: Global, taker: &mut T) -> Result<bool, AllocError> {
+pub(crate) fn is_ruled<T: Taker>(alloc: Global, taker: &mut T) -> Result<bool, AllocError> {
     let Some(rule) = rule(alloc)? else {
         return Ok(false);
     };
@@ -204,11 +205,11 @@ fn by_turn<R: Wait, T: Taker>(
     rt: &R,
     alloc: Global,
     coming: VecDeque<Datagram>,
-    around: &mut Around,
+    around: &mut Around<'_, R>,
     taker: &mut T,
 ) -> Result<usize, AllocError> {
-    let kept = Arc::try_clone(&around.kept)?;
-    let mut sockets = MemoryDatagrams::new(rt, alloc, 1, coming, kept, Failing::default());
+    let packets = Arc::try_clone(&around.packets)?;
+    let mut sockets = MemoryDatagrams::new(rt, alloc, 1, coming, packets, Failing::default());
     let report = datagram_turn(
         alloc,
         &mut around.spare,
@@ -228,13 +229,13 @@ fn by_calls<R: Wait, T: Taker>(
     rt: &R,
     alloc: Global,
     coming: VecDeque<Datagram>,
-    kept: &Mutex<Vec<Datagram>>,
+    packets: &Mutex<Packets>,
     taker: &mut T,
 ) -> Result<usize, AllocError> {
     let mut answered = 0usize;
     for datagram in coming {
         let copy = datagram.bytes.copy(alloc)?;
-        if is_answered(rt, alloc, datagram, kept, taker)? {
+        if is_answered(rt, alloc, datagram, packets, taker)? {
             answered = answered.wrapping_add(1);
         }
         drop(copy);
@@ -246,7 +247,7 @@ fn is_answered<R: Wait, T: Taker>(
     rt: &R,
     alloc: Global,
     datagram: Datagram,
-    kept: &Mutex<Vec<Datagram>>,
+    packets: &Mutex<Packets>,
     taker: &mut T,
 ) -> Result<bool, AllocError> {
     let event = Event::Query {
@@ -265,7 +266,7 @@ fn is_answered<R: Wait, T: Taker>(
         return Ok(false);
     };
     let bytes = bytes.copy(alloc)?;
-    kept.lock(rt).push(Datagram {
+    packets.lock(rt).taken.push(Datagram {
         socket: datagram.socket,
         peer: datagram.peer,
         bytes,

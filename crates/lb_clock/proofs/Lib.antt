@@ -1,1 +1,5 @@
-pub mod Behind
+mod Acting
+mod Counting
+mod Freshening
+mod Going
+mod Places

@@ -1,4 +1,7 @@
--- shared by several files: Lines
+-- shared by several files: Acts, Lines, World
+pub mod Acts
 pub mod Lines
 pub mod News
+pub mod Probes
 pub mod Turn
+pub mod World

@@ -1,32 +1,27 @@
 -- The lines of a turn of the clock.
-use Rattle.std.specs.Prelude.{◌≡◌, ℕ, Bool, true, false, List, [], ◌∷◌, Option, Some, None, flat_map, option_map, option_to_list, slice_get, if◌then◌else◌, ◌==◌}
-use Rattle.lb_core.specs.declared.event.Event.{Event}
-use Rattle.lb_core.specs.declared.event.Event.TheVariants.{HealthResult, Tick}
+use Rattle.std.specs.Prelude.{◌≡◌, ℕ, Bool, true, false, List, [], ◌∷◌, Option, Some, None, flat_map, option_map, option_to_list, get_or, slice_get, if◌then◌else◌, ◌==◌}
+use Rattle.lb_core.specs.declared.answer.Answer.TheVariants as answers
 use Rattle.lb_health.specs.Probes.{probe_octets}
-use Rattle.lb_lines.specs.Counts.{Fails}
 use Rattle.lb_lines.specs.Letter.{IsOutcome, Letter, outcome_letter}
-use Rattle.lb_lines.specs.Roster.{end_of, place_in}
-use Rattle.lb_lines.specs.Ways.{letter_of, packet_in, posts}
-use Rattle.lb_wire.specs.declared.addr.Origin.{Origin}
+use Rattle.lb_lines.specs.Roster.{end_of}
+use Rattle.lb_lines.specs.Ways.{letter_of, packet_in}
 use Rattle.lb_lines.specs.declared.endpoint.Endpoint.{Endpoint}
 use Rattle.lb_lines.specs.declared.letter.End.TheVariants.{Client, Server}
 use Rattle.lb_lines.specs.declared.report.Line.{Line}
 use Rattle.lb_lines.specs.declared.report.Line.TheVariants as lines
+use Rattle.lb_lines.specs.declared.report.Outcome.{Outcome}
+use Rattle.lb_lines.specs.declared.report.Outcome.TheVariants.{Answered, Fault}
 use Rattle.lb_lines.specs.declared.report.Sending.{Sending}
 use Rattle.lb_lines.specs.declared.report.Sending.TheVariants.{Done, Failed, Nothing}
-use Rattle.lb_lines.specs.declared.report.Source.{Source}
-use Rattle.lb_lines.specs.declared.report.Source.TheVariants as sources
 use Rattle.lb_lines.specs.declared.report.Way.{Way}
 use Rattle.lb_lines.specs.declared.report.Way.TheVariants as ways
 use Rattle.lb_lines.specs.declared.report.Why.{Why}
 use Rattle.lb_lines.specs.declared.report.Why.TheVariants as whys
 use Rattle.lb_lines.specs.declared.roster.Listed.{Listed}
-use Rattle.lb_lines.specs.declared.roster.Place.{Place}
 use Rattle.lb_lines.specs.declared.traffic.Datagram.{Datagram}
 use Rattle.lb_lines.specs.declared.traffic.Front.{Front}
 use Rattle.lb_lines.specs.declared.traffic.Front.TheVariants as fronts
 use Rattle.lb_lines.specs.declared.traffic.Socket.TheVariants as sockets
-use Rattle.lb_servers.specs.declared.server.Mode.TheVariants as modes
 use Rattle.lb_wire.specs.declared.ids.ServerId.{ServerId}
 
 -- the way to a client that asked by this listener, in this slot: its datagrams have slot 0; a console, and no listener, is no way
@@ -39,13 +34,13 @@ way_to None slot = None
 
 -- the way of a letter: to a client by what its listener is; to a server there is none
 abbrev pub way_of : List Front → Letter → Option Way
-way_of listens (Client origin, bytes) = way_to (slice_get listens origin.front) origin.slot
-way_of listens (Server server lane, bytes) = None
+way_of fronts (Client origin, bytes) = way_to (slice_get fronts origin.front) origin.slot
+way_of fronts (Server server lane, bytes) = None
 
 -- whether the sockets have the listener of a letter
-abbrev pub is_listened : (ℕ → Bool) → Letter → Bool
-is_listened listens (Client origin, bytes) = listens origin.front
-is_listened listens (Server server lane, bytes) = false
+abbrev pub is_listened : List Bool → Letter → Bool
+is_listened there (Client origin, bytes) = get_or there origin.front false
+is_listened there (Server server lane, bytes) = false
 
 -- there is no way, or the request had ended, or the sockets have no such listener
 abbrev pub IsGone : Option Way → Bool → Type 0
@@ -71,15 +66,9 @@ ComesBy way there (Done by) = way ≡ Some by
 ComesBy way there (Failed why) = Fits way there why
 
 -- what comes of a send: nothing where there is no letter
-abbrev pub Comes : List Front → (ℕ → Bool) → Option Letter → Sending → Type 0
-Comes listens there None sending = sending ≡ Nothing
-Comes listens there (Some letter) sending = ComesBy (way_of listens letter) (is_listened there letter) sending
-
--- the events of the clock: a tick, and the result of a probe of that server
-abbrev pub IsFrom : Source → Event → Type 0
-IsFrom sources.Clock (Tick now) = Unit {0}
-IsFrom (sources.Probe server word) (HealthResult now of ok) = of ≡ server
-IsFrom _ _ = ⊥
+abbrev pub Comes : List Front → List Bool → Option Letter → Sending → Type 0
+Comes fronts there None sending = sending ≡ Nothing
+Comes fronts there (Some letter) sending = ComesBy (way_of fronts letter) (is_listened there letter) sending
 
 -- what comes of the send of a probe: a socket took it or failed, or memory was wanting
 abbrev pub ProbeComes : Sending → Type 0
@@ -88,19 +77,15 @@ ProbeComes (Failed whys.Device) = Unit {0}
 ProbeComes (Failed whys.NoMemory) = Unit {0}
 ProbeComes _ = ⊥
 
--- the roster has a server in mode auto
-abbrev pub IsProbed : List Listed → ServerId → Type 0
-IsProbed roster server = (place : Place) × (place_in server roster ≡ Some place) × (place.mode ≡ modes.Auto)
+-- a line of the clock: an event, with what came of it and of its send; or a probe
+abbrev pub IsLine : List Front → List Bool → Line → Type 0
+IsLine fronts there (lines.Event source event outcome sending) = IsOutcome event outcome × Comes fronts there (outcome_letter event outcome) sending
+IsLine fronts there (lines.Probe server word sending) = ProbeComes sending
+IsLine fronts there (lines.Job job sending) = ⊥
 
--- a line of the clock: an event with what came of it and of its send; or a probe of a server that the roster has in mode auto
-abbrev pub IsLine : List Listed → List Front → (ℕ → Bool) → Line → Type 0
-IsLine roster listens there (lines.Event source event outcome sending) = IsFrom source event × IsOutcome event outcome × Comes listens there (outcome_letter event outcome) sending
-IsLine roster listens there (lines.Probe server word sending) = ProbeComes sending × IsProbed roster server
-IsLine roster listens there (lines.Job job sending) = ⊥
-
-abbrev pub AreLines : List Listed → List Front → (ℕ → Bool) → List Line → Type 0
-AreLines roster listens there [] = Unit {0}
-AreLines roster listens there (line ∷ more) = IsLine roster listens there line × AreLines roster listens there more
+abbrev pub AreLines : List Front → List Bool → List Line → Type 0
+AreLines fronts there [] = Unit {0}
+AreLines fronts there (line ∷ more) = IsLine fronts there line × AreLines fronts there more
 
 abbrev pub is_done : Sending → Bool
 is_done (Done way) = true
@@ -132,11 +117,8 @@ probe_line _ = []
 abbrev pub probes_in : List Line → List Line
 probes_in = flat_map probe_line
 
--- a count of failures after a send: it rose where the send failed by a device, and is as it was else
-abbrev pub FailsBy : Bool → ℕ → ℕ → Type 0
-FailsBy true before after = Fails before after
-FailsBy false before after = after ≡ before
-
--- what these lines handed to requests, in order
-abbrev pub handed_in : List Line → List (Origin × List ℕ)
-handed_in = posts
+-- nothing more is due behind what came of a tick
+abbrev pub is_quiet : Outcome → Bool
+is_quiet (Answered answers.Quiet) = true
+is_quiet (Answered _) = false
+is_quiet (Fault fault excuse) = true

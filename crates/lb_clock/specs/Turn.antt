@@ -1,57 +1,82 @@
--- What the steps of a turn of the clock do.
-use Rattle.std.specs.Prelude.{◌≡◌, ℕ, ◌+◌, ◌≤◌, Bool, IsTrue, List, ◌++◌, Option, length}
-use Rattle.lb_core.specs.declared.answer.Answer.{Answer}
+-- What a turn of the clock does.
+use Rattle.std.specs.Prelude.{◌≡◌, ◌⊎◌, ◌+◌, ◌≤◌, ℕ, Bool, true, false, List, [], ◌∷◌, ◌++◌, Option, Some, None, length}
+use Rattle.lb_clock.specs.Acts.{Act, AllProbes, Stops, any_blind, any_failed, first_device, lines_in, or_device, reads_in, stamps_in}
+use Rattle.lb_clock.specs.Lines.{AreLines, Comes, datagrams, is_quiet, probes_in}
+use Rattle.lb_clock.specs.World.{World}
+use Rattle.lb_clock.specs.declared.turn.End.{End}
+use Rattle.lb_clock.specs.declared.turn.End.TheVariants as ends
 use Rattle.lb_core.specs.declared.event.Event.{Event}
-use Rattle.lb_clock.specs.Lines.{AreLines, datagrams}
-use Rattle.lb_lines.specs.Counts.{Grows, Rose}
-use Rattle.lb_lines.specs.Lines.{FirstFault, any_by_device, events_in, pairs}
-use Rattle.lb_lines.specs.Stamps.{Stamp, Stamped}
-use Rattle.lb_lines.specs.Ways.{jobs_sent, posts}
+use Rattle.lb_core.specs.declared.event.Event.TheVariants.{Tick}
+use Rattle.lb_lines.specs.Counts.{Fails, Grows}
+use Rattle.lb_lines.specs.Letter.{IsOutcome, outcome_letter}
+use Rattle.lb_lines.specs.Lines.{answered_as, events_in, is_by_device, pairs}
+use Rattle.lb_lines.specs.Roster.{Rostered}
+use Rattle.lb_lines.specs.Ways.{job_in, jobs_sent, packet_in, post_in, posts}
 use Rattle.lb_lines.specs.declared.report.DeviceFault.{DeviceFault}
 use Rattle.lb_lines.specs.declared.report.Line.{Line}
+use Rattle.lb_lines.specs.declared.report.Line.TheVariants as lines
+use Rattle.lb_lines.specs.declared.report.Outcome.{Outcome}
+use Rattle.lb_lines.specs.declared.report.Sending.{Sending}
+use Rattle.lb_lines.specs.declared.report.Source.TheVariants as sources
 use Rattle.lb_lines.specs.declared.roster.Listed.{Listed}
-use Rattle.lb_lines.specs.declared.traffic.Datagram.{Datagram}
-use Rattle.lb_lines.specs.declared.traffic.Front.{Front}
-use Rattle.lb_outbox.specs.Outbox.{Sending}
-use Rattle.lb_wire.specs.declared.addr.Origin.{Origin}
 
--- what sockets, outbox, waiting requests, taker and outside tell: the datagrams given and taken, the failures of the sockets; the jobs
--- sent; what was handed to requests; the answered calls and the pairs; the stamps that were said, and the failures outside
-pub record World : Type 0 where
-  pub given : List Datagram
-  pub taken : List Datagram
-  pub failures : ℕ
-  pub outbox : Sending
-  pub handed : List (Origin × List ℕ)
-  pub answered : ℕ
-  pub pairs : List (Event × Answer)
-  pub said : List Stamp
-  pub outside : ℕ
+-- a count of failures: one more or several where something failed, and the same else
+abbrev pub FailsBy : Bool → ℕ → ℕ → Type 0
+FailsBy true before after = Fails before after
+FailsBy false before after = after ≡ before
 
-abbrev pub world : List Datagram → List Datagram → ℕ → Sending → List (Origin × List ℕ) → ℕ → List (Event × Answer) → List Stamp → ℕ → World
-world given taken failures outbox handed answered pairs said outside =
-    record { given = given; taken = taken; failures = failures; outbox = outbox; handed = handed; answered = answered; pairs = pairs; said = said; outside = outside }
+-- what becomes of an event that is handed to the desk: what comes of it, and of its send
+pub record Tells (old new : World) (event : Event) (outcome : Outcome) (sending : Sending) : Type 0 where
+  pub is : IsOutcome event outcome
+  pub comes : Comes old.fronts old.there (outcome_letter event outcome) sending
+  pub taken : (roster : List Listed) → new.taken ≡ old.taken ++ packet_in roster (outcome_letter event outcome) sending
+  pub sent : new.outbox ≡ record old.outbox { sent = old.outbox.sent ++ job_in (outcome_letter event outcome) sending }
+  pub handed : new.handed ≡ old.handed ++ post_in (outcome_letter event outcome) sending
+  pub counted : new.answered ≡ old.answered + length (answered_as event outcome)
+  pub grows : Grows old.pairs new.pairs (answered_as event outcome)
+  pub failed : FailsBy (is_by_device sending) old.failures new.failures
+  pub same : new ≡ record old { taken = new.taken; outbox = new.outbox; handed = new.handed; answered = new.answered; pairs = new.pairs; failures = new.failures }
 
--- these events have stamps that were said; behind those, these were said and are spare
-pub record Stamps (old new : List Stamp) (events : List Event) (spare : List Stamp) : Type 0 where
-  pub stamps : List Stamp
-  pub said : new ≡ old ++ (stamps ++ spare)
-  pub stamped : Stamped events stamps
+-- These acts lead from one world to another: what was read and said, what was sent each way, what the desk answered, and how the probes
+-- stand, are what the acts say, in order; a device failed only where an act says so.
+pub record Turns (roster : Rostered) (acts : List Act) (old new : World) : Type 0 where
+  pub probes : AllProbes roster acts old.probes new.probes
+  pub given : new.given ≡ old.given ++ reads_in acts
+  pub said : new.said ≡ old.said ++ stamps_in acts
+  pub taken : new.taken ≡ old.taken ++ datagrams roster.listed (lines_in acts)
+  pub sent : new.outbox ≡ record old.outbox { sent = old.outbox.sent ++ jobs_sent (lines_in acts) }
+  pub handed : new.handed ≡ old.handed ++ posts (lines_in acts)
+  pub are : AreLines old.fronts old.there (lines_in acts)
+  pub counted : new.answered ≡ old.answered + length (pairs (lines_in acts))
+  pub grows : Grows old.pairs new.pairs (pairs (lines_in acts))
+  pub failed : FailsBy (any_failed acts) old.failures new.failures
+  pub blind : FailsBy (any_blind acts) old.outside new.outside
+  pub fronts : new.fronts ≡ old.fronts
+  pub there : new.there ≡ old.there
 
--- steps with so many reads at most lead from one world to another, with these lines, this device fault as the first, and these stamps
--- to spare
-pub record Turns (roster : List Listed) (listens : List Front) (there : ℕ → Bool) (reads : ℕ) (old new : World) (lines : List Line) (device : Option DeviceFault) (spare : List Stamp) : Type 0 where
-  pub read : length new.given ≤ length old.given + reads
-  pub took : new.taken ≡ old.taken ++ datagrams roster lines
-  pub sent : new.outbox ≡ record old.outbox { sent = old.outbox.sent ++ jobs_sent lines }
-  pub posted : new.handed ≡ old.handed ++ posts lines
-  pub are : AreLines roster listens there lines
-  pub counted : new.answered ≡ old.answered + length (pairs lines)
-  pub grows : Grows old.pairs new.pairs (pairs lines)
-  pub stamps : Stamps old.said new.said (events_in lines) spare
-  pub failed : IsTrue (any_by_device lines) → Rose old.failures new.failures
-  pub first : FirstFault device old.failures new.failures old.outside new.outside
+-- steps, with at most so many reads: the lines that they add, the first device fault, and why the turn ends with them, where it does
+pub record Goes (roster : Rostered) (reads : ℕ) (old new : World) (before after : List Line) (device later : Option DeviceFault) (end : Option End) : Type 0 where
+  pub acts : List Act
+  pub turns : Turns roster acts old new
+  pub lines : after ≡ before ++ lines_in acts
+  pub noted : later ≡ or_device device (first_device acts)
+  pub stops : Stops acts end
+  pub few : length (reads_in acts) ≤ reads
 
--- the same, with some stamps to spare
-abbrev pub Goes : List Listed → List Front → (ℕ → Bool) → ℕ → World → World → List Line → Option DeviceFault → Type 0
-Goes roster listens there reads old new lines device = (spare : List Stamp) × Turns roster listens there reads old new lines device spare
+-- nothing more was due at the end, or as many events were told as may be
+abbrev pub Rests : List Line → Type 0
+Rests told = (length (events_in told) ≡ 64) ⊎ ((more : List Line) × (now : ℕ) × (outcome : Outcome) × (sending : Sending) × (told ≡ more ++ lines.Event sources.Clock (Tick now) outcome sending ∷ []) × (is_quiet outcome ≡ true))
+
+-- whether the gate held an event
+abbrev pub held_by : Option End → Bool
+held_by (Some ends.Held) = true
+held_by _ = false
+
+-- a whole turn, its lines, its first device fault, and whether the gate held an event; it ends before it rests only there, or where there was no moment to be had
+pub record Turned (roster : Rostered) (old new : World) (told : List Line) (device : Option DeviceFault) (held : Bool) : Type 0 where
+  pub end : Option End
+  pub goes : Goes roster 64 old new [] told None device end
+  pub holds : held ≡ held_by end
+  pub rests : end ≡ None → Rests told
+  pub few_events : length (events_in told) ≤ 64
+  pub few_probes : length (probes_in told) ≤ 64

@@ -1,12 +1,14 @@
 //! The turn of the clock: probes of servers and their results, and ticks.
 #![tactic(auto)]
 
+mod clock;
 mod news;
 mod probes;
 mod sending;
 mod steps;
 mod tally;
 mod turn;
+mod watched;
 
-pub use probes::Probes;
+pub use clock::ClockLoop;
 pub use turn::clock_turn;

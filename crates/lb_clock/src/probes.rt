@@ -1,12 +1,12 @@
-//! The probes of servers.
+//! The servers that are probed.
 
-ghost use Rattle.std.specs.Prelude.{[], IfOk, IfSome, Some, length, vec_capacity, ◌≡◌, ◌≤◌};
-ghost use Rattle.lb_lines.specs.Roster.{place_in};
-ghost use Rattle.lb_servers.specs.declared.server.Mode.TheVariants as modes;
+ghost use Rattle.std.specs.Prelude.{[], IfNone, IfOk, IfSome, List, None, Some, filter, length, slice_get, vec_capacity, ◌++◌, ◌≡◌, ◌≤◌, ℕ};
+ghost use Rattle.std.specs.List.{position};
+ghost use Rattle.lb_clock.specs.Probes.{Answers, AreFresh, Follows, Unheard, begun, ended, is_of, place_of, stands};
+ghost use Rattle.lb_clock.specs.declared.watched.Watched.{Watched};
 
-use lb_health::judge;
-use lb_lines::{Datagram, Endpoint, Place, Roster, Socket};
-use lb_servers::Mode;
+use crate::watched::{SECOND, Waits, Watched};
+use lb_lines::{Datagram, Place, Roster, Socket};
 use lb_wire::ServerId;
 use std::alloc::{AllocError, Global};
 use std::marker::Model;
@@ -14,30 +14,9 @@ use std::marker::Model;
 /// How many servers there is room for.
 const ROOM: usize = 256;
 
-/// How long a probe waits for its answer, and how long it is from one probe of a server to the next, in milliseconds.
-const SECOND: u64 = 1_000;
-
-/// A probe that is under way: its ID, and the moment at which it was sent, in milliseconds.
-#[derive(Clone, Copy, Debug)]
-pub(crate) struct Waits {
-    pub(crate) word: u16,
-    pub(crate) sent: u64,
-}
-
-/// A server that is probed: where it is, whether an answer has to name an address, when its next probe is due, and the probe that is
-/// under way.
-#[derive(Clone, Copy, Debug)]
-pub(crate) struct Watched {
-    pub(crate) server: ServerId,
-    pub(crate) at: Endpoint,
-    pub(crate) must_resolve: bool,
-    pub(crate) next: u64,
-    pub(crate) waits: Option<Waits>,
-}
-
 /// Servers that are probed: of each where it is, when its next probe is due, and the probe that is under way. Room for 256.
 #[derive(Drop)]
-pub struct Probes {
+pub(crate) struct Probes {
     watched: Vec<Watched>,
     /// The version of the roster that the servers were taken from.
     version: Option<u64>,
@@ -45,18 +24,25 @@ pub struct Probes {
 }
 
 impl Model for Probes {
-    ghost use Rattle.std.specs.Prelude.{List};
-    ghost use Rattle.lb_clock.specs.declared.probes.Watched.{Watched};
+    ghost use Rattle.lb_clock.specs.Probes.{Probed};
 
-    ghost Value = { List Watched };
+    ghost Value = { Probed };
 
-    ghost view = { λ p. p.watched.items };
+    ghost view = { λ p. record { version = p.version; watched = p.watched.items } };
+}
+
+/// A datagram that answers a probe: the place of its server, that server, and the probe.
+#[derive(Clone, Copy, Debug)]
+pub(crate) struct Answered {
+    pub(crate) index: usize,
+    pub(crate) watched: Watched,
+    pub(crate) waits: Waits,
 }
 
 impl Probes {
     /// No server is probed. It has room for 256; the one error is want of memory.
-    pub fn made(alloc: Global) -> Result<Probes, AllocError>
-        ensures { IfOk result (λ probes. probes ≡ []) }
+    pub(crate) fn made(alloc: Global) -> Result<Probes, AllocError>
+        ensures { IfOk result (λ probes. probes ≡ record { version = None; watched = [] }) }
     {
         Ok(Probes {
             watched: Vec::with_capacity(alloc, ROOM)?,
@@ -66,129 +52,151 @@ impl Probes {
 
     /// How many servers are probed.
     pub(crate) fn len(&self) -> usize
-        ensures { result ≡ length self.now }
+        ensures { result ≡ length self.now.watched }
     {
         self.watched.len()
     }
 
-    /// The servers become those of the roster at this moment: one that left goes, and one that came, or is at another end, begins anew.
-    pub(crate) fn follow(&mut self, roster: &Roster, now: u64) {
+    /// The server at a place, where there is one.
+    pub(crate) fn get(&self, index: usize) -> Option<Watched>
+        ensures { result ≡ slice_get self.now.watched index }
+    {
+        self.watched.get(index).copied()
+    }
+
+    /// The servers become those of the roster, where that was changed: one that left, or is at another end, goes, and one that came
+    /// begins anew at this moment.
+    pub(crate) fn follow(&mut self, roster: &Roster, now: u64)
+        ensures { Follows roster.now self.old self.new }
+    {
         if self.version == Some(roster.version()) {
             return;
         }
         self.version = Some(roster.version());
-        self.leave(roster);
-        for index in 0..roster.len() {
-            if let Some((server, place)) = roster.nth(index) {
-                self.admit(server, place, now);
-            }
-        }
+        keep_standing(&mut self.watched, roster);
+        admit_all(&mut self.watched, roster, now);
     }
 
-    /// Those that are not in the roster at their end any more go.
-    fn leave(&mut self, roster: &Roster) {
-        for index in (0..self.watched.len()).rev() {
-            if index < self.watched.len() && !stands(roster, &self.watched[index]) {
-                self.watched.remove(index);
-            }
-        }
-    }
-
-    /// A server that is not here yet begins: its first probe is due at a moment of the next second that its number tells.
-    fn admit(&mut self, server: ServerId, place: Place, now: u64) {
-        let is_here = self.watched.iter().any(|w| w.server.0 == server.0);
-        if is_here || self.watched.len() >= ROOM {
-            return;
-        }
-        self.watched.push_reserved(Watched {
-            server,
-            at: place.at,
-            must_resolve: place.must_resolve,
-            next: now.saturating_add(server.0 % 256 * SECOND / 256),
-            waits: None,
-        });
-    }
-
-    /// The server at a place, where there is one.
-    pub(crate) fn get(&self, index: usize) -> Option<Watched> {
-        self.watched.get(index).copied()
-    }
-
-    /// The server at a place and its probe, where one is under way.
-    pub(crate) fn under_way(&self, index: usize) -> Option<(ServerId, Waits)> {
+    /// The server whose probe this datagram answers at this moment, with its place.
+    pub(crate) fn answered(&self, datagram: &Datagram, now: u64) -> Option<Answered>
+        ensures some { IfSome result (λ a. (place_of datagram.now.socket self.now.watched ≡ Some a.index) × (slice_get self.now.watched a.index ≡ Some a.watched) × (a.watched.waits ≡ Some a.waits) × Answers now datagram.now a.watched) }
+        ensures none { IfNone result (Unheard now datagram.now self.now.watched) }
+    {
+        let index = place_of(self.watched.as_slice(), datagram.socket)?;
         let watched = self.get(index)?;
-        let waits = watched.waits?;
-        Some((watched.server, waits))
-    }
-
-    /// The place of the server whose probe this datagram answers at this moment, with the server and the probe's ID.
-    pub(crate) fn answered(&self, datagram: &Datagram, now: u64) -> Option<(usize, ServerId, u16)> {
-        let Socket::Server(server, 0, at) = datagram.socket else {
-            return None;
-        };
-        let index = self.watched.iter().position(|w| w.server.0 == server.0)?;
-        let watched = self.get(index)?;
-        let waits = watched.waits?;
-        let is_from = watched.at.is(at) && watched.at.is(datagram.peer);
-        if !is_from || is_late(waits, now) {
-            return None;
-        }
-        if judge(datagram.bytes.as_slice(), waits.word, watched.must_resolve) {
-            Some((index, watched.server, waits.word))
-        } else {
-            None
-        }
+        let waits = watched.answered(datagram, now)?;
+        Some(Answered {
+            index,
+            watched,
+            waits,
+        })
     }
 
     /// The probe of the server at a place ends.
-    pub(crate) fn end(&mut self, index: usize) {
-        if let Some(watched) = self.watched.get_mut(index) {
-            watched.waits = None;
-        }
+    pub(crate) fn end(&mut self, index: usize, watched: Watched)
+        requires there { slice_get self.old.watched index ≡ Some watched }
+        ensures { self.new ≡ ended self.old index watched }
+    {
+        self.watched[index] = Watched {
+            waits: None,
+            ..watched
+        };
     }
 
-    /// A probe of the server at a place is under way, to this end, sent at this moment.
-    pub(crate) fn begin(&mut self, index: usize, place: Place, word: u16, now: u64) {
-        if let Some(watched) = self.watched.get_mut(index) {
-            watched.at = place.at;
-            watched.must_resolve = place.must_resolve;
-            watched.waits = Some(Waits { word, sent: now });
-        }
-    }
-
-    /// The next probe of the server at a place is due a second after this moment.
-    pub(crate) fn put_off(&mut self, index: usize, now: u64) {
-        if let Some(watched) = self.watched.get_mut(index) {
-            watched.next = now.saturating_add(SECOND);
-        }
+    /// A probe of the server at a place was sent at this moment to this place, or could not be. The next one is due a second later.
+    pub(crate) fn begin(
+        &mut self,
+        index: usize,
+        watched: Watched,
+        place: Place,
+        stamp: (u64, u16),
+        is_sent: bool,
+    )
+        requires there { slice_get self.old.watched index ≡ Some watched }
+        ensures { (next : ℕ) × (self.new ≡ begun self.old index watched place (stamp.0, stamp.1) is_sent next) }
+    {
+        let (now, word) = stamp;
+        self.watched[index] = Watched {
+            server: watched.server,
+            at: place.at,
+            must_resolve: place.must_resolve,
+            next: now.saturating_add(SECOND),
+            waits: Some(Waits {
+                word,
+                sent: now,
+                is_sent,
+            }),
+        };
     }
 }
 
-/// Whether a server stands in the roster at its end.
-fn stands(roster: &Roster, watched: &Watched) -> bool {
+/// The place of the server whose socket this is.
+fn place_of(watched: &[Watched], socket: Socket) -> Option<usize>
+    ensures { result ≡ place_of socket watched.now }
+{
+    match socket {
+        Socket::Listener(_) => None,
+        Socket::Server(server, _, _) => index_of(watched, server),
+    }
+}
+
+/// The place of a server.
+fn index_of(watched: &[Watched], server: ServerId) -> Option<usize>
+    ensures { result ≡ position (is_of server) watched.now }
+{
+    watched.iter().position(|w| w.server.0 == server.0)
+}
+
+/// Those that are not in the roster at their end any more go.
+fn keep_standing(watched: &mut Vec<Watched>, roster: &Roster)
+    ensures items { watched.new.items ≡ filter (stands roster.now.listed) watched.old.items }
+    ensures room { vec_capacity watched.new ≡ vec_capacity watched.old }
+{
+    watched.retain(|w| stands(roster, w));
+}
+
+/// Whether the roster has a server at the end that is probed.
+fn stands(roster: &Roster, watched: &Watched) -> bool
+    ensures { result ≡ stands roster.now.listed watched.now }
+{
     match roster.get(watched.server) {
         Some(place) => place.at.is(watched.at),
         None => false,
     }
 }
 
-/// Whether a probe has waited for a second or more.
-pub(crate) fn is_late(waits: Waits, now: u64) -> bool {
-    now.saturating_sub(waits.sent) >= SECOND
+/// The servers of the roster that are not here yet begin.
+fn admit_all(watched: &mut Vec<Watched>, roster: &Roster, now: u64)
+    requires room { 256 ≤ vec_capacity watched.old }
+    ensures fresh { (fresh : List Watched) × (watched.new.items ≡ watched.old.items ++ fresh) × AreFresh roster.now.listed watched.old.items fresh }
+    ensures room { vec_capacity watched.new ≡ vec_capacity watched.old }
+{
+    for index in 0..roster.len() {
+        admit(watched, roster, index, now);
+    }
 }
 
-/// The place of a server that is probed when its next probe is due: where the roster has it in mode auto.
-pub(crate) fn due(roster: &Roster, watched: &Watched, now: u64) -> Option<Place>
-    ensures { IfSome result (λ place. (place_in watched.now.server roster.now.listed ≡ Some place) × (place.mode ≡ modes.Auto)) }
+/// The server at a place of the roster begins, where it is not here yet and there is room: its first probe is due at a moment of the next
+/// second that its number tells.
+fn admit(watched: &mut Vec<Watched>, roster: &Roster, index: usize, now: u64)
+    requires room { 256 ≤ vec_capacity watched.old }
+    ensures fresh { (fresh : List Watched) × (watched.new.items ≡ watched.old.items ++ fresh) × AreFresh roster.now.listed watched.old.items fresh }
+    ensures room { vec_capacity watched.new ≡ vec_capacity watched.old }
 {
-    if watched.waits.is_some() || now < watched.next {
-        return None;
-    }
-    let Some(place) = roster.get(watched.server) else {
-        return None;
+    let Some((server, _place)) = roster.nth(index) else {
+        return;
     };
-    match place.mode {
-        Mode::Auto => Some(place),
-        Mode::Up | Mode::Down => None,
+    if index_of(watched.as_slice(), server).is_some() || watched.len() >= ROOM {
+        return;
     }
+    let Some(place) = roster.get(server) else {
+        return;
+    };
+    watched.push_reserved(Watched {
+        server,
+        at: place.at,
+        must_resolve: place.must_resolve,
+        next: now.saturating_add(server.0 % 256 * SECOND / 256),
+        waits: None,
+    });
 }

@@ -1,7 +1,9 @@
 //! What a turn of the clock sends.
 
-ghost use Rattle.std.specs.Prelude.{[], Bool, IfOk, List, None, Some, false, if◌then◌else◌, slice_get, ◌++◌, ◌==◌, ◌∷◌, ◌≡◌};
-ghost use Rattle.lb_clock.specs.Lines.{Comes, ComesBy, FailsBy, ProbeComes, is_done, probe_to};
+ghost use Rattle.std.specs.Prelude.{[], Bool, IfOk, List, None, Some, false, get_or, if◌then◌else◌, slice_get, ◌++◌, ◌==◌, ◌∷◌, ◌≡◌};
+ghost use Rattle.lb_clock.specs.Lines.{Comes, ComesBy, ProbeComes, is_done, probe_to};
+ghost use Rattle.lb_clock.specs.Turn.{FailsBy};
+ghost use Rattle.lb_clock.specs.World.{listened};
 ghost use Rattle.lb_health.specs.Probes.{probe_octets};
 ghost use Rattle.lb_lines.specs.Letter.{outcome_letter};
 ghost use Rattle.lb_lines.specs.Lines.{is_by_device};
@@ -25,11 +27,11 @@ pub(crate) fn send_outcome<R: Wait, S: Datagrams, P: Posts>(
     sockets: &mut S,
     outbox: &mut Sender,
     posts: &mut P,
-    listens: &[Front],
+    fronts: &[Front],
     event: &Event,
     outcome: &Outcome,
 ) -> Sending
-    ensures comes { Comes listens.now (S.listens sockets.old) (outcome_letter event.now outcome.now) result }
+    ensures comes { Comes fronts.now (listened (S.listens sockets.old)) (outcome_letter event.now outcome.now) result }
     ensures taken { (roster : List Listed) → S.taken sockets.new ≡ S.taken sockets.old ++ packet_in roster (outcome_letter event.now outcome.now) result }
     ensures sent { outbox.new ≡ record outbox.old { sent = outbox.old.sent ++ job_in (outcome_letter event.now outcome.now) result } }
     ensures handed { P.handed posts.new ≡ P.handed posts.old ++ post_in (outcome_letter event.now outcome.now) result }
@@ -40,13 +42,13 @@ pub(crate) fn send_outcome<R: Wait, S: Datagrams, P: Posts>(
         Outcome::Answered(Answer::Local(bytes, _) | Answer::NoMemory(bytes))
         | Outcome::Fault(_, Some(bytes)) => match event {
             Event::Query { origin, .. } => {
-                send_to_client(rt, alloc, sockets, outbox, posts, listens, *origin, bytes)
+                send_to_client(rt, alloc, sockets, outbox, posts, fronts, *origin, bytes)
             }
             _ => Sending::Nothing,
         },
         Outcome::Answered(Answer::Forward(..)) => Sending::Failed(Why::Gone),
         Outcome::Answered(Answer::Deliver(origin, bytes, _) | Answer::Expired(origin, bytes)) => {
-            send_to_client(rt, alloc, sockets, outbox, posts, listens, *origin, bytes)
+            send_to_client(rt, alloc, sockets, outbox, posts, fronts, *origin, bytes)
         }
         _ => Sending::Nothing,
     }
@@ -59,18 +61,18 @@ fn send_to_client<R: Wait, S: Datagrams, P: Posts>(
     sockets: &mut S,
     outbox: &mut Sender,
     posts: &mut P,
-    listens: &[Front],
+    fronts: &[Front],
     origin: Origin,
     bytes: &Octets,
 ) -> Sending
-    ensures comes { Comes listens.now (S.listens sockets.old) (Some (Client origin, bytes.now)) result }
+    ensures comes { Comes fronts.now (listened (S.listens sockets.old)) (Some (Client origin, bytes.now)) result }
     ensures taken { (roster : List Listed) → S.taken sockets.new ≡ S.taken sockets.old ++ packet_in roster (Some (Client origin, bytes.now)) result }
     ensures sent { outbox.new ≡ record outbox.old { sent = outbox.old.sent ++ job_in (Some (Client origin, bytes.now)) result } }
     ensures handed { P.handed posts.new ≡ P.handed posts.old ++ post_in (Some (Client origin, bytes.now)) result }
     ensures failed { FailsBy (is_by_device result) (S.failures sockets.old) (S.failures sockets.new) }
     ensures same { (S.given sockets.new ≡ S.given sockets.old) × (S.listens sockets.new ≡ S.listens sockets.old) }
 {
-    match front_of(listens, origin) {
+    match front_of(fronts, origin) {
         None | Some(Front::Console) => Sending::Failed(Why::Gone),
         Some(Front::Datagram) => send_packet(sockets, origin, bytes),
         Some(Front::Stream) => send_job(rt, alloc, outbox, origin, bytes),
@@ -79,15 +81,15 @@ fn send_to_client<R: Wait, S: Datagrams, P: Posts>(
 }
 
 /// What listens at the place that a query came to.
-fn front_of(listens: &[Front], origin: Origin) -> Option<Front>
-    ensures { result ≡ slice_get listens.now origin.front }
+fn front_of(fronts: &[Front], origin: Origin) -> Option<Front>
+    ensures { result ≡ slice_get fronts.now origin.front }
 {
-    listens.get(usize::from(origin.front)).copied()
+    fronts.get(usize::from(origin.front)).copied()
 }
 
 /// Sends a message by the listener's shared socket.
 fn send_packet<S: Datagrams>(sockets: &mut S, origin: Origin, bytes: &Octets) -> Sending
-    ensures comes { ComesBy (if origin.slot == 0 then Some ways.Datagram else None) (S.listens sockets.old origin.front) result }
+    ensures comes { ComesBy (if origin.slot == 0 then Some ways.Datagram else None) (get_or (listened (S.listens sockets.old)) origin.front false) result }
     ensures taken { (roster : List Listed) → S.taken sockets.new ≡ S.taken sockets.old ++ packet_in roster (Some (Client origin, bytes.now)) result }
     ensures apart { (job_in (Some (Client origin, bytes.now)) result ≡ []) × (post_in (Some (Client origin, bytes.now)) result ≡ []) }
     ensures failed { FailsBy (is_by_device result) (S.failures sockets.old) (S.failures sockets.new) }

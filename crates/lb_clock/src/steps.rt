@@ -1,122 +1,155 @@
-//! The steps of a turn: asking for a moment, reading, telling an event, and probing.
+//! What the steps of a turn are made of: each changes one part of the loop.
 
-ghost use Rattle.std.specs.Prelude.{[], Bool, IfSome, List, Some, false, option_to_list, ◌+◌, ◌<◌, ◌∷◌, ◌≡◌, ℕ};
-ghost use Rattle.lb_clock.specs.Turn.{Turns, World};
-ghost use Rattle.lb_lines.specs.Roster.{place_in};
-ghost use Rattle.lb_lines.specs.Stamps.{Stamp};
-ghost use Rattle.lb_lines.specs.declared.roster.Listed.{Listed};
-ghost use Rattle.lb_lines.specs.declared.traffic.Front.{Front};
-ghost use Rattle.lb_servers.specs.declared.server.Mode.TheVariants as modes;
+ghost use Rattle.std.specs.Prelude.{[], IfNone, IfSome, Ok, Some, if◌then◌else◌, slice_get, ◌++◌, ◌∷◌, ◌≡◌, ℕ};
+ghost use Rattle.lb_clock.specs.Lines.{ProbeComes, is_done, probe_to};
+ghost use Rattle.lb_clock.specs.News.{event_told, source_told};
+ghost use Rattle.lb_clock.specs.Probes.{Answers, Follows, Unheard, begun, ended, place_of};
+ghost use Rattle.lb_clock.specs.Turn.{FailsBy, Tells};
+ghost use Rattle.lb_lines.specs.Counts.{Fails};
+ghost use Rattle.lb_lines.specs.Lines.{is_by_device};
+ghost use Rattle.lb_lines.specs.Moves.{Gave};
+ghost use Rattle.std.specs.declared.alloc.AllocError.{AllocError};
+ghost use Rattle.lb_lines.specs.declared.report.Line.TheVariants as lines;
 
+use crate::clock::ClockLoop;
 use crate::news::News;
+use crate::probes::Answered;
 use crate::sending::{send_outcome, send_probe};
-use crate::tally::Tally;
-use lb_core::Answer;
+use crate::watched::Watched;
 use lb_lines::{
-    Datagrams, Front, Gate, Line, Outcome, Outside, Place, Posts, Received, Sending, Taker,
-    outcome_of,
+    Datagram, Datagrams, Gate, Line, Outcome, Outside, Place, Posts, Received, Roster, Sending,
+    Taker, outcome_of,
 };
-use lb_outbox::Sender;
-use lb_wire::ServerId;
-use std::alloc::Global;
 use std::sync::Wait;
 
-/// Asks for a moment and a random word. Where there is none, the turn ends.
-pub(crate) fn ask<O: Outside>(tally: &mut Tally, outside: &mut O) -> Option<(u64, u16)>
-    requires on { tally.old.is_over ≡ false }
-    ensures goes { (roster : List Listed) (listens : List Front) (there : ℕ → Bool) (n : ℕ) (start w : World) (spare : List Stamp) → Turns roster listens there n start (record w { said = O.said outside.old; outside = O.failures outside.old }) tally.old.lines.items tally.old.device (spare) → Turns roster listens there n start (record w { said = O.said outside.new; outside = O.failures outside.new }) tally.new.lines.items tally.new.device (option_to_list result) }
-    ensures on { IfSome result (λ _. tally.new ≡ tally.old) }
-{
-    match outside.ask() {
-        Some(stamp) => Some(stamp),
-        None => {
-            tally.fail_outside();
-            None
+/// An event that was handed to the desk: what came of it, and of its send.
+#[derive(Debug, Drop)]
+pub(crate) struct Told {
+    pub(crate) outcome: Outcome,
+    pub(crate) sending: Sending,
+}
+
+impl<S: Datagrams, P: Posts, T: Taker, O: Outside> ClockLoop<S, P, T, O> {
+    /// The moment and a word, where there are any to be had.
+    pub(crate) fn ask(&mut self) -> Option<(u64, u16)>
+        ensures said { IfSome result (λ s. self.new ≡ record self.old { said = self.old.said ++ (s.0, s.1) ∷ [] }) }
+        ensures blind { IfNone result ((self.new ≡ record self.old { outside = self.new.outside }) × Fails self.old.outside self.new.outside) }
+    {
+        self.outside.ask()
+    }
+
+    /// The servers that are probed become those of the roster.
+    pub(crate) fn follow(&mut self, roster: &Roster, now: u64)
+        ensures same { self.new ≡ record self.old { probes = self.new.probes } }
+        ensures follows { Follows roster.now self.old.probes self.new.probes }
+    {
+        self.probes.follow(roster, now);
+    }
+
+    /// Reads a datagram, if there is one, and room for it.
+    pub(crate) fn receive(&mut self) -> Received
+        ensures same { self.new ≡ record self.old { given = self.new.given; failures = self.new.failures } }
+        ensures gave { Gave {E = AllocError} (Ok result) self.old.given self.new.given self.old.failures self.new.failures }
+    {
+        match self.sockets.receive() {
+            Ok(received) => received,
+            Err(_refused) => Received::Nothing,
         }
     }
-}
 
-/// Reads a datagram. Where room for one is refused, none is read.
-pub(crate) fn read<S: Datagrams>(tally: &mut Tally, sockets: &mut S) -> Received
-    requires on { tally.old.is_over ≡ false }
-    ensures goes { (roster : List Listed) (listens : List Front) (there : ℕ → Bool) (n : ℕ) (start w : World) (spare : List Stamp) → Turns roster listens there n start (record w { given = S.given sockets.old; taken = S.taken sockets.old; failures = S.failures sockets.old }) tally.old.lines.items tally.old.device (spare) → Turns roster listens there (n + 1) start (record w { given = S.given sockets.new; taken = S.taken sockets.new; failures = S.failures sockets.new }) tally.new.lines.items tally.new.device (spare) }
-    ensures on { (tally.new.is_over ≡ false) × (tally.new.events ≡ tally.old.events) }
-    ensures same { S.listens sockets.new ≡ S.listens sockets.old }
-{
-    match sockets.receive() {
-        Ok(Received::Failed) => {
-            tally.fail_read();
-            Received::Failed
+    /// The server whose probe a datagram answers at this moment.
+    pub(crate) fn hear(&self, datagram: &Datagram, now: u64) -> Option<Answered>
+        ensures some { IfSome result (λ a. (place_of datagram.now.socket self.now.probes.watched ≡ Some a.index) × (slice_get self.now.probes.watched a.index ≡ Some a.watched) × (a.watched.waits ≡ Some a.waits) × Answers now datagram.now a.watched) }
+        ensures none { IfNone result (Unheard now datagram.now self.now.probes.watched) }
+    {
+        self.probes.answered(datagram, now)
+    }
+
+    /// The server that is probed at a place, where there is one.
+    pub(crate) fn watched(&self, index: usize) -> Option<Watched>
+        ensures { result ≡ slice_get self.now.probes.watched index }
+    {
+        self.probes.get(index)
+    }
+
+    /// The probe of the server at a place ends.
+    pub(crate) fn end_probe(&mut self, index: usize, watched: Watched)
+        requires there { slice_get self.old.probes.watched index ≡ Some watched }
+        ensures { self.new ≡ record self.old { probes = ended self.old.probes index watched } }
+    {
+        self.probes.end(index, watched);
+    }
+
+    /// Sends a probe to a server, which has this moment, and its word as ID.
+    pub(crate) fn send_probe(
+        &mut self,
+        index: usize,
+        watched: Watched,
+        place: Place,
+        stamp: (u64, u16),
+    ) -> Sending
+        requires there { slice_get self.old.probes.watched index ≡ Some watched }
+        ensures comes { ProbeComes result }
+        ensures taken { self.new.taken ≡ self.old.taken ++ (if is_done result then probe_to watched.server stamp.1 place.at ∷ [] else []) }
+        ensures failed { FailsBy (is_by_device result) self.old.failures self.new.failures }
+        ensures begun { (next : ℕ) × (self.new.probes ≡ begun self.old.probes index watched place (stamp.0, stamp.1) (is_done result) next) }
+        ensures same { self.new ≡ record self.old { probes = self.new.probes; taken = self.new.taken; failures = self.new.failures } }
+    {
+        let sending = send_probe(
+            self.alloc,
+            &mut self.sockets,
+            watched.server,
+            stamp.1,
+            place.at,
+        );
+        self.probes
+            .begin(index, watched, place, stamp, is_done(sending));
+        sending
+    }
+
+    /// Hands an event to the desk, where the gate lets it pass, and sends what comes of it. None where the gate held it, and then nothing
+    /// has changed.
+    pub(crate) fn tell<R: Wait, G: Gate>(
+        &mut self,
+        rt: &R,
+        gate: &G,
+        news: News,
+        now: u64,
+    ) -> Option<Told>
+        ensures held { IfNone result (self.new ≡ self.old) }
+        ensures tells { IfSome result (λ t. Tells self.old self.new (event_told news now) t.outcome t.sending) }
+    {
+        let event = news.event(now);
+        if !gate.pass(&event) {
+            return None;
         }
-        Ok(received) => received,
-        Err(_refused) => Received::Nothing,
+        let outcome = outcome_of(&mut self.taker, event);
+        let event = news.event(now);
+        let sending = send_outcome(
+            rt,
+            self.alloc,
+            &mut self.sockets,
+            &mut self.sender,
+            &mut self.posts,
+            self.fronts.as_slice(),
+            &event,
+            &outcome,
+        );
+        Some(Told { outcome, sending })
     }
 }
 
-/// Hands an event to the desk, where the gate lets it pass, and sends what comes of it. Whether more may be due; None where it was held.
-pub(crate) fn tell<R: Wait, S: Datagrams, P: Posts, T: Taker, G: Gate>(
-    rt: &R,
-    alloc: Global,
-    tally: &mut Tally,
-    sockets: &mut S,
-    outbox: &mut Sender,
-    posts: &mut P,
-    listens: &[Front],
-    taker: &mut T,
-    gate: &G,
-    news: News,
-    now: u64,
-) -> Option<bool>
-    requires on { tally.old.is_over ≡ false }
-    requires room { tally.old.events < 64 }
-    ensures goes { (roster : List Listed) (there : ℕ → Bool) (n : ℕ) (start w : World) (word : ℕ) → S.listens sockets.old ≡ there → Turns roster listens.now there n start (record w { given = S.given sockets.old; taken = S.taken sockets.old; failures = S.failures sockets.old; outbox = outbox.old; handed = P.handed posts.old; answered = T.answered taker.old; pairs = T.pairs taker.old }) tally.old.lines.items tally.old.device ((now, word) ∷ []) → Turns roster listens.now there n start (record w { given = S.given sockets.new; taken = S.taken sockets.new; failures = S.failures sockets.new; outbox = outbox.new; handed = P.handed posts.new; answered = T.answered taker.new; pairs = T.pairs taker.new }) tally.new.lines.items tally.new.device ([]) }
-    ensures on { IfSome result (λ _. tally.new.is_over ≡ false) }
-    ensures same { S.listens sockets.new ≡ S.listens sockets.old }
+/// The line of an event that was told.
+pub(crate) fn line_of(news: News, now: u64, told: Told) -> Line
+    ensures { result ≡ lines.Event (source_told news) (event_told news now) told.outcome told.sending }
 {
-    let event = news.event(now);
-    if !gate.pass(&event) {
-        tally.hold();
-        return None;
-    }
-    let outcome = outcome_of(taker, event);
-    let is_more = is_more(&outcome);
-    let told = news.event(now);
-    let sending = send_outcome(rt, alloc, sockets, outbox, posts, listens, &told, &outcome);
-    tally.add_event(Line::Event(news.source(), told, outcome, sending));
-    Some(is_more)
-}
-
-/// Whether more may be due behind an answer.
-fn is_more(outcome: &Outcome) -> bool {
-    match outcome {
-        Outcome::Answered(Answer::Quiet) | Outcome::Fault(..) => false,
-        Outcome::Answered(_) => true,
-    }
-}
-
-/// Sends a probe to a server in mode auto, where the roster has it.
-pub(crate) fn probe_server<S: Datagrams>(
-    alloc: Global,
-    tally: &mut Tally,
-    sockets: &mut S,
-    server: ServerId,
-    word: u16,
-    place: Place,
-) -> bool
-    requires on { tally.old.is_over ≡ false }
-    requires room { tally.old.probes < 64 }
-    requires auto { place.mode ≡ modes.Auto }
-    ensures goes { (roster : List Listed) (listens : List Front) (there : ℕ → Bool) (n : ℕ) (start w : World) (spare : List Stamp) → place_in server roster ≡ Some place → Turns roster listens there n start (record w { given = S.given sockets.old; taken = S.taken sockets.old; failures = S.failures sockets.old }) tally.old.lines.items tally.old.device (spare) → Turns roster listens there n start (record w { given = S.given sockets.new; taken = S.taken sockets.new; failures = S.failures sockets.new }) tally.new.lines.items tally.new.device (spare) }
-    ensures on { (tally.new.is_over ≡ false) × (tally.new.events ≡ tally.old.events) }
-    ensures same { S.listens sockets.new ≡ S.listens sockets.old }
-{
-    let sending = send_probe(alloc, sockets, server, word, place.at);
-    tally.add_probe(Line::Probe(server, word, sending));
-    is_done(sending)
+    Line::Event(news.source(), news.event(now), told.outcome, told.sending)
 }
 
 /// Whether a message was sent.
-fn is_done(sending: Sending) -> bool {
+fn is_done(sending: Sending) -> bool
+    ensures { result ≡ is_done sending }
+{
     match sending {
         Sending::Done(_) => true,
         _ => false,

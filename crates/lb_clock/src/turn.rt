@@ -1,405 +1,318 @@
 //! The turn of the clock.
 
-ghost use Rattle.std.specs.Prelude.{[], Bool, IfOk, IsTrue, List, None, OnErr, length, ◌++◌, ◌+◌, ◌≡◌, ◌≤◌, ℕ};
-ghost use Rattle.lb_clock.specs.Lines.{AreLines, datagrams, handed_in, probes_in};
-ghost use Rattle.lb_clock.specs.Turn.{Goes, Stamps, Turns, World, world};
-ghost use Rattle.lb_lines.specs.Counts.{Grows, Rose};
-ghost use Rattle.lb_lines.specs.Lines.{FirstFault, any_by_device, events_in, pairs};
-ghost use Rattle.lb_lines.specs.Ways.{jobs_sent};
-ghost use Rattle.lb_lines.specs.declared.roster.Listed.{Listed};
+ghost use Rattle.std.specs.Prelude.{[], IfOk, None, OnErr, ◌+◌, ◌≡◌};
+ghost use Rattle.lb_clock.specs.Acts.{end_of, end_or};
+ghost use Rattle.lb_clock.specs.Lines.{is_quiet};
+ghost use Rattle.lb_clock.specs.Turn.{Goes, Rests, Turned};
+ghost use Rattle.lb_clock.specs.declared.turn.Step.TheVariants as steps;
+ghost use Rattle.lb_lines.specs.Roster.{Rostered};
 
+use crate::clock::ClockLoop;
 use crate::news::News;
-use crate::probes::{Probes, due, is_late};
-use crate::steps::{ask, probe_server, read, tell};
+use crate::steps::line_of;
 use crate::tally::{MOST, Tally};
-use lb_lines::{Datagrams, Front, Gate, Outside, Posts, Received, Report, Roster, Taker};
-use lb_outbox::Sender;
-use std::alloc::{AllocError, Global};
+use lb_core::Answer;
+use lb_lines::{
+    Datagrams, DeviceFault, Gate, Line, Outcome, Outside, Posts, Received, Report, Roster, Taker,
+};
+use std::alloc::AllocError;
 use std::sync::Wait;
 
+/// Why a turn ends before it is done.
+#[derive(Clone, Copy, Debug, PartialEq, Eq)]
+pub(crate) enum End {
+    /// The gate held an event.
+    Held,
+    /// There was no moment to be had.
+    Blind,
+}
+
+/// What a step leads to.
+#[derive(Clone, Copy, Debug, PartialEq, Eq)]
+pub(crate) enum Step {
+    /// The next one of its kind.
+    More,
+    /// It was the last one of its kind.
+    Last,
+    /// The turn ends.
+    Over(End),
+}
+
 /// One turn: the servers that are probed become those of the roster; at most 64 datagrams are read, and one that answers the probe of its
-/// server within a second ends it well; a probe under way for a second ends badly; each server in mode auto whose next probe is due is
-/// sent one; and ticks are told until the desk has nothing more that is due. At most 64 events and 64 probes. It ends where the gate holds
-/// an event, and where there is no moment to be had. The one error is want of memory for the report: then nothing was read or sent.
-pub fn clock_turn<R: Wait, S: Datagrams, P: Posts, T: Taker, G: Gate, O: Outside>(
+/// server within a second ends it well; a probe that is under way for a second ends badly; each server in mode auto whose next probe is due is
+/// sent one, and where that fails it ends badly; and ticks are told until the desk has nothing more that is due. At most 64 events and 64
+/// probes. It ends where the gate holds an event, and where there is no moment to be had. The one error is want of memory for the report:
+/// then nothing was read or sent.
+pub fn clock_turn<R: Wait, S: Datagrams, P: Posts, T: Taker, O: Outside, G: Gate>(
     rt: &R,
-    alloc: Global,
-    probes: &mut Probes,
-    sockets: &mut S,
-    outbox: &mut Sender,
-    posts: &mut P,
-    listens: &[Front],
+    clock: &mut ClockLoop<S, P, T, O>,
     roster: &Roster,
-    taker: &mut T,
     gate: &G,
-    outside: &mut O,
 ) -> Result<Report, AllocError>
-    // What the sockets took grew by the sends and the probes that are listed as done, in order.
-    ensures taken { IfOk result (λ r. S.taken sockets.new ≡ S.taken sockets.old ++ datagrams roster.now.listed r.lines.items) }
-    // What the outbox was given, and what was handed to requests, grew likewise.
-    ensures sent { IfOk result (λ r. outbox.new ≡ record outbox.old { sent = outbox.old.sent ++ jobs_sent r.lines.items }) }
-    ensures handed { IfOk result (λ r. P.handed posts.new ≡ P.handed posts.old ++ handed_in r.lines.items) }
-    // Each line is a tick, the result of a probe, or a probe of a server that the roster has in mode auto; what came of its send went its way, or failed for its cause.
-    ensures lines { IfOk result (λ r. AreLines roster.now.listed listens.now (S.listens sockets.old) r.lines.items) }
-    // The answers are the taker's.
-    ensures answered { IfOk result (λ r. T.answered taker.new ≡ T.answered taker.old + length (pairs r.lines.items)) }
-    ensures pairs { IfOk result (λ r. Grows (T.pairs taker.old) (T.pairs taker.new) (pairs r.lines.items)) }
-    // The events have moments that were said in this turn, in order, each its own.
-    ensures stamped { IfOk result (λ r. Stamps (O.said outside.old) (O.said outside.new) (events_in r.lines.items) []) }
-    // A device failed only where the count of its failures rose, and the first that failed is reported.
-    ensures failed { IfOk result (λ r. IsTrue (any_by_device r.lines.items) → Rose (S.failures sockets.old) (S.failures sockets.new)) }
-    ensures device { IfOk result (λ r. FirstFault r.device (S.failures sockets.old) (S.failures sockets.new) (O.failures outside.old) (O.failures outside.new)) }
+    // What the turn did is a list of acts, which its lines tell.
+    ensures turned { IfOk result (λ r. Turned roster.now clock.old clock.new r.lines.items r.device r.is_held) }
     ensures held { IfOk result (λ r. r.held ≡ None) }
-    ensures few { IfOk result (λ r. (length (events_in r.lines.items) ≤ 64) × (length (probes_in r.lines.items) ≤ 64)) }
-    ensures reads { IfOk result (λ _. length (S.given sockets.new) ≤ length (S.given sockets.old) + 64) }
-    ensures refused { OnErr result ((probes.new ≡ probes.old) × (sockets.new ≡ sockets.old) × (outbox.new ≡ outbox.old) × (posts.new ≡ posts.old) × (taker.new ≡ taker.old) × (outside.new ≡ outside.old)) }
+    ensures refused { OnErr result (clock.new ≡ clock.old) }
 {
-    let tally = Tally::begun(alloc)?;
-    Ok(whole_turn(
-        rt, alloc, tally, probes, sockets, outbox, posts, listens, roster, taker, gate, outside,
-    ))
+    let tally = Tally::begun(clock.blank_lines())?;
+    Ok(clock.whole_turn(rt, roster, gate, tally))
 }
 
-/// A turn, for whose lines there is room.
-fn whole_turn<R: Wait, S: Datagrams, P: Posts, T: Taker, G: Gate, O: Outside>(
-    rt: &R,
-    alloc: Global,
-    mut tally: Tally,
-    probes: &mut Probes,
-    sockets: &mut S,
-    outbox: &mut Sender,
-    posts: &mut P,
-    listens: &[Front],
-    roster: &Roster,
-    taker: &mut T,
-    gate: &G,
-    outside: &mut O,
-) -> Report
-    requires empty { (tally.lines.items ≡ []) × (tally.device ≡ None) }
-    ensures turned { Turns roster.now.listed listens.now (S.listens sockets.old) 64 (world (S.given sockets.old) (S.taken sockets.old) (S.failures sockets.old) outbox.old (P.handed posts.old) (T.answered taker.old) (T.pairs taker.old) (O.said outside.old) (O.failures outside.old)) (world (S.given sockets.new) (S.taken sockets.new) (S.failures sockets.new) outbox.new (P.handed posts.new) (T.answered taker.new) (T.pairs taker.new) (O.said outside.new) (O.failures outside.new)) result.lines.items result.device [] }
-    ensures held { result.held ≡ None }
-    ensures few { (length (events_in result.lines.items) ≤ 64) × (length (probes_in result.lines.items) ≤ 64) }
-{
-    all_steps(
-        rt, alloc, &mut tally, probes, sockets, outbox, posts, listens, roster, taker, gate,
-        outside,
-    );
-    tally.report()
-}
-
-/// The steps of a turn.
-fn all_steps<R: Wait, S: Datagrams, P: Posts, T: Taker, G: Gate, O: Outside>(
-    rt: &R,
-    alloc: Global,
-    tally: &mut Tally,
-    probes: &mut Probes,
-    sockets: &mut S,
-    outbox: &mut Sender,
-    posts: &mut P,
-    listens: &[Front],
-    roster: &Roster,
-    taker: &mut T,
-    gate: &G,
-    outside: &mut O,
-)
-    ensures goes { (there : ℕ → Bool) (n : ℕ) (start : World) → S.listens sockets.old ≡ there → Goes roster.now.listed listens.now there n start (world (S.given sockets.old) (S.taken sockets.old) (S.failures sockets.old) outbox.old (P.handed posts.old) (T.answered taker.old) (T.pairs taker.old) (O.said outside.old) (O.failures outside.old)) tally.old.lines.items tally.old.device → Goes roster.now.listed listens.now there (n + 64) start (world (S.given sockets.new) (S.taken sockets.new) (S.failures sockets.new) outbox.new (P.handed posts.new) (T.answered taker.new) (T.pairs taker.new) (O.said outside.new) (O.failures outside.new)) tally.new.lines.items tally.new.device }
-    ensures same { S.listens sockets.new ≡ S.listens sockets.old }
-{
-    if tally.is_done() {
-        return;
+impl<S: Datagrams, P: Posts, T: Taker, O: Outside> ClockLoop<S, P, T, O> {
+    /// The turn, whose lines have room.
+    fn whole_turn<R: Wait, G: Gate>(
+        &mut self,
+        rt: &R,
+        roster: &Roster,
+        gate: &G,
+        mut tally: Tally,
+    ) -> Report
+        requires empty { (tally.lines.items ≡ []) × (tally.device ≡ None) }
+        ensures turned { Turned roster.now self.old self.new result.lines.items result.device result.is_held }
+        ensures held { result.held ≡ None }
+    {
+        let end = self.all_steps(rt, roster, gate, &mut tally);
+        tally.report(end)
     }
-    let Some((now, _word)) = ask(tally, outside) else {
-        return;
-    };
-    probes.follow(roster, now);
-    read_all(
-        rt, alloc, tally, probes, sockets, outbox, posts, listens, taker, gate, outside,
-    );
-    end_late(
-        rt, alloc, tally, probes, sockets, outbox, posts, listens, taker, gate, outside, now,
-    );
-    probe_due(
-        rt, alloc, tally, probes, sockets, outbox, posts, listens, roster, taker, gate, outside,
-        now,
-    );
-    tick_all(
-        rt, alloc, tally, sockets, outbox, posts, listens, taker, gate, outside,
-    );
-}
 
-/// Reads at most 64 datagrams.
-fn read_all<R: Wait, S: Datagrams, P: Posts, T: Taker, G: Gate, O: Outside>(
-    rt: &R,
-    alloc: Global,
-    tally: &mut Tally,
-    probes: &mut Probes,
-    sockets: &mut S,
-    outbox: &mut Sender,
-    posts: &mut P,
-    listens: &[Front],
-    taker: &mut T,
-    gate: &G,
-    outside: &mut O,
-)
-    ensures goes { (roster : List Listed) (there : ℕ → Bool) (n : ℕ) (start : World) → S.listens sockets.old ≡ there → Goes roster listens.now there n start (world (S.given sockets.old) (S.taken sockets.old) (S.failures sockets.old) outbox.old (P.handed posts.old) (T.answered taker.old) (T.pairs taker.old) (O.said outside.old) (O.failures outside.old)) tally.old.lines.items tally.old.device → Goes roster listens.now there (n + 64) start (world (S.given sockets.new) (S.taken sockets.new) (S.failures sockets.new) outbox.new (P.handed posts.new) (T.answered taker.new) (T.pairs taker.new) (O.said outside.new) (O.failures outside.new)) tally.new.lines.items tally.new.device }
-    ensures same { S.listens sockets.new ≡ S.listens sockets.old }
-{
-    for _ in 0..MOST {
-        if read_one(
-            rt, alloc, tally, probes, sockets, outbox, posts, listens, taker, gate, outside,
-        ) {
-            return;
+    /// The steps of a turn.
+    fn all_steps<R: Wait, G: Gate>(
+        &mut self,
+        rt: &R,
+        roster: &Roster,
+        gate: &G,
+        tally: &mut Tally,
+    ) -> Option<End>
+        ensures goes { Goes roster.now 64 self.old self.new tally.old.lines.items tally.new.lines.items tally.old.device tally.new.device result }
+        ensures rests { result ≡ None → Rests tally.new.lines.items }
+    {
+        let begun = match self.begin(roster, tally) {
+            Ok(begun) => begun,
+            Err(end) => return Some(end),
+        };
+        if let Some(end) = self.read_all(rt, gate, tally) {
+            return Some(end);
         }
+        if let Some(end) = self.end_all(rt, gate, tally, begun) {
+            return Some(end);
+        }
+        if let Some(end) = self.probe_all(rt, roster, gate, tally, begun) {
+            return Some(end);
+        }
+        self.tick_all(rt, gate, tally)
     }
-}
 
-/// Reads a datagram, which may answer a probe. Whether no more is to be read.
-fn read_one<R: Wait, S: Datagrams, P: Posts, T: Taker, G: Gate, O: Outside>(
-    rt: &R,
-    alloc: Global,
-    tally: &mut Tally,
-    probes: &mut Probes,
-    sockets: &mut S,
-    outbox: &mut Sender,
-    posts: &mut P,
-    listens: &[Front],
-    taker: &mut T,
-    gate: &G,
-    outside: &mut O,
-) -> bool
-    ensures goes { (roster : List Listed) (there : ℕ → Bool) (n : ℕ) (start : World) → S.listens sockets.old ≡ there → Goes roster listens.now there n start (world (S.given sockets.old) (S.taken sockets.old) (S.failures sockets.old) outbox.old (P.handed posts.old) (T.answered taker.old) (T.pairs taker.old) (O.said outside.old) (O.failures outside.old)) tally.old.lines.items tally.old.device → Goes roster listens.now there (n + 1) start (world (S.given sockets.new) (S.taken sockets.new) (S.failures sockets.new) outbox.new (P.handed posts.new) (T.answered taker.new) (T.pairs taker.new) (O.said outside.new) (O.failures outside.new)) tally.new.lines.items tally.new.device }
-    ensures same { S.listens sockets.new ≡ S.listens sockets.old }
-{
-    if tally.is_done() {
-        return true;
+    /// The moment at which the turn begins. The servers that are probed become those of the roster.
+    fn begin(&mut self, roster: &Roster, tally: &mut Tally) -> Result<u64, End>
+        ensures goes { Goes roster.now 0 self.old self.new tally.old.lines.items tally.new.lines.items tally.old.device tally.new.device (end_or result) }
+    {
+        let Some((now, _word)) = self.ask() else {
+            tally.note(Some(DeviceFault::Outside));
+            return Err(End::Blind);
+        };
+        self.follow(roster, now);
+        Ok(now)
     }
-    let Some((now, _word)) = ask(tally, outside) else {
-        return true;
-    };
-    match read(tally, sockets) {
-        Received::Packet(datagram) => {
-            let Some((place, server, word)) = probes.answered(&datagram, now) else {
-                return false;
-            };
-            let news = News::Result(server, word, true);
-            let told = tell(
-                rt, alloc, tally, sockets, outbox, posts, listens, taker, gate, news, now,
-            );
-            if told.is_some() {
-                probes.end(place);
+
+    /// Reads at most 64 datagrams.
+    fn read_all<R: Wait, G: Gate>(&mut self, rt: &R, gate: &G, tally: &mut Tally) -> Option<End>
+        ensures goes { (roster : Rostered) → Goes roster 64 self.old self.new tally.old.lines.items tally.new.lines.items tally.old.device tally.new.device result }
+    {
+        for _ in 0..MOST {
+            match self.read_one(rt, gate, tally) {
+                Step::More => {}
+                Step::Last => return None,
+                Step::Over(end) => return Some(end),
             }
-            false
         }
-        Received::Nothing => true,
-        Received::Failed => false,
+        None
     }
-}
 
-/// Ends the probes that have waited for a second.
-fn end_late<R: Wait, S: Datagrams, P: Posts, T: Taker, G: Gate, O: Outside>(
-    rt: &R,
-    alloc: Global,
-    tally: &mut Tally,
-    probes: &mut Probes,
-    sockets: &mut S,
-    outbox: &mut Sender,
-    posts: &mut P,
-    listens: &[Front],
-    taker: &mut T,
-    gate: &G,
-    outside: &mut O,
-    begun: u64,
-)
-    ensures goes { (roster : List Listed) (there : ℕ → Bool) (n : ℕ) (start : World) → S.listens sockets.old ≡ there → Goes roster listens.now there n start (world (S.given sockets.old) (S.taken sockets.old) (S.failures sockets.old) outbox.old (P.handed posts.old) (T.answered taker.old) (T.pairs taker.old) (O.said outside.old) (O.failures outside.old)) tally.old.lines.items tally.old.device → Goes roster listens.now there n start (world (S.given sockets.new) (S.taken sockets.new) (S.failures sockets.new) outbox.new (P.handed posts.new) (T.answered taker.new) (T.pairs taker.new) (O.said outside.new) (O.failures outside.new)) tally.new.lines.items tally.new.device }
-    ensures same { S.listens sockets.new ≡ S.listens sockets.old }
-{
-    for index in 0..probes.len() {
-        end_one(
-            rt, alloc, tally, probes, sockets, outbox, posts, listens, taker, gate, outside, begun,
-            index,
-        );
-    }
-}
-
-/// Ends the probe of the server at a place, where it has waited for a second.
-fn end_one<R: Wait, S: Datagrams, P: Posts, T: Taker, G: Gate, O: Outside>(
-    rt: &R,
-    alloc: Global,
-    tally: &mut Tally,
-    probes: &mut Probes,
-    sockets: &mut S,
-    outbox: &mut Sender,
-    posts: &mut P,
-    listens: &[Front],
-    taker: &mut T,
-    gate: &G,
-    outside: &mut O,
-    begun: u64,
-    index: usize,
-)
-    ensures goes { (roster : List Listed) (there : ℕ → Bool) (n : ℕ) (start : World) → S.listens sockets.old ≡ there → Goes roster listens.now there n start (world (S.given sockets.old) (S.taken sockets.old) (S.failures sockets.old) outbox.old (P.handed posts.old) (T.answered taker.old) (T.pairs taker.old) (O.said outside.old) (O.failures outside.old)) tally.old.lines.items tally.old.device → Goes roster listens.now there n start (world (S.given sockets.new) (S.taken sockets.new) (S.failures sockets.new) outbox.new (P.handed posts.new) (T.answered taker.new) (T.pairs taker.new) (O.said outside.new) (O.failures outside.new)) tally.new.lines.items tally.new.device }
-    ensures same { S.listens sockets.new ≡ S.listens sockets.old }
-{
-    if tally.is_done() {
-        return;
-    }
-    let Some((server, waits)) = probes.under_way(index) else {
-        return;
-    };
-    if !is_late(waits, begun) {
-        return;
-    }
-    let Some((now, _word)) = ask(tally, outside) else {
-        return;
-    };
-    if !is_late(waits, now) {
-        return;
-    }
-    let news = News::Result(server, waits.word, false);
-    let told = tell(
-        rt, alloc, tally, sockets, outbox, posts, listens, taker, gate, news, now,
-    );
-    if told.is_some() {
-        probes.end(index);
-    }
-}
-
-/// Sends each server in mode auto whose next probe is due a probe.
-fn probe_due<R: Wait, S: Datagrams, P: Posts, T: Taker, G: Gate, O: Outside>(
-    rt: &R,
-    alloc: Global,
-    tally: &mut Tally,
-    probes: &mut Probes,
-    sockets: &mut S,
-    outbox: &mut Sender,
-    posts: &mut P,
-    listens: &[Front],
-    roster: &Roster,
-    taker: &mut T,
-    gate: &G,
-    outside: &mut O,
-    begun: u64,
-)
-    ensures goes { (there : ℕ → Bool) (n : ℕ) (start : World) → S.listens sockets.old ≡ there → Goes roster.now.listed listens.now there n start (world (S.given sockets.old) (S.taken sockets.old) (S.failures sockets.old) outbox.old (P.handed posts.old) (T.answered taker.old) (T.pairs taker.old) (O.said outside.old) (O.failures outside.old)) tally.old.lines.items tally.old.device → Goes roster.now.listed listens.now there n start (world (S.given sockets.new) (S.taken sockets.new) (S.failures sockets.new) outbox.new (P.handed posts.new) (T.answered taker.new) (T.pairs taker.new) (O.said outside.new) (O.failures outside.new)) tally.new.lines.items tally.new.device }
-    ensures same { S.listens sockets.new ≡ S.listens sockets.old }
-{
-    for index in 0..probes.len() {
-        probe_one(
-            rt, alloc, tally, probes, sockets, outbox, posts, listens, roster, taker, gate,
-            outside, begun, index,
-        );
-    }
-}
-
-/// Sends the server at a place a probe, where one is due; where the send fails, that is the result.
-fn probe_one<R: Wait, S: Datagrams, P: Posts, T: Taker, G: Gate, O: Outside>(
-    rt: &R,
-    alloc: Global,
-    tally: &mut Tally,
-    probes: &mut Probes,
-    sockets: &mut S,
-    outbox: &mut Sender,
-    posts: &mut P,
-    listens: &[Front],
-    roster: &Roster,
-    taker: &mut T,
-    gate: &G,
-    outside: &mut O,
-    begun: u64,
-    index: usize,
-)
-    ensures goes { (there : ℕ → Bool) (n : ℕ) (start : World) → S.listens sockets.old ≡ there → Goes roster.now.listed listens.now there n start (world (S.given sockets.old) (S.taken sockets.old) (S.failures sockets.old) outbox.old (P.handed posts.old) (T.answered taker.old) (T.pairs taker.old) (O.said outside.old) (O.failures outside.old)) tally.old.lines.items tally.old.device → Goes roster.now.listed listens.now there n start (world (S.given sockets.new) (S.taken sockets.new) (S.failures sockets.new) outbox.new (P.handed posts.new) (T.answered taker.new) (T.pairs taker.new) (O.said outside.new) (O.failures outside.new)) tally.new.lines.items tally.new.device }
-    ensures same { S.listens sockets.new ≡ S.listens sockets.old }
-{
-    if tally.is_done() || tally.probes == MOST {
-        return;
-    }
-    let Some(watched) = probes.get(index) else {
-        return;
-    };
-    let server = watched.server;
-    let Some(place) = due(roster, &watched, begun) else {
-        return;
-    };
-    let Some((now, word)) = ask(tally, outside) else {
-        return;
-    };
-    probes.put_off(index, now);
-    if probe_server(alloc, tally, sockets, server, word, place) {
-        probes.begin(index, place, word, now);
-        return;
-    }
-    let Some((later, _word)) = ask(tally, outside) else {
-        return;
-    };
-    let news = News::Result(server, word, false);
-    let _told = tell(
-        rt, alloc, tally, sockets, outbox, posts, listens, taker, gate, news, later,
-    );
-}
-
-/// Ticks until the desk has nothing more that is due.
-fn tick_all<R: Wait, S: Datagrams, P: Posts, T: Taker, G: Gate, O: Outside>(
-    rt: &R,
-    alloc: Global,
-    tally: &mut Tally,
-    sockets: &mut S,
-    outbox: &mut Sender,
-    posts: &mut P,
-    listens: &[Front],
-    taker: &mut T,
-    gate: &G,
-    outside: &mut O,
-)
-    ensures goes { (roster : List Listed) (there : ℕ → Bool) (n : ℕ) (start : World) → S.listens sockets.old ≡ there → Goes roster listens.now there n start (world (S.given sockets.old) (S.taken sockets.old) (S.failures sockets.old) outbox.old (P.handed posts.old) (T.answered taker.old) (T.pairs taker.old) (O.said outside.old) (O.failures outside.old)) tally.old.lines.items tally.old.device → Goes roster listens.now there n start (world (S.given sockets.new) (S.taken sockets.new) (S.failures sockets.new) outbox.new (P.handed posts.new) (T.answered taker.new) (T.pairs taker.new) (O.said outside.new) (O.failures outside.new)) tally.new.lines.items tally.new.device }
-    ensures same { S.listens sockets.new ≡ S.listens sockets.old }
-{
-    for _ in 0..MOST {
-        if tick_one(
-            rt, alloc, tally, sockets, outbox, posts, listens, taker, gate, outside,
-        ) {
-            return;
+    /// Reads a datagram, which may answer a probe.
+    fn read_one<R: Wait, G: Gate>(&mut self, rt: &R, gate: &G, tally: &mut Tally) -> Step
+        ensures goes { (roster : Rostered) → Goes roster 1 self.old self.new tally.old.lines.items tally.new.lines.items tally.old.device tally.new.device (end_of result) }
+    {
+        if tally.is_full() {
+            return Step::Last;
         }
+        let Some((now, _word)) = self.ask() else {
+            tally.note(Some(DeviceFault::Outside));
+            return Step::Over(End::Blind);
+        };
+        let datagram = match self.receive() {
+            Received::Packet(datagram) => datagram,
+            Received::Failed => {
+                tally.note(Some(DeviceFault::Sockets));
+                return Step::More;
+            }
+            Received::Nothing => return Step::Last,
+        };
+        let Some(answered) = self.hear(&datagram, now) else {
+            return Step::More;
+        };
+        let news = News::Result(answered.watched.server, answered.waits.word, true);
+        let Some(told) = self.tell(rt, gate, news, now) else {
+            return Step::Over(End::Held);
+        };
+        self.end_probe(answered.index, answered.watched);
+        tally.add_event(line_of(news, now, told));
+        Step::More
+    }
+
+    /// Ends the probes that are over.
+    fn end_all<R: Wait, G: Gate>(
+        &mut self,
+        rt: &R,
+        gate: &G,
+        tally: &mut Tally,
+        begun: u64,
+    ) -> Option<End>
+        ensures goes { (roster : Rostered) → Goes roster 0 self.old self.new tally.old.lines.items tally.new.lines.items tally.old.device tally.new.device result }
+    {
+        for index in 0..self.probes.len() {
+            if let Some(end) = self.end_one(rt, gate, tally, begun, index) {
+                return Some(end);
+            }
+        }
+        None
+    }
+
+    /// Ends the probe of the server at a place, where it is over.
+    fn end_one<R: Wait, G: Gate>(
+        &mut self,
+        rt: &R,
+        gate: &G,
+        tally: &mut Tally,
+        begun: u64,
+        index: usize,
+    ) -> Option<End>
+        ensures goes { (roster : Rostered) → Goes roster 0 self.old self.new tally.old.lines.items tally.new.lines.items tally.old.device tally.new.device result }
+    {
+        let watched = self.watched(index)?;
+        let waits = watched.waits?;
+        if tally.is_full() || !waits.is_over(begun) {
+            return None;
+        }
+        let Some((now, _word)) = self.ask() else {
+            tally.note(Some(DeviceFault::Outside));
+            return Some(End::Blind);
+        };
+        if !waits.is_over(now) {
+            return None;
+        }
+        let news = News::Result(watched.server, waits.word, false);
+        let Some(told) = self.tell(rt, gate, news, now) else {
+            return Some(End::Held);
+        };
+        self.end_probe(index, watched);
+        tally.add_event(line_of(news, now, told));
+        None
+    }
+
+    /// Sends each server in mode auto whose next probe is due a probe.
+    fn probe_all<R: Wait, G: Gate>(
+        &mut self,
+        rt: &R,
+        roster: &Roster,
+        gate: &G,
+        tally: &mut Tally,
+        begun: u64,
+    ) -> Option<End>
+        ensures goes { Goes roster.now 0 self.old self.new tally.old.lines.items tally.new.lines.items tally.old.device tally.new.device result }
+    {
+        for index in 0..self.probes.len() {
+            if let Some(end) = self.probe_one(rt, roster, gate, tally, begun, index) {
+                return Some(end);
+            }
+        }
+        None
+    }
+
+    /// Sends the server at a place a probe, where one is due. Where it could not be sent, the probe ends at once.
+    fn probe_one<R: Wait, G: Gate>(
+        &mut self,
+        rt: &R,
+        roster: &Roster,
+        gate: &G,
+        tally: &mut Tally,
+        begun: u64,
+        index: usize,
+    ) -> Option<End>
+        ensures goes { Goes roster.now 0 self.old self.new tally.old.lines.items tally.new.lines.items tally.old.device tally.new.device result }
+    {
+        if let Some(end) = self.begin_one(roster, tally, begun, index) {
+            return Some(end);
+        }
+        self.end_one(rt, gate, tally, begun, index)
+    }
+
+    /// Sends the server at a place a probe, where one is due.
+    fn begin_one(
+        &mut self,
+        roster: &Roster,
+        tally: &mut Tally,
+        begun: u64,
+        index: usize,
+    ) -> Option<End>
+        ensures goes { Goes roster.now 0 self.old self.new tally.old.lines.items tally.new.lines.items tally.old.device tally.new.device result }
+    {
+        let watched = self.watched(index)?;
+        let place = watched.due(roster, begun)?;
+        if tally.probes == MOST {
+            return None;
+        }
+        let Some(stamp) = self.ask() else {
+            tally.note(Some(DeviceFault::Outside));
+            return Some(End::Blind);
+        };
+        let sending = self.send_probe(index, watched, place, stamp);
+        tally.add_probe(Line::Probe(watched.server, stamp.1, sending));
+        None
+    }
+
+    /// Ticks until the desk has nothing more that is due.
+    fn tick_all<R: Wait, G: Gate>(&mut self, rt: &R, gate: &G, tally: &mut Tally) -> Option<End>
+        ensures goes { (roster : Rostered) → Goes roster 0 self.old self.new tally.old.lines.items tally.new.lines.items tally.old.device tally.new.device result }
+        ensures rests { result ≡ None → Rests tally.new.lines.items }
+    {
+        for _ in 0..MOST {
+            match self.tick_one(rt, gate, tally) {
+                Step::More => {}
+                Step::Last => return None,
+                Step::Over(end) => return Some(end),
+            }
+        }
+        None
+    }
+
+    /// Tells a tick. It is the last one where nothing more is due, or no further event is told.
+    fn tick_one<R: Wait, G: Gate>(&mut self, rt: &R, gate: &G, tally: &mut Tally) -> Step
+        ensures goes { (roster : Rostered) → Goes roster 0 self.old self.new tally.old.lines.items tally.new.lines.items tally.old.device tally.new.device (end_of result) }
+        ensures rests { result ≡ steps.Last → Rests tally.new.lines.items }
+        ensures more { result ≡ steps.More → tally.new.events ≡ tally.old.events + 1 }
+    {
+        if tally.is_full() {
+            return Step::Last;
+        }
+        let Some((now, _word)) = self.ask() else {
+            tally.note(Some(DeviceFault::Outside));
+            return Step::Over(End::Blind);
+        };
+        let Some(told) = self.tell(rt, gate, News::Tick, now) else {
+            return Step::Over(End::Held);
+        };
+        let is_quiet = is_quiet(&told.outcome);
+        tally.add_event(line_of(News::Tick, now, told));
+        if is_quiet { Step::Last } else { Step::More }
     }
 }
 
-/// Tells a tick. Whether nothing more is due.
-fn tick_one<R: Wait, S: Datagrams, P: Posts, T: Taker, G: Gate, O: Outside>(
-    rt: &R,
-    alloc: Global,
-    tally: &mut Tally,
-    sockets: &mut S,
-    outbox: &mut Sender,
-    posts: &mut P,
-    listens: &[Front],
-    taker: &mut T,
-    gate: &G,
-    outside: &mut O,
-) -> bool
-    ensures goes { (roster : List Listed) (there : ℕ → Bool) (n : ℕ) (start : World) → S.listens sockets.old ≡ there → Goes roster listens.now there n start (world (S.given sockets.old) (S.taken sockets.old) (S.failures sockets.old) outbox.old (P.handed posts.old) (T.answered taker.old) (T.pairs taker.old) (O.said outside.old) (O.failures outside.old)) tally.old.lines.items tally.old.device → Goes roster listens.now there n start (world (S.given sockets.new) (S.taken sockets.new) (S.failures sockets.new) outbox.new (P.handed posts.new) (T.answered taker.new) (T.pairs taker.new) (O.said outside.new) (O.failures outside.new)) tally.new.lines.items tally.new.device }
-    ensures same { S.listens sockets.new ≡ S.listens sockets.old }
+/// Whether nothing more is due behind what came of a tick.
+fn is_quiet(outcome: &Outcome) -> bool
+    ensures { result ≡ is_quiet outcome.now }
 {
-    if tally.is_done() {
-        return true;
-    }
-    let Some((now, _word)) = ask(tally, outside) else {
-        return true;
-    };
-    let told = tell(
-        rt,
-        alloc,
-        tally,
-        sockets,
-        outbox,
-        posts,
-        listens,
-        taker,
-        gate,
-        News::Tick,
-        now,
-    );
-    match told {
-        Some(is_more) => !is_more,
-        None => true,
+    match outcome {
+        Outcome::Answered(Answer::Quiet) | Outcome::Fault(..) => true,
+        Outcome::Answered(_) => false,
     }
 }

@@ -1,1 +1,3 @@
 pub mod Caller
+pub mod Fault
+pub mod Running

@@ -1,10 +1,19 @@
-//! The loops between sockets and the desk: framing, the lines of a report, and turns. What stands in crates of its own below is found
-//! here under one roof.
+//! The loops between sockets and the desk: framing, the lines of a report, turns, and the loops that have turns in threads of their own.
+//! What stands in crates of its own below is found here under one roof.
 #![tactic(auto)]
 
+mod around;
 mod caller;
+mod datagram_loop;
+mod fault;
+mod parts;
+mod running;
+mod threads;
 
 pub use caller::Caller;
+pub use datagram_loop::DatagramLoop;
+pub use fault::LoopFault;
+pub use lb_clock::{ClockLoop, clock_turn};
 pub use lb_datagrams::{Spare, datagram_turn};
 pub use lb_frames::{Framer, Incoming, Message, Outgoing, cuts_do_not_matter, frame, one_division};
 pub use lb_lines::{
@@ -13,3 +22,6 @@ pub use lb_lines::{
     Streams, Taker, WaitFailed, Waker, Way, Why, one_send_a_line,
 };
 pub use lb_outbox::{Delivery, Job, Outbox, Receiver, Sender, SenderId, Settled, finish};
+pub use lb_streams::{StreamLoop, stream_turn};
+pub use parts::{ClockParts, DatagramParts, Ended, Parts, StreamParts};
+pub use threads::run_loops;

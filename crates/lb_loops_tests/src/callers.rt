@@ -151,7 +151,7 @@ fn has_edited<J: Naming, R: Wait>(
     true
 }
 
-fn has_ruled<J: Naming, R: Wait>(
+pub(crate) fn has_ruled<J: Naming, R: Wait>(
     rt: &R,
     alloc: Global,
     desk: &Desk<J>,
@@ -205,7 +205,7 @@ fn is_answered_again<J: Naming, R: Wait + Eprint>(
 const WAITS: u32 = 1000;
 
 /// Whether the flag is raised, looked at again and again.
-fn is_raised<R: Wait + Clock>(rt: &R, flag: &AtomicBool) -> bool {
+pub(crate) fn is_raised<R: Wait + Clock>(rt: &R, flag: &AtomicBool) -> bool {
     for _ in 0..WAITS {
         if flag.load(Ordering::SeqCst) {
             return true;

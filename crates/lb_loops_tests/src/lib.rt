@@ -7,20 +7,14 @@ mod callers;
 #[cfg(test)]
 mod calls;
 #[cfg(test)]
-mod desks;
-#[cfg(test)]
 mod events;
 #[cfg(test)]
 mod frames;
 #[cfg(test)]
-mod messages;
+mod loops;
 #[cfg(test)]
 mod outboxes;
 #[cfg(test)]
 mod rosters;
 #[cfg(test)]
 mod rounds;
-#[cfg(test)]
-mod scene;
-#[cfg(test)]
-mod turns;

@@ -1,14 +1,25 @@
 //! Where servers are.
 
-use crate::messages::{FIRST, SECOND};
 use lb_loops::{Endpoint, Place, Roster, RosterFull};
 use lb_servers::Mode;
-use lb_wire::ServerId;
+use lb_wire::{Addr, ServerId};
 use std::process::Abort;
 use std::test::Fail;
 
-/// A place of a server without probes.
-pub(crate) fn place(at: Endpoint) -> Place {
+/// Where a server is.
+const FIRST: Endpoint = Endpoint {
+    addr: Addr::V4([127, 0, 0, 1]),
+    port: 5301,
+};
+
+/// Where another one is.
+const SECOND: Endpoint = Endpoint {
+    addr: Addr::V4([127, 0, 0, 1]),
+    port: 5302,
+};
+
+/// A server at this end.
+fn place(at: Endpoint) -> Place {
     Place {
         at,
         mode: Mode::Auto,

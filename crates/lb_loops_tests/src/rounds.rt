@@ -5,6 +5,7 @@ ghost use Rattle.std.specs.Prelude.{◌≡◌, ◌≤◌};
 ghost use Rattle.lb_core.specs.Snapshot.{snapshot_of};
 
 use crate::callers::{Caller, Flags, is_done};
+use crate::loops::are_loops_done;
 use lb_core::Balancer;
 use lb_desk::{Audit, CloseFault, Desk, Naming, Seat, desks_cross_threads};
 use std::alloc::{AllocError, Global};
@@ -23,6 +24,8 @@ pub(crate) enum Round {
     Two(Caller, Caller),
     /// Those of four seats, each in a thread, ask so often what time brings.
     Four(u64),
+    /// Three loops run from three seats, and answer queries that wait for one another; or their gate holds everything.
+    Loops(bool),
     /// A seat is lost.
     Lose,
 }
@@ -95,6 +98,7 @@ fn is_round_done<J: Naming + Send + Sync, R: Threads + Wait + Clock + Eprint + S
         Round::One(caller) => is_one_done(rt, alloc, desk, seats, flags, caller),
         Round::Two(first, second) => are_two_done(rt, alloc, desk, seats, flags, (first, second)),
         Round::Four(calls) => are_four_done(rt, alloc, desk, seats, calls),
+        Round::Loops(is_open) => are_loops_done(rt, alloc, desk, seats, is_open) == Ok(true),
         Round::Lose => seats.pop().is_some(),
     }
 }

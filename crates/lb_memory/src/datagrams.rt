@@ -21,15 +21,32 @@ pub struct Failing {
     pub refused: u64,
 }
 
-/// Sockets of datagrams in memory: as many listeners as are said, and one for any server. What is to come is given in its order; what is
-/// sent is kept behind a lock, where a test reads it when the loops have ended.
+/// What a test and sockets of datagrams in memory share: datagrams that come while a loop owns the sockets, and those that the sockets took.
+#[derive(Drop)]
+pub struct Packets {
+    pub coming: VecDeque<Datagram>,
+    pub taken: Vec<Datagram>,
+}
+
+impl Packets {
+    /// None. It takes no memory.
+    pub fn new(alloc: Global) -> Packets {
+        Packets {
+            coming: VecDeque::new(alloc),
+            taken: Vec::new(alloc),
+        }
+    }
+}
+
+/// Sockets of datagrams in memory: as many listeners as are said, and one for any server. What is to come is given in its order, and then
+/// what comes behind the lock; what is sent is kept there, where a test reads it.
 #[derive(Drop)]
 pub struct MemoryDatagrams<'a, R: Wait> {
     rt: &'a R,
     alloc: Global,
     listeners: u8,
     coming: VecDeque<Datagram>,
-    kept: Arc<Mutex<Vec<Datagram>>>,
+    packets: Arc<Mutex<Packets>>,
     failing: Failing,
     reads: u64,
     sends: u64,
@@ -45,7 +62,7 @@ impl<'a, R: Wait> MemoryDatagrams<'a, R> {
         alloc: Global,
         listeners: u8,
         coming: VecDeque<Datagram>,
-        kept: Arc<Mutex<Vec<Datagram>>>,
+        packets: Arc<Mutex<Packets>>,
         failing: Failing,
     ) -> MemoryDatagrams<'a, R> {
         MemoryDatagrams {
@@ -53,7 +70,7 @@ impl<'a, R: Wait> MemoryDatagrams<'a, R> {
             alloc,
             listeners,
             coming,
-            kept,
+            packets,
             failing,
             reads: 0,
             sends: 0,
@@ -63,11 +80,14 @@ impl<'a, R: Wait> MemoryDatagrams<'a, R> {
         }
     }
 
-    /// How many datagrams are still to come.
-    pub fn waiting(&self) -> usize
-        ensures { result ≡ length self.now.coming.items }
+    /// The next datagram that comes.
+    fn next(&mut self) -> Option<Datagram>
+        ensures { self.new ≡ record self.old { coming = self.new.coming } }
     {
-        self.coming.len()
+        match self.coming.pop_front() {
+            Some(datagram) => Some(datagram),
+            None => self.packets.lock(self.rt).coming.pop_front(),
+        }
     }
 
     /// How often a device failed.
@@ -79,7 +99,7 @@ impl<'a, R: Wait> MemoryDatagrams<'a, R> {
 }
 
 /// A refusal, from a growth that no memory has room for.
-fn refuse(alloc: Global) -> Result<(), AllocError> {
+pub(crate) fn refuse(alloc: Global) -> Result<(), AllocError> {
     let _room: Vec<u8> = Vec::with_capacity(alloc, usize::MAX)?;
     Ok(())
 }
@@ -105,7 +125,7 @@ impl<R: Wait> Datagrams for MemoryDatagrams<'_, R> {
             self.failures = self.failures.saturating_add(1);
             return Ok(Received::Failed);
         }
-        let Some(datagram) = self.coming.pop_front() else {
+        let Some(datagram) = self.next() else {
             return Ok(Received::Nothing);
         };
         self.given = self
@@ -131,9 +151,9 @@ impl<R: Wait> Datagrams for MemoryDatagrams<'_, R> {
         }
         let bytes = bytes.copy(self.alloc)?;
         let taken = self.taken.and(&(socket, to), &bytes);
-        let mut kept = self.kept.lock(self.rt);
-        kept.reserve(1)?;
-        kept.push_reserved(Datagram {
+        let mut packets = self.packets.lock(self.rt);
+        packets.taken.reserve(1)?;
+        packets.taken.push_reserved(Datagram {
             socket,
             peer: to,
             bytes,

@@ -1,0 +1,6 @@
+use Rattle.std.proofs.Common.{None}
+use Rattle.lb_clock.specs.Turn.{Goes}
+use Rattle.lb_clock.proofs.clock.ClockLoop.probe_all.Given as goal
+
+abbrev pub invariant-loop-index : goal.invariant-loop-index
+invariant-loop-index g l = Goes l.roster 0 l.fn.self l.self l.fn.tally.lines.items l.tally.lines.items l.fn.tally.device l.tally.device None

@@ -1,8 +1,0 @@
-use Rattle.std.proofs.Common.{◌≡◌, ℕ, Bool}
-use Rattle.lb_clock.specs.Turn.{Goes, World, world}
-use Rattle.lb_clock.proofs.turn.probe_due.Given as goal
-
-abbrev pub invariant-loop-index : goal.invariant-loop-index
-invariant-loop-index g l =
-    ((there : ℕ → Bool) (n : ℕ) (start : World) → g.S.Datagrams.listens l.fn.sockets ≡ there → Goes l.roster.listed l.listens there n start (world (g.S.Datagrams.given l.fn.sockets) (g.S.Datagrams.taken l.fn.sockets) (g.S.Datagrams.failures l.fn.sockets) l.fn.outbox (g.P.Posts.handed l.fn.posts) (g.T.Taker.answered l.fn.taker) (g.T.Taker.pairs l.fn.taker) (g.O.Outside.said l.fn.outside) (g.O.Outside.failures l.fn.outside)) l.fn.tally.lines.items l.fn.tally.device → Goes l.roster.listed l.listens there n start (world (g.S.Datagrams.given l.sockets) (g.S.Datagrams.taken l.sockets) (g.S.Datagrams.failures l.sockets) l.outbox (g.P.Posts.handed l.posts) (g.T.Taker.answered l.taker) (g.T.Taker.pairs l.taker) (g.O.Outside.said l.outside) (g.O.Outside.failures l.outside)) l.tally.lines.items l.tally.device)
-    × (g.S.Datagrams.listens l.sockets ≡ g.S.Datagrams.listens l.fn.sockets)

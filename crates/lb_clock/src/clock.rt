@@ -1,0 +1,104 @@
+//! What the loop of the clock holds.
+
+ghost use Rattle.std.specs.Prelude.{[], IfNone, IfOk, IfSome, None, length, vec_len, ◌++◌, ◌∷◌, ◌≡◌};
+ghost use Rattle.lb_clock.specs.World.{listened};
+
+use crate::probes::Probes;
+use lb_lines::{Datagrams, Front, Line, Outside, Posts, Taker, WaitFailed};
+use lb_outbox::Sender;
+use std::alloc::{AllocError, Global};
+use std::marker::Model;
+use std::mem;
+
+/// What the loop of the clock holds: the sockets that its probes and its answers to datagrams go by, the outbox, the HTTP requests that
+/// wait, what listens at each place of the listen lines, its event handler, its source of moments and words, and the servers that it
+/// probes. A contract sees what each of them tells.
+#[derive(Drop)]
+pub struct ClockLoop<S: Datagrams, P: Posts, T: Taker, O: Outside> {
+    pub(crate) alloc: Global,
+    pub(crate) probes: Probes,
+    pub(crate) sockets: S,
+    pub(crate) sender: Sender,
+    pub(crate) fronts: Vec<Front>,
+    pub(crate) posts: P,
+    pub(crate) taker: T,
+    pub(crate) outside: O,
+    /// Room for the lines of a report, which is kept from turn to turn.
+    lines: Vec<Line>,
+    ghost blank: { (lines.items ≡ []) × (vec_len lines ≡ 0) },
+}
+
+impl<S: Datagrams, P: Posts, T: Taker, O: Outside> Model for ClockLoop<S, P, T, O> {
+    ghost use Rattle.lb_clock.specs.World.{World, listened};
+
+    ghost Value = { World };
+
+    ghost use Rattle.lb_terms.specs.contracts.term.CheckedTerm as contract;
+    ghost use Rattle.std.specs.Coded.{codes};
+
+    ghost coded = { Prim.hlevel (codes, contract.the_row.coded) };
+
+    ghost view = { λ c. record { probes = c.probes; given = S.given c.sockets; taken = S.taken c.sockets; there = listened (S.listens c.sockets); failures = S.failures c.sockets; outbox = c.sender; fronts = c.fronts.items; handed = P.handed c.posts; answered = T.answered c.taker; pairs = T.pairs c.taker; said = O.said c.outside; outside = O.failures c.outside } };
+}
+
+impl<S: Datagrams, P: Posts, T: Taker, O: Outside> ClockLoop<S, P, T, O> {
+    /// A loop that probes no server yet. The one error is want of memory.
+    pub fn made(
+        alloc: Global,
+        sockets: S,
+        sender: Sender,
+        fronts: Vec<Front>,
+        posts: P,
+        taker: T,
+        outside: O,
+    ) -> Result<ClockLoop<S, P, T, O>, AllocError>
+        ensures sockets { IfOk result (λ c. (c.given ≡ S.given sockets) × (c.taken ≡ S.taken sockets) × (c.there ≡ listened (S.listens sockets)) × (c.failures ≡ S.failures sockets)) }
+        ensures probes { IfOk result (λ c. c.probes ≡ record { version = None; watched = [] }) }
+        ensures parts { IfOk result (λ c. (c.outbox ≡ sender) × (c.fronts ≡ fronts.items) × (c.handed ≡ P.handed posts)) }
+        ensures others { IfOk result (λ c. (c.answered ≡ T.answered taker) × (c.pairs ≡ T.pairs taker) × (c.said ≡ O.said outside) × (c.outside ≡ O.failures outside)) }
+    {
+        Ok(ClockLoop {
+            alloc,
+            probes: Probes::made(alloc)?,
+            sockets,
+            sender,
+            fronts,
+            posts,
+            taker,
+            outside,
+            lines: Vec::new(alloc),
+        })
+    }
+
+    /// Takes the room of a report's lines back for the next turn. The lines go.
+    pub fn take_back(&mut self, mut lines: Vec<Line>)
+        ensures { self.new ≡ self.old }
+    {
+        lines.clear();
+        self.lines = lines;
+    }
+
+    /// The room for lines that is here.
+    pub(crate) fn blank_lines(&mut self) -> Vec<Line>
+        ensures blank { (result.items ≡ []) × (vec_len result ≡ 0) }
+        ensures same { self.new ≡ self.old }
+    {
+        mem::replace(&mut self.lines, Vec::new(self.alloc))
+    }
+
+    /// Waits until a socket has a datagram, or somebody wakes it, or so many milliseconds have passed.
+    pub fn wait(&mut self, at_most: u64) -> Result<(), WaitFailed>
+        ensures { self.new ≡ self.old }
+    {
+        self.sockets.wait(at_most)
+    }
+
+    /// The event handler and the sender, when the loop has ended.
+    pub fn into_parts(self) -> (T, Sender)
+        ensures taker { (T.answered result.0 ≡ self.answered) × (T.pairs result.0 ≡ self.pairs) }
+        ensures sender { result.1 ≡ self.outbox }
+    {
+        let ClockLoop { taker, sender, .. } = self;
+        (taker, sender)
+    }
+}

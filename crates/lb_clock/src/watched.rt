@@ -1,0 +1,98 @@
+//! A server that is probed.
+
+ghost use Rattle.std.specs.Prelude.{IfNone, IfSome, IsTrue, Some, nat_le, ◌+◌, ◌≡◌};
+ghost use Rattle.lb_clock.specs.Probes.{Answers, IsDue, IsOver, Misses, is_by, is_open, second};
+
+use lb_health::judge;
+use lb_lines::{Datagram, Endpoint, Place, Roster, Socket};
+use lb_servers::Mode;
+use lb_wire::ServerId;
+
+/// How long a probe waits for its answer, and how long it is from one probe of a server to the next, in milliseconds.
+pub(crate) const SECOND: u64 = 1_000;
+
+/// A probe that is under way: its ID, the moment at which it was sent, in milliseconds, and whether it could be sent.
+#[derive(Clone, Copy, Debug)]
+pub(crate) struct Waits {
+    pub(crate) word: u16,
+    pub(crate) sent: u64,
+    pub(crate) is_sent: bool,
+}
+
+/// A server that is probed: where it is, whether an answer has to name an address, when its next probe is due, and the probe that is
+/// under way.
+#[derive(Clone, Copy, Debug)]
+pub(crate) struct Watched {
+    pub(crate) server: ServerId,
+    pub(crate) at: Endpoint,
+    pub(crate) must_resolve: bool,
+    pub(crate) next: u64,
+    pub(crate) waits: Option<Waits>,
+}
+
+impl Waits {
+    /// Whether the probe may still be answered at this moment.
+    fn is_open(self, now: u64) -> bool
+        ensures { result ≡ is_open now (Some self) }
+    {
+        self.is_sent && !self.is_late(now)
+    }
+
+    /// Whether the probe was sent a second or more before this moment.
+    fn is_late(self, now: u64) -> bool
+        ensures { result ≡ nat_le (self.sent + second) now }
+    {
+        now.saturating_sub(self.sent) >= SECOND
+    }
+
+    /// Whether the probe is over at this moment: it could not be sent, or it has waited for a second.
+    pub(crate) fn is_over(self, now: u64) -> bool
+        ensures { IsTrue result → IsOver now self }
+    {
+        !self.is_sent || self.is_late(now)
+    }
+}
+
+impl Watched {
+    /// The probe that a datagram answers at this moment, where it does.
+    pub(crate) fn answered(&self, datagram: &Datagram, now: u64) -> Option<Waits>
+        ensures answers { IfSome result (λ waits. (self.now.waits ≡ Some waits) × Answers now datagram.now self.now) }
+        ensures misses { IfNone result (Misses now datagram.now self.now) }
+    {
+        let waits = self.waits?;
+        if !self.is_by(datagram.socket) || !self.at.is(datagram.peer) || !waits.is_open(now) {
+            return None;
+        }
+        if judge(datagram.bytes.as_slice(), waits.word, self.must_resolve) {
+            Some(waits)
+        } else {
+            None
+        }
+    }
+
+    /// Whether a socket is the first one of this server, made for its end.
+    fn is_by(&self, socket: Socket) -> bool
+        ensures { result ≡ is_by socket self.now }
+    {
+        match socket {
+            Socket::Listener(_) => false,
+            Socket::Server(server, upstream, at) => {
+                upstream == 0 && server.0 == self.server.0 && self.at.is(at)
+            }
+        }
+    }
+
+    /// The place of the server when its next probe is due: where the roster has it in mode auto.
+    pub(crate) fn due(&self, roster: &Roster, now: u64) -> Option<Place>
+        ensures { IfSome result (λ place. IsDue roster.now.listed self.now place) }
+    {
+        if self.waits.is_some() || now < self.next {
+            return None;
+        }
+        let place = roster.get(self.server)?;
+        match place.mode {
+            Mode::Auto => Some(place),
+            Mode::Up | Mode::Down => None,
+        }
+    }
+}

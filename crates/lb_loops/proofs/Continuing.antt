@@ -1,0 +1,23 @@
+-- Ends of an outbox that go on.
+use Rattle.std.proofs.Common.{◌≡◌, List, [], ◌++◌, refl, sym, ap, ◌∙◌, append_assoc}
+use Rattle.std.proofs.lemmas.List.{append-nil}
+use Rattle.lb_loops.specs.Running.{ReceivesOn, SendsOn}
+use Rattle.lb_outbox.specs.Outbox.{Receiving, Sending}
+use Rattle.lb_outbox.specs.declared.job.Job.{Job}
+use Rattle.lb_outbox.specs.declared.rule.Delivery.{Delivery}
+
+-- one that has done nothing has gone on
+pub sends_none : (a : Sending) → SendsOn a a
+sends_none a = ([], ap (λ (jobs : List Job). record a { sent = jobs }) (sym (append-nil a.sent)))
+
+pub receives_none : (a : Receiving) → ReceivesOn a a
+receives_none a = ([], ap (λ (all : List Delivery). record a { received = all }) (sym (append-nil a.received)))
+
+-- going on twice is going on
+pub sends_twice : (a b c : Sending) → SendsOn a b → SendsOn b c → SendsOn a c
+sends_twice a b c (one, is) (two, then) =
+    (one ++ two, then ∙ ap (λ (s : Sending). record s { sent = s.sent ++ two }) is ∙ ap (λ (jobs : List Job). record a { sent = jobs }) (append_assoc a.sent one two))
+
+pub receives_twice : (a b c : Receiving) → ReceivesOn a b → ReceivesOn b c → ReceivesOn a c
+receives_twice a b c (one, is) (two, then) =
+    (one ++ two, then ∙ ap (λ (r : Receiving). record r { received = r.received ++ two }) is ∙ ap (λ (all : List Delivery). record a { received = all }) (append_assoc a.received one two))

@@ -1,0 +1,13 @@
+-- What a loop that runs does to its end of the outbox.
+use Rattle.std.specs.Prelude.{◌≡◌, List, ◌++◌}
+use Rattle.lb_outbox.specs.Outbox.{Receiving, Sending}
+use Rattle.lb_outbox.specs.declared.job.Job.{Job}
+use Rattle.lb_outbox.specs.declared.rule.Delivery.{Delivery}
+
+-- a sender of the same outbox, the same one of the two, that has sent what it had and maybe more
+abbrev pub SendsOn : Sending → Sending → Type 0
+SendsOn old new = (more : List Job) × (new ≡ record old { sent = old.sent ++ more })
+
+-- the receiver of the same outbox, that has received what it had and maybe more
+abbrev pub ReceivesOn : Receiving → Receiving → Type 0
+ReceivesOn old new = (more : List Delivery) × (new ≡ record old { received = old.received ++ more })

@@ -1,0 +1,84 @@
+//! What loops are made of, and what they leave.
+
+use lb_lines::{Front, Roster};
+use lb_outbox::{Receiver, Sender};
+use std::sync::atomic::AtomicBool;
+use std::sync::{Arc, Mutex};
+
+/// What the loop of datagrams is made of.
+#[derive(Drop)]
+pub struct DatagramParts<S, T, O> {
+    /// Its listeners, and a socket for each server.
+    pub sockets: S,
+    /// Its event handler.
+    pub taker: T,
+    /// Its source of moments and words.
+    pub outside: O,
+}
+
+/// What the loop of streams is made of.
+#[derive(Drop)]
+pub struct StreamParts<S, T, O, P> {
+    /// Its listeners and connections.
+    pub sockets: S,
+    /// The jobs that other loops send to it.
+    pub receiver: Receiver,
+    /// What listens at each place of the listen lines.
+    pub fronts: Vec<Front>,
+    /// The HTTP requests that wait.
+    pub posts: P,
+    /// Its event handler.
+    pub taker: T,
+    /// Its source of moments and words.
+    pub outside: O,
+}
+
+/// What the loop of the clock is made of.
+#[derive(Drop)]
+pub struct ClockParts<S, T, O, P> {
+    /// The listeners' shared sockets, and one of its own for each server that is probed.
+    pub sockets: S,
+    /// Sender two of the outbox.
+    pub sender: Sender,
+    /// What listens at each place of the listen lines.
+    pub fronts: Vec<Front>,
+    /// The HTTP requests that wait.
+    pub posts: P,
+    /// Its event handler.
+    pub taker: T,
+    /// Its source of moments and words.
+    pub outside: O,
+}
+
+/// What the three loops are made of, each in a thread of its own.
+#[derive(Drop)]
+pub struct Parts<D, S, C, G, W> {
+    /// The loop of datagrams.
+    pub datagrams: D,
+    /// The loop of streams.
+    pub streams: S,
+    /// The loop of the clock.
+    pub clock: C,
+    /// Where servers are. Each loop copies it before a turn, where it was changed.
+    pub roster: Arc<Mutex<Roster>>,
+    /// What each event passes before it goes to the desk.
+    pub gate: G,
+    /// Set, it ends the loops. Whoever sets it wakes them.
+    pub stop: Arc<AtomicBool>,
+    /// Wakes the loop of datagrams.
+    pub datagrams_waker: W,
+    /// Wakes the loop of streams.
+    pub streams_waker: W,
+    /// Wakes the loop of the clock.
+    pub clock_waker: W,
+}
+
+/// What loops leave that were told to end: their event handlers, the sender of the clock's loop, and the receiver.
+#[derive(Drop)]
+pub struct Ended<T, U, V> {
+    pub datagrams: T,
+    pub streams: U,
+    pub clock: V,
+    pub sender: Sender,
+    pub receiver: Receiver,
+}

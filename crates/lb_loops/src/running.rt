@@ -1,0 +1,268 @@
+//! Each loop in a thread of its own.
+
+ghost use Rattle.std.specs.Prelude.{IfOk, ◌≤◌};
+ghost use Rattle.lb_loops.specs.Running.{ReceivesOn, SendsOn};
+
+use crate::around::Around;
+use crate::datagram_loop::DatagramLoop;
+use crate::fault::{LoopFault, ends};
+use crate::parts::{ClockParts, DatagramParts, StreamParts};
+use lb_clock::{ClockLoop, clock_turn};
+use lb_lines::{
+    Datagrams, Gate, Line, Outside, Posts, Roster, Sending, Streams, Taker, Waker, Way,
+};
+use lb_outbox::{Receiver, Sender};
+use lb_streams::{StreamLoop, stream_turn};
+use std::alloc::Global;
+use std::sync::Wait;
+
+/// How long a loop of sockets waits at most, in milliseconds: so often the flag is looked at, and a client that found no descriptor.
+const WAIT: u64 = 100;
+
+/// How long the clock waits, in milliseconds.
+const TICK: u64 = 10;
+
+/// How many events a turn of the clock has at most.
+const MOST: usize = 64;
+
+/// Turns of datagrams until the flag is set, and then the event handler. A fault ends the other loops.
+pub(crate) fn run_datagrams<R: Wait, S: Datagrams, T: Taker, O: Outside, G: Gate, W: Waker>(
+    rt: &R,
+    alloc: Global,
+    around: &Around<G, W>,
+    parts: DatagramParts<S, T, O>,
+) -> Result<T, LoopFault>
+    ensures { IfOk result (λ taker. T.answered parts.taker ≤ T.answered taker) }
+{
+    let ended = loop_of_datagrams(rt, alloc, around, parts);
+    if ended.is_err() {
+        around.end();
+    }
+    ended
+}
+
+fn loop_of_datagrams<R: Wait, S: Datagrams, T: Taker, O: Outside, G: Gate, W: Waker>(
+    rt: &R,
+    alloc: Global,
+    around: &Around<G, W>,
+    parts: DatagramParts<S, T, O>,
+) -> Result<T, LoopFault>
+    ensures { IfOk result (λ taker. T.answered parts.taker ≤ T.answered taker) }
+{
+    let DatagramParts {
+        sockets,
+        taker,
+        outside,
+    } = parts;
+    let mut part = DatagramLoop::made(alloc, sockets, taker, outside);
+    all_datagrams(rt, alloc, around, &mut part)?;
+    Ok(part.into_taker())
+}
+
+fn all_datagrams<R: Wait, S: Datagrams, T: Taker, O: Outside, G: Gate, W: Waker>(
+    rt: &R,
+    alloc: Global,
+    around: &Around<G, W>,
+    part: &mut DatagramLoop<S, T, O>,
+) -> Result<(), LoopFault>
+    ensures { T.answered part.old.taker ≤ T.answered part.new.taker }
+{
+    let mut roster = Roster::made(alloc)?;
+    for _ in rt.forever() {
+        if around.is_over() {
+            return Ok(());
+        }
+        around.follow(rt, &mut roster);
+        one_of_datagrams(part, &roster, &around.gate)?;
+    }
+    unreachable!()
+}
+
+/// A turn of datagrams; where it did nothing, the loop waits.
+fn one_of_datagrams<S: Datagrams, T: Taker, O: Outside, G: Gate>(
+    part: &mut DatagramLoop<S, T, O>,
+    roster: &Roster,
+    gate: &G,
+) -> Result<(), LoopFault>
+    ensures { T.answered part.old.taker ≤ T.answered part.new.taker }
+{
+    let report = part.turn(roster, gate)?;
+    ends(&report)?;
+    let is_idle = report.lines.is_empty();
+    part.take_back(report.lines);
+    if is_idle {
+        part.wait(WAIT)?;
+    }
+    Ok(())
+}
+
+/// Turns of streams until the flag is set, and then the event handler and the receiver. A fault ends the other loops.
+pub(crate) fn run_streams<R: Wait, S: Streams, T: Taker, O: Outside, P: Posts, G: Gate, W: Waker>(
+    rt: &R,
+    alloc: Global,
+    around: &Around<G, W>,
+    parts: StreamParts<S, T, O, P>,
+) -> Result<(T, Receiver), LoopFault>
+    ensures answered { IfOk result (λ r. T.answered parts.taker ≤ T.answered r.0) }
+    ensures received { IfOk result (λ r. ReceivesOn parts.receiver r.1) }
+{
+    let ended = loop_of_streams(rt, alloc, around, parts);
+    if ended.is_err() {
+        around.end();
+    }
+    ended
+}
+
+fn loop_of_streams<R: Wait, S: Streams, T: Taker, O: Outside, P: Posts, G: Gate, W: Waker>(
+    rt: &R,
+    alloc: Global,
+    around: &Around<G, W>,
+    parts: StreamParts<S, T, O, P>,
+) -> Result<(T, Receiver), LoopFault>
+    ensures answered { IfOk result (λ r. T.answered parts.taker ≤ T.answered r.0) }
+    ensures received { IfOk result (λ r. ReceivesOn parts.receiver r.1) }
+{
+    let StreamParts {
+        sockets,
+        receiver,
+        fronts,
+        posts,
+        taker,
+        outside,
+    } = parts;
+    let mut part = StreamLoop::made(alloc, sockets, receiver, fronts, posts, taker, outside)?;
+    all_streams(rt, alloc, around, &mut part)?;
+    Ok(part.into_parts())
+}
+
+#[tactic(auto, using(crate::proofs::Continuing::receives_none, crate::proofs::Continuing::receives_twice))]
+fn all_streams<R: Wait, S: Streams, T: Taker, O: Outside, P: Posts, G: Gate, W: Waker>(
+    rt: &R,
+    alloc: Global,
+    around: &Around<G, W>,
+    part: &mut StreamLoop<S, T, O, P>,
+) -> Result<(), LoopFault>
+    ensures answered { part.old.answered ≤ part.new.answered }
+    ensures received { ReceivesOn part.old.jobs part.new.jobs }
+{
+    let mut roster = Roster::made(alloc)?;
+    for _ in rt.forever() {
+        if around.is_over() {
+            return Ok(());
+        }
+        around.follow(rt, &mut roster);
+        one_of_streams(rt, part, &roster, &around.gate)?;
+    }
+    unreachable!()
+}
+
+/// A turn of streams; where it did nothing, the loop waits.
+fn one_of_streams<R: Wait, S: Streams, T: Taker, O: Outside, P: Posts, G: Gate>(
+    rt: &R,
+    part: &mut StreamLoop<S, T, O, P>,
+    roster: &Roster,
+    gate: &G,
+) -> Result<(), LoopFault>
+    ensures answered { part.old.answered ≤ part.new.answered }
+    ensures received { ReceivesOn part.old.jobs part.new.jobs }
+{
+    let report = stream_turn(rt, part, roster, gate)?;
+    ends(&report)?;
+    let is_idle = report.lines.is_empty();
+    part.take_back(report.lines);
+    if is_idle {
+        part.wait(WAIT)?;
+    }
+    Ok(())
+}
+
+/// Turns of the clock until the flag is set, and then the event handler and the sender. A fault ends the other loops.
+pub(crate) fn run_clock<R: Wait, S: Datagrams, T: Taker, O: Outside, P: Posts, G: Gate, W: Waker>(
+    rt: &R,
+    alloc: Global,
+    around: &Around<G, W>,
+    parts: ClockParts<S, T, O, P>,
+) -> Result<(T, Sender), LoopFault>
+    ensures answered { IfOk result (λ r. T.answered parts.taker ≤ T.answered r.0) }
+    ensures sent { IfOk result (λ r. SendsOn parts.sender r.1) }
+{
+    let ended = loop_of_the_clock(rt, alloc, around, parts);
+    if ended.is_err() {
+        around.end();
+    }
+    ended
+}
+
+fn loop_of_the_clock<R: Wait, S: Datagrams, T: Taker, O: Outside, P: Posts, G: Gate, W: Waker>(
+    rt: &R,
+    alloc: Global,
+    around: &Around<G, W>,
+    parts: ClockParts<S, T, O, P>,
+) -> Result<(T, Sender), LoopFault>
+    ensures answered { IfOk result (λ r. T.answered parts.taker ≤ T.answered r.0) }
+    ensures sent { IfOk result (λ r. SendsOn parts.sender r.1) }
+{
+    let ClockParts {
+        sockets,
+        sender,
+        fronts,
+        posts,
+        taker,
+        outside,
+    } = parts;
+    let mut part = ClockLoop::made(alloc, sockets, sender, fronts, posts, taker, outside)?;
+    all_ticks(rt, alloc, around, &mut part)?;
+    Ok(part.into_parts())
+}
+
+#[tactic(auto, using(crate::proofs::Continuing::sends_none, crate::proofs::Continuing::sends_twice))]
+fn all_ticks<R: Wait, S: Datagrams, P: Posts, T: Taker, O: Outside, G: Gate, W: Waker>(
+    rt: &R,
+    alloc: Global,
+    around: &Around<G, W>,
+    part: &mut ClockLoop<S, P, T, O>,
+) -> Result<(), LoopFault>
+    ensures answered { part.old.answered ≤ part.new.answered }
+    ensures sent { SendsOn part.old.outbox part.new.outbox }
+{
+    let mut roster = Roster::made(alloc)?;
+    for _ in rt.forever() {
+        if around.is_over() {
+            return Ok(());
+        }
+        around.follow(rt, &mut roster);
+        one_of_ticks(rt, around, part, &roster)?;
+    }
+    unreachable!()
+}
+
+/// A turn of the clock. Where it made a job, the loop of streams is woken; behind a full turn the next one follows at once.
+fn one_of_ticks<R: Wait, S: Datagrams, P: Posts, T: Taker, O: Outside, G: Gate, W: Waker>(
+    rt: &R,
+    around: &Around<G, W>,
+    part: &mut ClockLoop<S, P, T, O>,
+    roster: &Roster,
+) -> Result<(), LoopFault>
+    ensures answered { part.old.answered ≤ part.new.answered }
+    ensures sent { SendsOn part.old.outbox part.new.outbox }
+{
+    let report = clock_turn(rt, part, roster, &around.gate)?;
+    ends(&report)?;
+    if report.lines.iter().any(is_job) {
+        around.streams.wake();
+    }
+    let is_full = report.lines.len() >= MOST;
+    part.take_back(report.lines);
+    if !is_full {
+        part.wait(TICK)?;
+    }
+    Ok(())
+}
+
+/// Whether a line's message went to the outbox.
+fn is_job(line: &Line) -> bool {
+    matches!(
+        line,
+        Line::Event(_, _, _, Sending::Done(Way::Outbox)) | Line::Job(_, Sending::Done(Way::Outbox))
+    )
+}
