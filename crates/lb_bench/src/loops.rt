@@ -7,12 +7,12 @@ use crate::turns::{Open, PEER, QUERY, is_ruled, less};
 use lb_core::{Balancer, Event};
 use lb_desk::{Desk, Naming, Seat};
 use lb_loops::{
-    Caller, ClockLoop, Endpoint, Front, Outbox, Place, Roster, StreamLoop, Taker, clock_turn, frame,
-    stream_turn,
+    Caller, ClockLoop, Endpoint, Front, Outbox, Place, Roster, StreamLoop, Taker, clock_turn,
+    frame, stream_turn,
 };
 use lb_memory::{
-    Failing, MemoryDatagrams, MemoryOutside, MemoryPosts, MemoryStreams, Moments, Packets, Requests,
-    StreamFailing, Wires,
+    Failing, MemoryDatagrams, MemoryOutside, MemoryPosts, MemoryStreams, Moments, Packets,
+    Requests, StreamFailing, Wires,
 };
 use lb_servers::Mode;
 use lb_wire::{Kind, Octets, Origin, ServerId};
@@ -46,12 +46,20 @@ const IDLE: u64 = 1_024;
 const SERVERS: u64 = 256;
 
 /// The loop of streams that is timed.
-type Streaming<'a, R, J> =
-    StreamLoop<MemoryStreams<'a, R>, Caller<'a, R, J>, MemoryOutside<'a, R>, MemoryPosts<'a, R>>;
+type Streaming<'a, R, J> = StreamLoop<
+    MemoryStreams<'a, R>,
+    Caller<'a, R, J>,
+    MemoryOutside<'a, R>,
+    MemoryPosts<'a, R>,
+>;
 
 /// The loop of the clock that is timed.
-type Clocking<'a, R, J> =
-    ClockLoop<MemoryDatagrams<'a, R>, MemoryPosts<'a, R>, Caller<'a, R, J>, MemoryOutside<'a, R>>;
+type Clocking<'a, R, J> = ClockLoop<
+    MemoryDatagrams<'a, R>,
+    MemoryPosts<'a, R>,
+    Caller<'a, R, J>,
+    MemoryOutside<'a, R>,
+>;
 
 /// The least nanoseconds of each.
 #[derive(Clone, Copy, Default)]
@@ -178,8 +186,7 @@ impl<'a, R: Wait, J: Naming> Streams<'a, R, J> {
         let posts = posts(rt, alloc)?;
         let caller = Caller::new(rt, desk, seat);
         let outside = outside(rt, alloc)?;
-        let streams =
-            StreamLoop::made(alloc, sockets, receiver, fronts, posts, caller, outside)?;
+        let streams = StreamLoop::made(alloc, sockets, receiver, fronts, posts, caller, outside)?;
         Ok(Streams {
             streams,
             wires,

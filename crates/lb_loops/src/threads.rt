@@ -118,9 +118,7 @@ fn run_all<
             requires streams { IsSend S.row × IsSend U.row × IsSend N.row × IsSend P.row }
             requires clock { IsSend C.row × IsSend V.row × IsSend M.row × IsSend Q.row }
             requires around { IsSend G.row × IsSend W.row × IsSync G.row × IsSync W.row }
-        {
-            run_others(rt, alloc, around, streams, clock)
-        },
+        { run_others(rt, alloc, around, streams, clock) },
     )
 }
 
