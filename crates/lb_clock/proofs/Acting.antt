@@ -3,7 +3,7 @@ use Rattle.std.proofs.Common.{◌≡◌, ℕ, ◌+◌, ◌≤◌, inl, inr, Bool
 use Rattle.std.specs.Prelude.{◌||◌}
 use Rattle.std.proofs.lemmas.Grind.{flat_map-append}
 use Rattle.std.proofs.lemmas.List.{append-nil, length-append}
-use Rattle.lb_clock.specs.Acts.{Act, AllProbes, Stops, StopsAt, any_blind, any_failed, blind_in, device_in, end_by, failed_in, first_device, line_in, lines_in, or_device, read_in, stamp_in}
+use Rattle.lb_clock.specs.Acts.{Act, AllProbes, Setting, Stops, StopsAt, any_blind, any_failed, blind_in, device_in, end_by, failed_in, first_device, line_in, lines_in, or_device, read_in, stamp_in}
 use Rattle.lb_clock.specs.Lines.{AreLines, datagram_in, datagrams}
 use Rattle.lb_clock.specs.Probes.{Probed}
 use Rattle.lb_clock.specs.Turn.{FailsBy, Turns}
@@ -11,7 +11,6 @@ use Rattle.lb_clock.specs.World.{World}
 use Rattle.lb_clock.specs.declared.turn.End.{End}
 use Rattle.lb_lines.specs.Counts.{Grows, Rose}
 use Rattle.lb_lines.specs.Lines.{pair_in, pairs}
-use Rattle.lb_lines.specs.Roster.{Rostered}
 use Rattle.lb_lines.specs.Ways.{job_in, jobs_sent, letter_of, post_in, posts, sending_of}
 use Rattle.lb_lines.specs.declared.report.DeviceFault.{DeviceFault}
 use Rattle.lb_lines.specs.declared.report.Line.{Line}
@@ -56,9 +55,9 @@ jobs_on old mid new these more e is =
 
 -- Acts.
 
-probes_on : (roster : Rostered) (xs ys : List Act) (p q r : Probed) → AllProbes roster xs p q → AllProbes roster ys q r → AllProbes roster (xs ++ ys) p r
-probes_on roster [] ys p q r first after = subst (λ z. AllProbes roster ys z r) first after
-probes_on roster (x ∷ xs) ys p q r first after = (first.0, first.1, probes_on roster xs ys first.0 q r first.2 after)
+probes_on : (on : Setting) (xs ys : List Act) (p q r : Probed) → AllProbes on xs p q → AllProbes on ys q r → AllProbes on (xs ++ ys) p r
+probes_on on [] ys p q r first after = subst (λ z. AllProbes on ys z r) first after
+probes_on on (x ∷ xs) ys p q r first after = (first.0, first.1, probes_on on xs ys first.0 q r first.2 after)
 
 or_assoc : (a b c : Bool) → (a || (b || c)) ≡ ((a || b) || c)
 or_assoc true b c = refl
@@ -95,8 +94,8 @@ stops_on [] ys end first after = after
 stops_on (x ∷ xs) ys end first after = stops_at_on (end_by x) xs ys (Stops xs None) (Stops (xs ++ ys) end) end (λ s. stops_on xs ys end s after) first
 
 -- No act.
-pub turns_none : (roster : Rostered) (a : World) → Turns roster [] a a
-turns_none roster a = record {
+pub turns_none : (on : Setting) (a : World) → Turns on [] a a
+turns_none on a = record {
   probes = refl;
   given = sym (append-nil a.given);
   said = sym (append-nil a.said);
@@ -113,18 +112,18 @@ turns_none roster a = record {
 }
 
 -- Acts behind others.
-pub turns_on : (roster : Rostered) (xs ys : List Act) (a b c : World) → Turns roster xs a b → Turns roster ys b c → Turns roster (xs ++ ys) a c
-turns_on roster xs ys a b c one two =
+pub turns_on : (on : Setting) (xs ys : List Act) (a b c : World) → Turns on xs a b → Turns on ys b c → Turns on (xs ++ ys) a c
+turns_on on xs ys a b c one two =
     let lines : lines_in (xs ++ ys) ≡ lines_in xs ++ lines_in ys = flat_map-append line_in xs ys in
     let pairs_all : pairs (lines_in (xs ++ ys)) ≡ pairs (lines_in xs) ++ pairs (lines_in ys) = ap pairs lines ∙ flat_map-append pair_in (lines_in xs) (lines_in ys) in
     let pairs_len : length (pairs (lines_in (xs ++ ys))) ≡ length (pairs (lines_in xs)) + length (pairs (lines_in ys)) = ap (λ zs. length zs) pairs_all ∙ length-append (pairs (lines_in xs)) (pairs (lines_in ys)) in
     let count_one = one.counted in
     let count_two = two.counted in
     record {
-      probes = probes_on roster xs ys a.probes b.probes c.probes one.probes two.probes;
+      probes = probes_on on xs ys a.probes b.probes c.probes one.probes two.probes;
       given = grown read_in a.given b.given c.given xs ys one.given two.given;
       said = grown stamp_in a.said b.said c.said xs ys one.said two.said;
-      taken = grown (datagram_in roster.listed) a.taken b.taken c.taken (lines_in xs) (lines_in ys) one.taken two.taken ∙ ap (λ ls. a.taken ++ datagrams roster.listed ls) (sym lines);
+      taken = grown (datagram_in on.roster.listed) a.taken b.taken c.taken (lines_in xs) (lines_in ys) one.taken two.taken ∙ ap (λ ls. a.taken ++ datagrams on.roster.listed ls) (sym lines);
       sent = jobs_on a.outbox b.outbox c.outbox (jobs_sent (lines_in xs)) (jobs_sent (lines_in ys)) one.sent two.sent
           ∙ ap (λ (zs : List Job). record a.outbox { sent = a.outbox.sent ++ zs }) (sym (flat_map-append (λ (l : Line). job_in (letter_of l) (sending_of l)) (lines_in xs) (lines_in ys)) ∙ ap jobs_sent (sym lines));
       handed = grown (λ (l : Line). post_in (letter_of l) (sending_of l)) a.handed b.handed c.handed (lines_in xs) (lines_in ys) one.handed two.handed ∙ ap (λ ls. a.handed ++ posts ls) (sym lines);

@@ -1,12 +1,12 @@
 -- Steps of a turn.
-use Rattle.std.proofs.Common.{◌≡◌, ℕ, ◌+◌, ◌≤◌, Bool, true, false, Option, Some, None, List, [], ◌∷◌, ◌++◌, length, refl, sym, ap, ◌∙◌, subst, arith, append_assoc}
+use Rattle.std.proofs.Common.{◌≡◌, ℕ, ◌+◌, ◌≤◌, ◌⊎◌, inl, inr, Bool, true, false, Option, Some, None, List, [], ◌∷◌, ◌++◌, length, refl, sym, ap, ◌∙◌, subst, arith, append_assoc}
 use Rattle.std.specs.Prelude.{◌||◌, if◌then◌else◌, option_map, option_to_list, slice_get}
 use Rattle.std.proofs.lemmas.Grind.{flat_map-append}
 use Rattle.std.proofs.lemmas.List.{append-nil, length-append}
-use Rattle.lb_clock.specs.Acts.{Act, Asked, Begun, Blinded, Ended, Followed, Heard, Held, HeldBack, Passed, Probes, Stops, Ticked, Unread, blind_in, device_in, failed_in, line_in, lines_in, or_device, read_in, reads_in, stamp_in}
+use Rattle.lb_clock.specs.Acts.{Act, Asked, Begun, Blinded, Ended, Followed, Heard, Held, HeldBack, Passed, Probes, Setting, Stops, Ticked, Unread, blind_in, device_in, failed_in, line_in, lines_in, or_device, read_in, reads_in, setting, stamp_in}
 use Rattle.lb_clock.specs.Lines.{Comes, ProbeComes, is_done, probe_to, probes_in}
-use Rattle.lb_clock.specs.Probes.{Answers, Follows, IsDue, IsOver, Probed, Unheard, begun, ended, place_of}
-use Rattle.lb_clock.specs.Turn.{FailsBy, Goes, Rests, Tells, Turned, Turns, held_by}
+use Rattle.lb_clock.specs.Probes.{Answers, Each, Follows, IsAsked, IsDue, IsOver, IsTimely, Probed, Unheard, begun, ended, place_of}
+use Rattle.lb_clock.specs.Turn.{FailsBy, Goes, Rests, Steps, Tells, Turned, Turns, held_by}
 use Rattle.lb_clock.specs.World.{World}
 use Rattle.lb_clock.specs.declared.turn.End.{End}
 use Rattle.lb_clock.specs.declared.turn.End.TheVariants as ends
@@ -43,11 +43,11 @@ or_none None = refl
 or_none (Some fault) = refl
 
 -- An act without a line.
-pub turns_still : (roster : Rostered) (act : Act) (a b : World) (p : Probed) (given : List Datagram) (said : List Stamp) (failures outside : ℕ) → line_in act ≡ [] → b ≡ record a { probes = p; given = given; said = said; failures = failures; outside = outside }
-    → Probes roster act a.probes p → given ≡ a.given ++ read_in act → said ≡ a.said ++ stamp_in act → FailsBy (failed_in act) a.failures failures → FailsBy (blind_in act) a.outside outside → Turns roster (act ∷ []) a b
-turns_still roster act a b p given said failures outside no_line same probes gave told failed blind =
+pub turns_still : (on : Setting) (act : Act) (a b : World) (p : Probed) (given : List Datagram) (said : List Stamp) (failures outside : ℕ) → line_in act ≡ [] → b ≡ record a { probes = p; given = given; said = said; failures = failures; outside = outside }
+    → Probes on act a.probes p → given ≡ a.given ++ read_in act → said ≡ a.said ++ stamp_in act → FailsBy (failed_in act) a.failures failures → FailsBy (blind_in act) a.outside outside → Turns on (act ∷ []) a b
+turns_still on act a b p given said failures outside no_line same probes gave told failed blind =
     let none : lines_in (act ∷ []) ≡ [] = ap (λ ls. ls ++ []) no_line in
-    let idle = turns_none roster a in
+    let idle = turns_none on a in
     record {
       probes = (p, probes, ap (λ (w : World). w.probes) same);
       given = ap (λ (w : World). w.given) same ∙ gave ∙ ap (λ ds. a.given ++ ds) (sym (append-nil (read_in act)));
@@ -83,11 +83,11 @@ tells_by old new made again event outcome sending one two is comes taken sent ha
 }
 
 -- An act whose event is told.
-pub turns_told : (roster : Rostered) (act : Act) (a mid told b : World) (source : Source) (event : Event) (outcome : Outcome) (sending : report_sending.Sending)
+pub turns_told : (on : Setting) (act : Act) (a mid told b : World) (source : Source) (event : Event) (outcome : Outcome) (sending : report_sending.Sending)
     → line_in act ≡ lines.Event source event outcome sending ∷ [] → failed_in act ≡ is_by_device sending → blind_in act ≡ false
-    → mid ≡ record a { given = a.given ++ read_in act; said = a.said ++ stamp_in act } → Tells mid told event outcome sending → b ≡ record told { probes = b.probes } → Probes roster act a.probes b.probes
-    → Turns roster (act ∷ []) a b
-turns_told roster act a mid told b source event outcome sending one failed blind read tells ended probes =
+    → mid ≡ record a { given = a.given ++ read_in act; said = a.said ++ stamp_in act } → Tells mid told event outcome sending → b ≡ record told { probes = b.probes } → Probes on act a.probes b.probes
+    → Turns on (act ∷ []) a b
+turns_told on act a mid told b source event outcome sending one failed blind read tells ended probes =
     let line : lines_in (act ∷ []) ≡ lines.Event source event outcome sending ∷ [] = ap (λ ls. ls ++ []) one in
     let letter = outcome_letter event outcome in
     let nil_len : length (answered_as event outcome ++ []) ≡ length (answered_as event outcome) = ap (λ zs. length zs) (append-nil (answered_as event outcome)) in
@@ -98,7 +98,7 @@ turns_told roster act a mid told b source event outcome sending one failed blind
       probes = (b.probes, probes, refl);
       given = ap (λ (w : World). w.given) ended ∙ ap (λ (w : World). w.given) tells.same ∙ ap (λ (w : World). w.given) read ∙ ap (λ ds. a.given ++ ds) (sym (append-nil (read_in act)));
       said = ap (λ (w : World). w.said) ended ∙ ap (λ (w : World). w.said) tells.same ∙ ap (λ (w : World). w.said) read ∙ ap (λ ds. a.said ++ ds) (sym (append-nil (stamp_in act)));
-      taken = rw line (ap (λ (w : World). w.taken) ended ∙ tells.taken roster.listed ∙ ap (λ (w : World). w.taken ++ packet_in roster.listed letter sending) read ∙ ap (λ ds. a.taken ++ ds) (sym (append-nil (packet_in roster.listed letter sending))));
+      taken = rw line (ap (λ (w : World). w.taken) ended ∙ tells.taken on.roster.listed ∙ ap (λ (w : World). w.taken ++ packet_in on.roster.listed letter sending) read ∙ ap (λ ds. a.taken ++ ds) (sym (append-nil (packet_in on.roster.listed letter sending))));
       sent = rw line (ap (λ (w : World). w.outbox) ended ∙ tells.sent ∙ ap (λ (w : World). record w.outbox { sent = w.outbox.sent ++ job_in letter sending }) read ∙ ap (λ (js : List Job). record a.outbox { sent = a.outbox.sent ++ js }) (sym (append-nil (job_in letter sending))));
       handed = rw line (ap (λ (w : World). w.handed) ended ∙ tells.handed ∙ ap (λ (w : World). w.handed ++ post_in letter sending) read ∙ ap (λ ps. a.handed ++ ps) (sym (append-nil (post_in letter sending))));
       are = rw line ((tells.is, subst (λ (w : World). Comes w.fronts w.there (outcome_letter event outcome) sending) read tells.comes), tt);
@@ -112,19 +112,19 @@ turns_told roster act a mid told b source event outcome sending one failed blind
     }
 
 -- A probe.
-pub turns_begun : (roster : Rostered) (a mid b : World) (stamp : Stamp) (i : ℕ) (w : Watched) (place : Place) (sending : report_sending.Sending) (next : ℕ)
-    → mid ≡ record a { said = a.said ++ stamp ∷ [] } → slice_get a.probes.watched i ≡ Some w → IsDue roster.listed w place → ProbeComes sending
+pub turns_begun : (on : Setting) (a mid b : World) (stamp : Stamp) (i : ℕ) (w : Watched) (place : Place) (sending : report_sending.Sending)
+    → mid ≡ record a { said = a.said ++ stamp ∷ [] } → slice_get a.probes.watched i ≡ Some w → IsDue on.roster.listed on.start w place → ProbeComes sending
     → b.taken ≡ mid.taken ++ (if is_done sending then probe_to w.server stamp.1 place.at ∷ [] else []) → FailsBy (is_by_device sending) mid.failures b.failures
-    → b.probes ≡ begun mid.probes i w place stamp (is_done sending) next → b ≡ record mid { probes = b.probes; taken = b.taken; failures = b.failures }
-    → Turns roster (Begun stamp i w place sending ∷ []) a b
-turns_begun roster a mid b stamp i w place sending next said here due comes took fails probes same =
-    let idle = turns_none roster a in
+    → b.probes ≡ begun mid.probes i w place on.start stamp (is_done sending) → b ≡ record mid { probes = b.probes; taken = b.taken; failures = b.failures }
+    → Turns on (Begun stamp i w place sending ∷ []) a b
+turns_begun on a mid b stamp i w place sending said here due comes took fails probes same =
+    let idle = turns_none on a in
     record {
-      probes = (b.probes, (here, due, (next, probes ∙ ap (λ (v : World). begun v.probes i w place stamp (is_done sending) next) said)), refl);
+      probes = (b.probes, (here, due, probes ∙ ap (λ (v : World). begun v.probes i w place on.start stamp (is_done sending)) said), refl);
       given = ap (λ (v : World). v.given) same ∙ ap (λ (v : World). v.given) said ∙ idle.given;
       said = ap (λ (v : World). v.said) same ∙ ap (λ (v : World). v.said) said;
       taken = took ∙ ap (λ (v : World). v.taken ++ (if is_done sending then probe_to w.server stamp.1 place.at ∷ [] else [])) said
-          ∙ ap (λ zs. a.taken ++ zs) (ap (λ (p : Option Place). if is_done sending then option_to_list (option_map (probe_to w.server stamp.1) (option_map (λ (q : Place). q.at) p)) else []) (sym due.1) ∙ sym (append-nil _));
+          ∙ ap (λ zs. a.taken ++ zs) (ap (λ (p : Option Place). if is_done sending then option_to_list (option_map (probe_to w.server stamp.1) (option_map (λ (q : Place). q.at) p)) else []) (sym due.2) ∙ sym (append-nil _));
       sent = ap (λ (v : World). v.outbox) same ∙ ap (λ (v : World). v.outbox) said ∙ idle.sent;
       handed = ap (λ (v : World). v.handed) same ∙ ap (λ (v : World). v.handed) said ∙ idle.handed;
       are = (comes, tt);
@@ -137,19 +137,19 @@ turns_begun roster a mid b stamp i w place sending next said here due comes took
     }
 
 -- No step, one act, and steps behind others.
-pub goes_none : (roster : Rostered) (n : ℕ) (a : World) (told : List Line) (device : Option DeviceFault) → Goes roster n a a told told device device None
-goes_none roster n a told device = record {
+pub goes_none : (on : Setting) (n : ℕ) (a : World) (told : List Line) (device : Option DeviceFault) → Goes on n a a told told device device None
+goes_none on n a told device = record {
   acts = [];
-  turns = turns_none roster a;
+  turns = turns_none on a;
   lines = sym (append-nil told);
   noted = sym (or_none device);
   stops = refl;
   few = omega arith;
 }
 
-pub goes_act : (roster : Rostered) (n : ℕ) (act : Act) (a b : World) (before after : List Line) (device later : Option DeviceFault) (end : Option End) → Turns roster (act ∷ []) a b → after ≡ before ++ line_in act
-    → later ≡ or_device device (device_in act) → Stops (act ∷ []) end → length (read_in act) ≤ n → Goes roster n a b before after device later end
-goes_act roster n act a b before after device later end turns told noted stops few =
+pub goes_act : (on : Setting) (n : ℕ) (act : Act) (a b : World) (before after : List Line) (device later : Option DeviceFault) (end : Option End) → Turns on (act ∷ []) a b → after ≡ before ++ line_in act
+    → later ≡ or_device device (device_in act) → Stops (act ∷ []) end → length (read_in act) ≤ n → Goes on n a b before after device later end
+goes_act on n act a b before after device later end turns told noted stops few =
     let len : length (reads_in (act ∷ [])) ≡ length (read_in act) = ap (λ ds. length ds) (append-nil (read_in act)) in
     record {
       acts = act ∷ [];
@@ -160,9 +160,9 @@ goes_act roster n act a b before after device later end turns told noted stops f
       few = omega (arith, few, len);
     }
 
-pub goes_on : (roster : Rostered) (n m : ℕ) (a b c : World) (first mid last : List Line) (d e f : Option DeviceFault) (end : Option End) → Goes roster n a b first mid d e None → Goes roster m b c mid last e f end
-    → Goes roster (n + m) a c first last d f end
-goes_on roster n m a b c first mid last d e f end one two =
+pub goes_on : (on : Setting) (n m : ℕ) (a b c : World) (first mid last : List Line) (d e f : Option DeviceFault) (end : Option End) → Goes on n a b first mid d e None → Goes on m b c mid last e f end
+    → Goes on (n + m) a c first last d f end
+goes_on on n m a b c first mid last d e f end one two =
     let xs = one.acts in
     let ys = two.acts in
     let len : length (reads_in (xs ++ ys)) ≡ length (reads_in xs) + length (reads_in ys) = ap (λ ds. length ds) (flat_map-append read_in xs ys) ∙ length-append (reads_in xs) (reads_in ys) in
@@ -170,15 +170,15 @@ goes_on roster n m a b c first mid last d e f end one two =
     let few_two = two.few in
     record {
       acts = xs ++ ys;
-      turns = turns_on roster xs ys a b c one.turns two.turns;
+      turns = turns_on on xs ys a b c one.turns two.turns;
       lines = two.lines ∙ ap (λ ls. ls ++ lines_in ys) one.lines ∙ append_assoc first (lines_in xs) (lines_in ys) ∙ ap (λ ls. first ++ ls) (sym (flat_map-append line_in xs ys));
       noted = device_on xs ys d e f one.noted two.noted;
       stops = stops_on xs ys end one.stops two.stops;
       few = omega (arith, len, few_one, few_two);
     }
 
-pub goes_within : (roster : Rostered) (n m : ℕ) (a b : World) (first last : List Line) (d e : Option DeviceFault) (end : Option End) → n ≤ m → Goes roster n a b first last d e end → Goes roster m a b first last d e end
-goes_within roster n m a b first last d e end le one =
+pub goes_within : (on : Setting) (n m : ℕ) (a b : World) (first last : List Line) (d e : Option DeviceFault) (end : Option End) → n ≤ m → Goes on n a b first last d e end → Goes on m a b first last d e end
+goes_within on n m a b first last d e end le one =
     let few = one.few in record {
       acts = one.acts;
       turns = one.turns;
@@ -191,35 +191,33 @@ goes_within roster n m a b first last d e end le one =
 -- The steps, each by what its calls say.
 
 -- there was no moment to be had
-pub goes_blind : (roster : Rostered) (n : ℕ) (a b : World) (before after : List Line) (device later : Option DeviceFault) → (b ≡ record a { outside = b.outside }) × Fails a.outside b.outside → after ≡ before → later ≡ or_device device (Some devices.Outside)
-    → Goes roster n a b before after device later (Some ends.Blind)
-goes_blind roster n a b before after device later blind lines noted =
-    goes_act roster n Blinded a b before after device later (Some ends.Blind)
-    (turns_still roster Blinded a b a.probes a.given a.said a.failures b.outside refl blind.0 refl (sym (append-nil a.given)) (sym (append-nil a.said)) refl blind.1)
+pub goes_blind : (on : Setting) (n : ℕ) (a b : World) (before after : List Line) (device later : Option DeviceFault) → (b ≡ record a { outside = b.outside }) × Fails a.outside b.outside → after ≡ before → later ≡ or_device device (Some devices.Outside)
+    → Goes on n a b before after device later (Some ends.Blind)
+goes_blind on n a b before after device later blind lines noted =
+    goes_act on n Blinded a b before after device later (Some ends.Blind)
+    (turns_still on Blinded a b a.probes a.given a.said a.failures b.outside refl blind.0 refl (sym (append-nil a.given)) (sym (append-nil a.said)) refl blind.1)
     (lines ∙ sym (append-nil before)) noted (refl, refl) (omega arith)
 
--- a moment was asked for, and nothing was done
-pub goes_asked : (roster : Rostered) (n : ℕ) (a b : World) (stamp : Stamp) (told : List Line) (device : Option DeviceFault) → b ≡ record a { said = a.said ++ stamp ∷ [] } → Goes roster n a b told told device device None
-goes_asked roster n a b stamp told device said =
-    goes_act roster n (Asked stamp) a b told told device device None
-    (turns_still roster (Asked stamp) a b a.probes a.given (a.said ++ stamp ∷ []) a.failures a.outside refl said refl (sym (append-nil a.given)) refl refl refl)
-    (sym (append-nil told)) (sym (or_none device)) refl (omega arith)
-
--- a moment was asked for, and the servers became those of the roster
-pub goes_followed : (roster : Rostered) (a mid b : World) (stamp : Stamp) (told : List Line) (device : Option DeviceFault) → mid ≡ record a { said = a.said ++ stamp ∷ [] } → b ≡ record mid { probes = b.probes } → Follows roster mid.probes b.probes
-    → Goes roster 0 a b told told device device None
-goes_followed roster a mid b stamp told device said same follows =
-    goes_on roster 0 0 a mid b told told told device device device None (goes_asked roster 0 a mid stamp told device said)
-    (goes_act roster 0 Followed mid b told told device device None
-    (turns_still roster Followed mid b b.probes mid.given mid.said mid.failures mid.outside refl same follows (sym (append-nil mid.given)) (sym (append-nil mid.said)) refl refl)
+-- a turn begins
+pub goes_first : (roster : Rostered) (start word : ℕ) (a b : World) (told : List Line) (device : Option DeviceFault) → b ≡ record a { probes = b.probes; said = a.said ++ (start, word) ∷ [] } → Follows roster start a.probes b.probes
+    → Goes (setting roster start) 0 a b told told device device None
+goes_first roster start word a b told device same follows =
+    let on = setting roster start in
+    let mid = record a { said = a.said ++ (start, word) ∷ [] } in
+    goes_on on 0 0 a mid b told told told device device device None
+    (goes_act on 0 (Asked (start, word)) a mid told told device device None
+    (turns_still on (Asked (start, word)) a mid a.probes a.given (a.said ++ (start, word) ∷ []) a.failures a.outside refl refl refl (sym (append-nil a.given)) refl refl refl)
+    (sym (append-nil told)) (sym (or_none device)) refl (omega arith))
+    (goes_act on 0 Followed mid b told told device device None
+    (turns_still on Followed mid b b.probes mid.given mid.said mid.failures mid.outside refl same follows (sym (append-nil mid.given)) (sym (append-nil mid.said)) refl refl)
     (sym (append-nil told)) (sym (or_none device)) refl (omega arith))
 
 -- a read gave nothing, or failed
-pub goes_unread : (roster : Rostered) (a mid b : World) (stamp : Stamp) (failed : Bool) (before after : List Line) (device later : Option DeviceFault) → mid ≡ record a { said = a.said ++ stamp ∷ [] } → b ≡ record mid { given = b.given; failures = b.failures }
-    → b.given ≡ mid.given → FailsBy failed mid.failures b.failures → after ≡ before → later ≡ or_device device (if failed then Some devices.Sockets else None) → Goes roster 1 a b before after device later None
-goes_unread roster a mid b stamp failed before after device later said same gave fails lines noted =
-    goes_act roster 1 (Unread stamp failed) a b before after device later None
-    (turns_still roster (Unread stamp failed) a b a.probes b.given (a.said ++ stamp ∷ []) b.failures a.outside refl (same ∙ ap (λ (w : World). record w { given = b.given; failures = b.failures }) said) refl
+pub goes_unread : (on : Setting) (a mid b : World) (stamp : Stamp) (failed : Bool) (before after : List Line) (device later : Option DeviceFault) → mid ≡ record a { said = a.said ++ stamp ∷ [] } → b ≡ record mid { given = b.given; failures = b.failures }
+    → b.given ≡ mid.given → FailsBy failed mid.failures b.failures → after ≡ before → later ≡ or_device device (if failed then Some devices.Sockets else None) → Goes on 1 a b before after device later None
+goes_unread on a mid b stamp failed before after device later said same gave fails lines noted =
+    goes_act on 1 (Unread stamp failed) a b before after device later None
+    (turns_still on (Unread stamp failed) a b a.probes b.given (a.said ++ stamp ∷ []) b.failures a.outside refl (same ∙ ap (λ (w : World). record w { given = b.given; failures = b.failures }) said) refl
     (gave ∙ ap (λ (w : World). w.given) said ∙ sym (append-nil a.given)) refl (subst (λ z. FailsBy failed z b.failures) (ap (λ (w : World). w.failures) said) fails) refl)
     (lines ∙ sym (append-nil before)) noted refl (omega arith)
 
@@ -229,25 +227,25 @@ pub read_is : (a mid b : World) (stamp : Stamp) (d : Datagram) → mid ≡ recor
 read_is a mid b stamp d said same gave fails =
     same ∙ ap (λ (ds : List Datagram). record mid { given = ds; failures = b.failures }) gave ∙ ap (λ (f : ℕ). record mid { given = mid.given ++ d ∷ []; failures = f }) fails ∙ ap (λ (w : World). record w { given = w.given ++ d ∷ [] }) said
 
-pub goes_passed : (roster : Rostered) (a b : World) (stamp : Stamp) (d : Datagram) (told : List Line) (device : Option DeviceFault) → b ≡ record a { given = a.given ++ d ∷ []; said = a.said ++ stamp ∷ [] } → Unheard stamp.0 d b.probes.watched
-    → Goes roster 1 a b told told device device None
-goes_passed roster a b stamp d told device read unheard =
-    goes_act roster 1 (Passed stamp d) a b told told device device None
-    (turns_still roster (Passed stamp d) a b a.probes (a.given ++ d ∷ []) (a.said ++ stamp ∷ []) a.failures a.outside refl read (refl, subst (λ (p : Probed). Unheard stamp.0 d p.watched) (ap (λ (w : World). w.probes) read) unheard) refl refl refl refl)
+pub goes_passed : (on : Setting) (a b : World) (stamp : Stamp) (d : Datagram) (told : List Line) (device : Option DeviceFault) → b ≡ record a { given = a.given ++ d ∷ []; said = a.said ++ stamp ∷ [] } → Unheard stamp.0 d b.probes.watched
+    → Goes on 1 a b told told device device None
+goes_passed on a b stamp d told device read unheard =
+    goes_act on 1 (Passed stamp d) a b told told device device None
+    (turns_still on (Passed stamp d) a b a.probes (a.given ++ d ∷ []) (a.said ++ stamp ∷ []) a.failures a.outside refl read (refl, subst (λ (p : Probed). Unheard stamp.0 d p.watched) (ap (λ (w : World). w.probes) read) unheard) refl refl refl refl)
     (sym (append-nil told)) (sym (or_none device)) refl (omega arith)
 
 -- the gate held what it says of a probe
-pub goes_held_back : (roster : Rostered) (a b c : World) (stamp : Stamp) (d : Datagram) (told : List Line) (device : Option DeviceFault) → b ≡ record a { given = a.given ++ d ∷ []; said = a.said ++ stamp ∷ [] } → c ≡ b → Goes roster 1 a c told told device device (Some ends.Held)
-goes_held_back roster a b c stamp d told device read held =
-    goes_act roster 1 (HeldBack stamp d) a c told told device device (Some ends.Held)
-    (turns_still roster (HeldBack stamp d) a c a.probes (a.given ++ d ∷ []) (a.said ++ stamp ∷ []) a.failures a.outside refl (held ∙ read) refl refl refl refl refl)
+pub goes_held_back : (on : Setting) (a b c : World) (stamp : Stamp) (d : Datagram) (told : List Line) (device : Option DeviceFault) → b ≡ record a { given = a.given ++ d ∷ []; said = a.said ++ stamp ∷ [] } → c ≡ b → Goes on 1 a c told told device device (Some ends.Held)
+goes_held_back on a b c stamp d told device read held =
+    goes_act on 1 (HeldBack stamp d) a c told told device device (Some ends.Held)
+    (turns_still on (HeldBack stamp d) a c a.probes (a.given ++ d ∷ []) (a.said ++ stamp ∷ []) a.failures a.outside refl (held ∙ read) refl refl refl refl refl)
     (sym (append-nil told)) (sym (or_none device)) (refl, refl) (omega arith)
 
 -- the gate held a bad result, or a tick
-pub goes_held : (roster : Rostered) (a b c : World) (stamp : Stamp) (told : List Line) (device : Option DeviceFault) → b ≡ record a { said = a.said ++ stamp ∷ [] } → c ≡ b → Goes roster 0 a c told told device device (Some ends.Held)
-goes_held roster a b c stamp told device said held =
-    goes_act roster 0 (Held stamp) a c told told device device (Some ends.Held)
-    (turns_still roster (Held stamp) a c a.probes a.given (a.said ++ stamp ∷ []) a.failures a.outside refl (held ∙ said) refl (sym (append-nil a.given)) refl refl refl)
+pub goes_held : (on : Setting) (a b c : World) (stamp : Stamp) (told : List Line) (device : Option DeviceFault) → b ≡ record a { said = a.said ++ stamp ∷ [] } → c ≡ b → Goes on 0 a c told told device device (Some ends.Held)
+goes_held on a b c stamp told device said held =
+    goes_act on 0 (Held stamp) a c told told device device (Some ends.Held)
+    (turns_still on (Held stamp) a c a.probes a.given (a.said ++ stamp ∷ []) a.failures a.outside refl (held ∙ said) refl (sym (append-nil a.given)) refl refl refl)
     (sym (append-nil told)) (sym (or_none device)) (refl, refl) (omega arith)
 
 no_read : (a : World) (stamp : Stamp) → record a { said = a.said ++ stamp ∷ [] } ≡ record a { given = a.given ++ []; said = a.said ++ stamp ∷ [] }
@@ -259,62 +257,106 @@ device_told true = refl
 device_told false = refl
 
 -- a datagram answered a probe, whose good result was told
-pub goes_heard : (roster : Rostered) (a b t c : World) (stamp : Stamp) (d : Datagram) (i : ℕ) (w : Watched) (x : Waits) (outcome : Outcome) (sending : report_sending.Sending) (line : Line) (before after : List Line) (device later : Option DeviceFault)
+pub goes_heard : (on : Setting) (a b t c : World) (stamp : Stamp) (d : Datagram) (i : ℕ) (w : Watched) (x : Waits) (outcome : Outcome) (sending : report_sending.Sending) (line : Line) (before after : List Line) (device later : Option DeviceFault)
     → b ≡ record a { given = a.given ++ d ∷ []; said = a.said ++ stamp ∷ [] } → place_of d.socket b.probes.watched ≡ Some i → slice_get b.probes.watched i ≡ Some w → w.waits ≡ Some x → Answers stamp.0 d w
     → Tells b t (HealthResult stamp.0 w.server true) outcome sending → c ≡ record t { probes = ended t.probes i w }
     → line ≡ lines.Event (sources.Probe w.server x.word) (HealthResult stamp.0 w.server true) outcome sending → after ≡ before ++ line ∷ [] → later ≡ or_device device (if is_by_device (sending_of line) then Some devices.Sockets else None)
-    → Goes roster 1 a c before after device later None
-goes_heard roster a b t c stamp d i w x outcome sending line before after device later read place here waits answers tells end is lines noted =
+    → Goes on 1 a c before after device later None
+goes_heard on a b t c stamp d i w x outcome sending line before after device later read place here waits answers tells end is lines noted =
     let same : b.probes ≡ a.probes = ap (λ (v : World). v.probes) read in
     let kept : t.probes ≡ a.probes = ap (λ (v : World). v.probes) tells.same ∙ same in
-    goes_act roster 1 (Heard stamp d i w x outcome sending) a c before after device later None
-    (turns_told roster (Heard stamp d i w x outcome sending) a b t c (sources.Probe w.server x.word) (HealthResult stamp.0 w.server true) outcome sending refl refl refl read tells (end ∙ ap (λ (p : Probed). record t { probes = p }) (sym (ap (λ (v : World). v.probes) end)))
+    goes_act on 1 (Heard stamp d i w x outcome sending) a c before after device later None
+    (turns_told on (Heard stamp d i w x outcome sending) a b t c (sources.Probe w.server x.word) (HealthResult stamp.0 w.server true) outcome sending refl refl refl read tells (end ∙ ap (λ (p : Probed). record t { probes = p }) (sym (ap (λ (v : World). v.probes) end)))
     (subst (λ (p : Probed). place_of d.socket p.watched ≡ Some i) same place, subst (λ (p : Probed). slice_get p.watched i ≡ Some w) same here, waits, answers, ap (λ (v : World). v.probes) end ∙ ap (λ (p : Probed). ended p i w) kept))
     (lines ∙ ap (λ (l : Line). before ++ l ∷ []) is) (noted ∙ ap (λ (l : Line). or_device device (if is_by_device (sending_of l) then Some devices.Sockets else None)) is ∙ ap (λ e. or_device device e) (sym (device_told (is_by_device sending)))) refl (omega arith)
 
 -- a probe was over, and its bad result was told
-pub goes_ended : (roster : Rostered) (a b t c : World) (stamp : Stamp) (i : ℕ) (w : Watched) (x : Waits) (outcome : Outcome) (sending : report_sending.Sending) (line : Line) (before after : List Line) (device later : Option DeviceFault)
-    → b ≡ record a { said = a.said ++ stamp ∷ [] } → slice_get a.probes.watched i ≡ Some w → w.waits ≡ Some x → IsOver stamp.0 x
+pub goes_ended : (on : Setting) (a b t c : World) (stamp : Stamp) (i : ℕ) (w : Watched) (x : Waits) (outcome : Outcome) (sending : report_sending.Sending) (line : Line) (before after : List Line) (device later : Option DeviceFault)
+    → b ≡ record a { said = a.said ++ stamp ∷ [] } → slice_get a.probes.watched i ≡ Some w → w.waits ≡ Some x → IsOver on.start x
     → Tells b t (HealthResult stamp.0 w.server false) outcome sending → c ≡ record t { probes = ended t.probes i w }
     → line ≡ lines.Event (sources.Probe w.server x.word) (HealthResult stamp.0 w.server false) outcome sending → after ≡ before ++ line ∷ [] → later ≡ or_device device (if is_by_device (sending_of line) then Some devices.Sockets else None)
-    → Goes roster 0 a c before after device later None
-goes_ended roster a b t c stamp i w x outcome sending line before after device later said here waits over tells end is lines noted =
+    → Goes on 0 a c before after device later None
+goes_ended on a b t c stamp i w x outcome sending line before after device later said here waits over tells end is lines noted =
     let kept : t.probes ≡ a.probes = ap (λ (v : World). v.probes) tells.same ∙ ap (λ (v : World). v.probes) said in
-    goes_act roster 0 (Ended stamp i w x outcome sending) a c before after device later None
-    (turns_told roster (Ended stamp i w x outcome sending) a b t c (sources.Probe w.server x.word) (HealthResult stamp.0 w.server false) outcome sending refl refl refl (said ∙ no_read a stamp) tells (end ∙ ap (λ (p : Probed). record t { probes = p }) (sym (ap (λ (v : World). v.probes) end)))
+    goes_act on 0 (Ended stamp i w x outcome sending) a c before after device later None
+    (turns_told on (Ended stamp i w x outcome sending) a b t c (sources.Probe w.server x.word) (HealthResult stamp.0 w.server false) outcome sending refl refl refl (said ∙ no_read a stamp) tells (end ∙ ap (λ (p : Probed). record t { probes = p }) (sym (ap (λ (v : World). v.probes) end)))
     (here, waits, over, ap (λ (v : World). v.probes) end ∙ ap (λ (p : Probed). ended p i w) kept))
     (lines ∙ ap (λ (l : Line). before ++ l ∷ []) is) (noted ∙ ap (λ (l : Line). or_device device (if is_by_device (sending_of l) then Some devices.Sockets else None)) is ∙ ap (λ e. or_device device e) (sym (device_told (is_by_device sending)))) refl (omega arith)
 
 -- a tick was told
-pub goes_ticked : (roster : Rostered) (a b t : World) (stamp : Stamp) (outcome : Outcome) (sending : report_sending.Sending) (line : Line) (before after : List Line) (device later : Option DeviceFault)
+pub goes_ticked : (on : Setting) (a b t : World) (stamp : Stamp) (outcome : Outcome) (sending : report_sending.Sending) (line : Line) (before after : List Line) (device later : Option DeviceFault)
     → b ≡ record a { said = a.said ++ stamp ∷ [] } → Tells b t (Tick stamp.0) outcome sending
     → line ≡ lines.Event sources.Clock (Tick stamp.0) outcome sending → after ≡ before ++ line ∷ [] → later ≡ or_device device (if is_by_device (sending_of line) then Some devices.Sockets else None)
-    → Goes roster 0 a t before after device later None
-goes_ticked roster a b t stamp outcome sending line before after device later said tells is lines noted =
-    goes_act roster 0 (Ticked stamp outcome sending) a t before after device later None
-    (turns_told roster (Ticked stamp outcome sending) a b t t sources.Clock (Tick stamp.0) outcome sending refl refl refl (said ∙ no_read a stamp) tells refl (ap (λ (v : World). v.probes) tells.same ∙ ap (λ (v : World). v.probes) said))
+    → Goes on 0 a t before after device later None
+goes_ticked on a b t stamp outcome sending line before after device later said tells is lines noted =
+    goes_act on 0 (Ticked stamp outcome sending) a t before after device later None
+    (turns_told on (Ticked stamp outcome sending) a b t t sources.Clock (Tick stamp.0) outcome sending refl refl refl (said ∙ no_read a stamp) tells refl (ap (λ (v : World). v.probes) tells.same ∙ ap (λ (v : World). v.probes) said))
     (lines ∙ ap (λ (l : Line). before ++ l ∷ []) is) (noted ∙ ap (λ (l : Line). or_device device (if is_by_device (sending_of l) then Some devices.Sockets else None)) is ∙ ap (λ e. or_device device e) (sym (device_told (is_by_device sending)))) refl (omega arith)
 
 -- a probe was sent, or could not be
-pub goes_begun : (roster : Rostered) (a mid b : World) (stamp : Stamp) (i : ℕ) (w : Watched) (place : Place) (sending : report_sending.Sending) (next : ℕ) (before after : List Line) (device later : Option DeviceFault)
-    → mid ≡ record a { said = a.said ++ stamp ∷ [] } → slice_get a.probes.watched i ≡ Some w → IsDue roster.listed w place → ProbeComes sending
+pub goes_begun : (on : Setting) (a mid b : World) (stamp : Stamp) (i : ℕ) (w : Watched) (place : Place) (sending : report_sending.Sending) (before after : List Line) (device later : Option DeviceFault)
+    → mid ≡ record a { said = a.said ++ stamp ∷ [] } → slice_get a.probes.watched i ≡ Some w → IsDue on.roster.listed on.start w place → ProbeComes sending
     → b.taken ≡ mid.taken ++ (if is_done sending then probe_to w.server stamp.1 place.at ∷ [] else []) → FailsBy (is_by_device sending) mid.failures b.failures
-    → b.probes ≡ begun mid.probes i w place stamp (is_done sending) next → b ≡ record mid { probes = b.probes; taken = b.taken; failures = b.failures }
+    → b.probes ≡ begun mid.probes i w place on.start stamp (is_done sending) → b ≡ record mid { probes = b.probes; taken = b.taken; failures = b.failures }
     → after ≡ before ++ lines.Probe w.server stamp.1 sending ∷ [] → later ≡ or_device device (if is_by_device sending then Some devices.Sockets else None)
-    → Goes roster 0 a b before after device later None
-goes_begun roster a mid b stamp i w place sending next before after device later said here due comes took fails probes same lines noted =
-    goes_act roster 0 (Begun stamp i w place sending) a b before after device later None (turns_begun roster a mid b stamp i w place sending next said here due comes took fails probes same)
+    → Goes on 0 a b before after device later None
+goes_begun on a mid b stamp i w place sending before after device later said here due comes took fails probes same lines noted =
+    goes_act on 0 (Begun stamp i w place sending) a b before after device later None (turns_begun on a mid b stamp i w place sending said here due comes took fails probes same)
     lines (noted ∙ ap (λ e. or_device device e) (sym (device_told (is_by_device sending)))) refl (omega arith)
 
--- A whole turn, whose tally becomes its report.
+-- A whole turn.
+
+some_none : {A : Type 0} (x : A) → Some x ≡ None → ⊥
+some_none x e = cc e
+
+-- there was no moment at which it began
+pub steps_blind : (roster : Rostered) (a b : World) (before after : List Line) (device later : Option DeviceFault) → (b ≡ record a { outside = b.outside }) × Fails a.outside b.outside → after ≡ before → later ≡ or_device device (Some devices.Outside)
+    → Steps roster a b before after device later (Some ends.Blind)
+unfolding goes_blind goes_act
+steps_blind roster a b before after device later blind lines noted = record {
+  start = 0;
+  goes = goes_blind (setting roster 0) 64 a b before after device later blind lines noted;
+  begins = inl refl;
+  rests = λ e. absurd (some_none ends.Blind e);
+  timely = λ e. absurd (some_none ends.Blind e);
+  asked = λ e. absurd (some_none ends.Blind e);
+}
+
+-- it ended before it rested
+pub steps_cut : (roster : Rostered) (start word : ℕ) (a b c : World) (before after : List Line) (device later : Option DeviceFault) (this : End) → b ≡ record a { probes = b.probes; said = a.said ++ (start, word) ∷ [] } → Follows roster start a.probes b.probes
+    → Goes (setting roster start) 64 b c before after device later (Some this) → Steps roster a c before after device later (Some this)
+unfolding goes_on goes_first goes_act
+steps_cut roster start word a b c before after device later this same follows goes = record {
+  start = start;
+  goes = goes_on (setting roster start) 0 64 a b c before before after device device later (Some this) (goes_first roster start word a b before device same follows) goes;
+  begins = inr (word, goes.acts, refl);
+  rests = λ e. absurd (some_none this e);
+  timely = λ e. absurd (some_none this e);
+  asked = λ e. absurd (some_none this e);
+}
+
+-- it did not
+pub steps_done : (roster : Rostered) (start word : ℕ) (a b c : World) (before after : List Line) (device later : Option DeviceFault) (end : Option End) (events probes : ℕ) → b ≡ record a { probes = b.probes; said = a.said ++ (start, word) ∷ [] } → Follows roster start a.probes b.probes
+    → Goes (setting roster start) 64 b c before after device later end → (end ≡ None → Rests after) → events ≡ length (events_in after) → probes ≡ length (probes_in after)
+    → (64 ≤ events) ⊎ Each (IsTimely start) c.probes.watched → (64 ≤ probes) ⊎ Each (IsAsked roster.listed start) c.probes.watched → Steps roster a c before after device later end
+unfolding goes_on goes_first goes_act
+steps_done roster start word a b c before after device later end events probes same follows goes rests told sent timely asked = record {
+  start = start;
+  goes = goes_on (setting roster start) 0 64 a b c before before after device device later end (goes_first roster start word a b before device same follows) goes;
+  begins = inr (word, goes.acts, refl);
+  rests = rests;
+  timely = λ _. subst (λ (n : ℕ). (64 ≤ n) ⊎ Each (IsTimely start) c.probes.watched) told timely;
+  asked = λ _. subst (λ (n : ℕ). (64 ≤ n) ⊎ Each (IsAsked roster.listed start) c.probes.watched) sent asked;
+}
+
+-- its tally becomes its report
 pub turned_by : (roster : Rostered) (a b : World) (first last told : List Line) (d e device : Option DeviceFault) (held : Bool) (end : Option End) → first ≡ [] → d ≡ None → told ≡ last → device ≡ e → held ≡ held_by end
-    → Goes roster 64 a b first last d e end → (end ≡ None → Rests last) → length (events_in told) ≤ 64 → length (probes_in told) ≤ 64 → Turned roster a b told device held
-turned_by roster a b first last told d e device held end empty none lines noted holds goes rests events probes = record {
+    → Steps roster a b first last d e end → length (events_in told) ≤ 64 → length (probes_in told) ≤ 64 → Turned roster a b told device held
+turned_by roster a b first last told d e device held end empty none lines noted holds steps events probes = record {
   end = end;
-  goes = subst (λ (ls : List Line). Goes roster 64 a b ls told None device end) empty (subst (λ (x : Option DeviceFault). Goes roster 64 a b first told x device end) none
-      (subst (λ (x : Option DeviceFault). Goes roster 64 a b first told d x end) (sym noted) (subst (λ (ls : List Line). Goes roster 64 a b first ls d e end) (sym lines) goes)));
+  steps = subst (λ (ls : List Line). Steps roster a b ls told None device end) empty (subst (λ (x : Option DeviceFault). Steps roster a b first told x device end) none
+      (subst (λ (x : Option DeviceFault). Steps roster a b first told d x end) (sym noted) (subst (λ (ls : List Line). Steps roster a b first ls d e end) (sym lines) steps)));
   holds = holds;
-  rests = λ is. subst Rests (sym lines) (rests is);
   few_events = events;
   few_probes = probes;
 }

@@ -3,3 +3,4 @@ mod Counting
 mod Freshening
 mod Going
 mod Places
+mod Probing

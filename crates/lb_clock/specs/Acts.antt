@@ -1,5 +1,5 @@
 -- What a turn of the clock does, act by act.
-use Rattle.std.specs.Prelude.{◌≡◌, ℕ, Bool, true, false, List, [], ◌∷◌, Option, Some, None, Result, Ok, Err, flat_map, if◌then◌else◌, slice_get, ◌||◌}
+use Rattle.std.specs.Prelude.{◌≡◌, ℕ, Bool, true, false, List, [], ◌∷◌, Option, Some, None, flat_map, if◌then◌else◌, slice_get, ◌||◌}
 use Rattle.lb_clock.specs.Lines.{is_done}
 use Rattle.lb_clock.specs.Probes.{Answers, Follows, IsDue, IsOver, Probed, Unheard, begun, ended, place_of}
 use Rattle.lb_clock.specs.declared.watched.Waits.{Waits}
@@ -23,7 +23,7 @@ use Rattle.lb_lines.specs.declared.roster.Place.{Place}
 use Rattle.lb_lines.specs.declared.traffic.Datagram.{Datagram}
 
 -- What is done at one moment, which is the act's own:
---   Asked          nothing but to ask for it
+--   Asked          nothing but to ask for it: the moment at which the turn begins
 --   Blinded        there was none to be had
 --   Followed       the servers that are probed become those of the roster
 --   Unread         no datagram was read: none waits, or a socket failed
@@ -132,10 +132,6 @@ end_of steps.More = None
 end_of steps.Last = None
 end_of (steps.Over end) = Some end
 
-abbrev pub end_or : {A : Type 0} → Result A End → Option End
-end_or (Ok value) = None
-end_or (Err end) = Some end
-
 -- acts that end a turn for this reason, or do not: nothing is done behind one that ends it
 abbrev pub StopsAt : Option End → List Act → Type 0 → Option End → Type 0
 StopsAt None more rest end = rest
@@ -145,19 +141,27 @@ abbrev pub Stops : List Act → Option End → Type 0
 Stops [] end = end ≡ None
 Stops (act ∷ more) end = StopsAt (end_by act) more (Stops more end) end
 
+-- what a turn stands on: the roster, and the moment at which it begins
+pub record Setting : Type 0 where
+  pub roster : Rostered
+  pub start : ℕ
+
+abbrev pub setting : Rostered → ℕ → Setting
+setting roster start = record { roster = roster; start = start }
+
 -- what an act does to the probes, and what it is done for
-abbrev pub Probes : Rostered → Act → Probed → Probed → Type 0
-Probes roster Followed p q = Follows roster p q
-Probes roster (Passed stamp d) p q = (q ≡ p) × Unheard stamp.0 d p.watched
-Probes roster (Heard stamp d i w x outcome sending) p q =
+abbrev pub Probes : Setting → Act → Probed → Probed → Type 0
+Probes on Followed p q = Follows on.roster on.start p q
+Probes on (Passed stamp d) p q = (q ≡ p) × Unheard stamp.0 d p.watched
+Probes on (Heard stamp d i w x outcome sending) p q =
     (place_of d.socket p.watched ≡ Some i) × (slice_get p.watched i ≡ Some w) × (w.waits ≡ Some x) × Answers stamp.0 d w × (q ≡ ended p i w)
-Probes roster (Ended stamp i w x outcome sending) p q =
-    (slice_get p.watched i ≡ Some w) × (w.waits ≡ Some x) × IsOver stamp.0 x × (q ≡ ended p i w)
-Probes roster (Begun stamp i w place sending) p q =
-    (slice_get p.watched i ≡ Some w) × IsDue roster.listed w place × ((next : ℕ) × (q ≡ begun p i w place stamp (is_done sending) next))
-Probes roster _ p q = q ≡ p
+Probes on (Ended stamp i w x outcome sending) p q =
+    (slice_get p.watched i ≡ Some w) × (w.waits ≡ Some x) × IsOver on.start x × (q ≡ ended p i w)
+Probes on (Begun stamp i w place sending) p q =
+    (slice_get p.watched i ≡ Some w) × IsDue on.roster.listed on.start w place × (q ≡ begun p i w place on.start stamp (is_done sending))
+Probes on _ p q = q ≡ p
 
 -- acts, one after the other
-abbrev pub AllProbes : Rostered → List Act → Probed → Probed → Type 0
-AllProbes roster [] p q = q ≡ p
-AllProbes roster (act ∷ more) p q = (mid : Probed) × Probes roster act p mid × AllProbes roster more mid q
+abbrev pub AllProbes : Setting → List Act → Probed → Probed → Type 0
+AllProbes on [] p q = q ≡ p
+AllProbes on (act ∷ more) p q = (mid : Probed) × Probes on act p mid × AllProbes on more mid q

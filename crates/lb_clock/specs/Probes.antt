@@ -1,6 +1,6 @@
 -- The probes of servers: what answers one, when one is over, and which servers are probed.
-use Rattle.std.specs.Prelude.{◌≡◌, ◌⊎◌, ◌+◌, ◌≤◌, ℕ, Bool, true, false, List, [], ◌∷◌, ◌++◌, Option, Some, None, Result, filter, nat_lt, set, slice_get, ◌==◌, ◌&&◌}
-use Rattle.std.specs.List.{position}
+use Rattle.std.specs.Prelude.{◌≡◌, ◌⊎◌, ◌+◌, ◌-◌, ◌*◌, ◌/◌, ◌%◌, ◌^◌, ◌<◌, ◌≤◌, ℕ, Bool, true, false, List, [], ◌∷◌, ◌++◌, Option, Some, None, Result, filter, length, min, nat_lt, set, slice_get, ◌==◌, ◌&&◌}
+use Rattle.std.specs.List.{list_any, position}
 use Rattle.lb_clock.specs.declared.watched.Waits.{Waits}
 use Rattle.lb_clock.specs.declared.watched.Watched.{Watched}
 use Rattle.lb_health.specs.Probes.{judged}
@@ -26,6 +26,14 @@ pub record Probed : Type 0 where
 -- how long a probe waits for its answer, in milliseconds
 abbrev pub second : ℕ
 second = 1000
+
+-- so many milliseconds later than a moment; the last one is 2^64-1
+abbrev pub later : ℕ → ℕ → ℕ
+later now wait = min (now + wait) (2 ^ 64 - 1)
+
+-- how long a new server waits for its first probe: its number spreads servers over a second
+abbrev pub spread : ServerId → ℕ
+spread server = server.0 % 256 * second / 256
 
 -- a probe may still be answered at this moment: it was sent, less than a second before
 abbrev pub is_open : ℕ → Option Waits → Bool
@@ -82,31 +90,78 @@ stands_at w (Some place) = is_endpoint place.at w.at
 abbrev pub stands : List Listed → Watched → Bool
 stands roster w = stands_at w (place_in w.server roster)
 
--- a server that is probed from now on: the roster has it so, no probe of it is under way, and it is not among those that are probed
-abbrev pub IsFresh : List Listed → List Watched → Watched → Type 0
-IsFresh roster p w = (place : Place) × (place_in w.server roster ≡ Some place) × (w.at ≡ place.at) × (w.must_resolve ≡ place.must_resolve) × (w.waits ≡ None) × (position (is_of w.server) p ≡ None)
+-- a server that is probed from now on: the roster has it so, its first probe is due within a second of this moment, and it is not among
+-- those that are probed
+abbrev pub IsFresh : ℕ → List Listed → List Watched → Watched → Type 0
+IsFresh now roster p w =
+    (place : Place) × (place_in w.server roster ≡ Some place) × (w ≡ record { server = w.server; at = place.at; must_resolve = place.must_resolve; next = later now (spread w.server); waits = None }) × (list_any (is_of w.server) p ≡ false)
 
-abbrev pub AreFresh : List Listed → List Watched → List Watched → Type 0
-AreFresh roster p [] = Unit {0}
-AreFresh roster p (w ∷ ws) = IsFresh roster p w × AreFresh roster (p ++ w ∷ []) ws
+abbrev pub AreFresh : ℕ → List Listed → List Watched → List Watched → Type 0
+AreFresh now roster p [] = Unit {0}
+AreFresh now roster p (w ∷ ws) = IsFresh now roster p w × AreFresh now roster (p ++ w ∷ []) ws
 
--- those that the roster has no more at their end go, and others come behind
-abbrev pub Renews : List Listed → List Watched → List Watched → Type 0
-Renews roster p q = (fresh : List Watched) × (q ≡ filter (stands roster) p ++ fresh) × AreFresh roster (filter (stands roster) p) fresh
+-- how many servers are probed at most
+abbrev pub most_probed : ℕ
+most_probed = 256
+
+-- the first so many servers of a roster are probed; further ones where there is room
+abbrev pub AreProbed : ℕ → List Listed → List Watched → Type 0
+AreProbed n roster p = (most_probed ≤ length p) ⊎ ((i : ℕ) (l : Listed) → i < n → slice_get roster i ≡ Some l → list_any (is_of l.server) p ≡ true)
+
+-- those that the roster has no more at their end go, and others come behind, until all of the roster are there
+abbrev pub Renews : ℕ → List Listed → List Watched → List Watched → Type 0
+Renews now roster p q = ((fresh : List Watched) × (q ≡ filter (stands roster) p ++ fresh) × AreFresh now roster (filter (stands roster) p) fresh) × AreProbed (length roster) roster q
 
 -- the servers that are probed become those of a roster, where it was changed
-abbrev pub Follows : Rostered → Probed → Probed → Type 0
-Follows roster p q = ((p.version ≡ Some roster.version) × (q ≡ p)) ⊎ ((q.version ≡ Some roster.version) × Renews roster.listed p.watched q.watched)
+abbrev pub Follows : Rostered → ℕ → Probed → Probed → Type 0
+Follows roster now p q = ((p.version ≡ Some roster.version) × (q ≡ p)) ⊎ ((q.version ≡ Some roster.version) × Renews now roster.listed p.watched q.watched)
 
 -- a probe ends
 abbrev pub ended : Probed → ℕ → Watched → Probed
 ended p i w = record p { watched = set p.watched i (record w { waits = None }) }
 
--- a probe with this word was sent at this moment to this place, or could not be; the next one is due at that moment
-abbrev pub begun : Probed → ℕ → Watched → Place → Stamp → Bool → ℕ → Probed
-begun p i w place stamp is_sent next =
-    record p { watched = set p.watched i (record w { at = place.at; must_resolve = place.must_resolve; next = next; waits = Some (record { word = stamp.1; sent = stamp.0; is_sent = is_sent }) }) }
+-- a probe with this word was sent at this moment to this place, or could not be; the next one is due a second after the moment that stands first
+abbrev pub begun : Probed → ℕ → Watched → Place → ℕ → Stamp → Bool → Probed
+begun p i w place now stamp is_sent =
+    record p { watched = set p.watched i (record w { at = place.at; must_resolve = place.must_resolve; next = later now second; waits = Some (record { word = stamp.1; sent = stamp.0; is_sent = is_sent }) }) }
 
--- no probe of this server is under way, and the roster has it at this place, in mode auto
-abbrev pub IsDue : List Listed → Watched → Place → Type 0
-IsDue roster w place = (w.waits ≡ None) × (place_in w.server roster ≡ Some place) × (place.mode ≡ modes.Auto)
+-- at this moment the next probe of this server is due: none is under way, and the roster has it at this place, in mode auto
+abbrev pub IsDue : List Listed → ℕ → Watched → Place → Type 0
+IsDue roster now w place = (w.waits ≡ None) × (w.next ≤ now) × (place_in w.server roster ≡ Some place) × (place.mode ≡ modes.Auto)
+
+-- no probe that is under way is over at this moment
+abbrev pub IsTimely : ℕ → Watched → Type 0
+IsTimely now w = (x : Waits) → w.waits ≡ Some x → is_open now (Some x) ≡ true
+
+-- a server without a probe under way: its next one is due later than this moment, or a second later, as it was sent one; or the roster has
+-- it not in mode auto
+abbrev pub IsAsked : List Listed → ℕ → Watched → Type 0
+IsAsked roster now w = w.waits ≡ None → (now < w.next) ⊎ ((w.next ≡ later now second) ⊎ ((place : Place) → place_in w.server roster ≡ Some place → place.mode ≡ modes.Auto → ⊥))
+
+-- this holds of each of the servers that are probed, of the first so many, of the one at a place
+abbrev pub Each : (Watched → Type 0) → List Watched → Type 0
+Each P p = (i : ℕ) (w : Watched) → slice_get p i ≡ Some w → P w
+
+abbrev pub First : (Watched → Type 0) → ℕ → List Watched → Type 0
+First P n p = (i : ℕ) (w : Watched) → i < n → slice_get p i ≡ Some w → P w
+
+abbrev pub Here : (Watched → Type 0) → ℕ → List Watched → Type 0
+Here P i p = (w : Watched) → slice_get p i ≡ Some w → P w
+
+-- the others stay, and as many
+abbrev pub Others : ℕ → List Watched → List Watched → Type 0
+Others i p q = (length q ≡ length p) × ((j : ℕ) → (j ≡ i → ⊥) → slice_get q j ≡ slice_get p j)
+
+-- how the server at a place goes on where its probe ends if it is over, unless as many events were told as may be: their number before and after
+abbrev pub EndsAt : ℕ → ℕ → List Watched → List Watched → ℕ → ℕ → Type 0
+EndsAt now i p q before after =
+    Others i p q × (before ≤ after) × ((64 ≤ after) ⊎ Here (IsTimely now) i q) × ((w : Watched) → slice_get p i ≡ Some w → (x : Watched) × (slice_get q i ≡ Some x) × (x.next ≡ w.next))
+
+-- the server at a place is sent a probe: its next one is due a second later
+abbrev pub BeginsAt : ℕ → ℕ → List Watched → List Watched → Type 0
+BeginsAt now i p q = Others i p q × ((w : Watched) × (slice_get q i ≡ Some w) × (w.next ≡ later now second))
+
+-- the same where it is sent one if that is due, unless as many were sent as may be, and one that could not be sent ends, unless as many events were told as may be
+abbrev pub ProbesAt : List Listed → ℕ → ℕ → List Watched → List Watched → ℕ → ℕ → ℕ → ℕ → Type 0
+ProbesAt roster now i p q before after sent more =
+    Others i p q × (before ≤ after) × (sent ≤ more) × ((64 ≤ after) ⊎ (Here (IsTimely now) i p → Here (IsTimely now) i q)) × ((64 ≤ more) ⊎ Here (IsAsked roster now) i q)

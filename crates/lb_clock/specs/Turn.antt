@@ -1,7 +1,8 @@
 -- What a turn of the clock does.
 use Rattle.std.specs.Prelude.{◌≡◌, ◌⊎◌, ◌+◌, ◌≤◌, ℕ, Bool, true, false, List, [], ◌∷◌, ◌++◌, Option, Some, None, length}
-use Rattle.lb_clock.specs.Acts.{Act, AllProbes, Stops, any_blind, any_failed, first_device, lines_in, or_device, reads_in, stamps_in}
+use Rattle.lb_clock.specs.Acts.{Act, AllProbes, Asked, Blinded, Followed, Setting, Stops, any_blind, any_failed, first_device, lines_in, or_device, reads_in, setting, stamps_in}
 use Rattle.lb_clock.specs.Lines.{AreLines, Comes, datagrams, is_quiet, probes_in}
+use Rattle.lb_clock.specs.Probes.{Each, IsAsked, IsTimely}
 use Rattle.lb_clock.specs.World.{World}
 use Rattle.lb_clock.specs.declared.turn.End.{End}
 use Rattle.lb_clock.specs.declared.turn.End.TheVariants as ends
@@ -39,11 +40,11 @@ pub record Tells (old new : World) (event : Event) (outcome : Outcome) (sending 
 
 -- These acts lead from one world to another: what was read and said, what was sent each way, what the desk answered, and how the probes
 -- stand, are what the acts say, in order; a device failed only where an act says so.
-pub record Turns (roster : Rostered) (acts : List Act) (old new : World) : Type 0 where
-  pub probes : AllProbes roster acts old.probes new.probes
+pub record Turns (on : Setting) (acts : List Act) (old new : World) : Type 0 where
+  pub probes : AllProbes on acts old.probes new.probes
   pub given : new.given ≡ old.given ++ reads_in acts
   pub said : new.said ≡ old.said ++ stamps_in acts
-  pub taken : new.taken ≡ old.taken ++ datagrams roster.listed (lines_in acts)
+  pub taken : new.taken ≡ old.taken ++ datagrams on.roster.listed (lines_in acts)
   pub sent : new.outbox ≡ record old.outbox { sent = old.outbox.sent ++ jobs_sent (lines_in acts) }
   pub handed : new.handed ≡ old.handed ++ posts (lines_in acts)
   pub are : AreLines old.fronts old.there (lines_in acts)
@@ -55,9 +56,9 @@ pub record Turns (roster : Rostered) (acts : List Act) (old new : World) : Type 
   pub there : new.there ≡ old.there
 
 -- steps, with at most so many reads: the lines that they add, the first device fault, and why the turn ends with them, where it does
-pub record Goes (roster : Rostered) (reads : ℕ) (old new : World) (before after : List Line) (device later : Option DeviceFault) (end : Option End) : Type 0 where
+pub record Goes (on : Setting) (reads : ℕ) (old new : World) (before after : List Line) (device later : Option DeviceFault) (end : Option End) : Type 0 where
   pub acts : List Act
-  pub turns : Turns roster acts old new
+  pub turns : Turns on acts old new
   pub lines : after ≡ before ++ lines_in acts
   pub noted : later ≡ or_device device (first_device acts)
   pub stops : Stops acts end
@@ -72,11 +73,24 @@ abbrev pub held_by : Option End → Bool
 held_by (Some ends.Held) = true
 held_by _ = false
 
--- a whole turn, its lines, its first device fault, and whether the gate held an event; it ends before it rests only there, or where there was no moment to be had
+-- how a turn begins: with a moment, at which the servers that are probed become those of the roster, or there is none to be had
+abbrev pub Begins : ℕ → List Act → Type 0
+Begins start acts = (acts ≡ Blinded ∷ []) ⊎ ((word : ℕ) × (more : List Act) × (acts ≡ Asked (start, word) ∷ Followed ∷ more))
+
+-- Steps that are a whole turn. It ends before it rests only where the gate held an event, and where there was no moment to be had; at rest,
+-- unless as many events or probes were told as may be, no probe is over and none is due at the moment at which it began.
+pub record Steps (roster : Rostered) (old new : World) (before after : List Line) (device later : Option DeviceFault) (end : Option End) : Type 0 where
+  pub start : ℕ
+  pub goes : Goes (setting roster start) 64 old new before after device later end
+  pub begins : Begins start goes.acts
+  pub rests : end ≡ None → Rests after
+  pub timely : end ≡ None → (64 ≤ length (events_in after)) ⊎ Each (IsTimely start) new.probes.watched
+  pub asked : end ≡ None → (64 ≤ length (probes_in after)) ⊎ Each (IsAsked roster.listed start) new.probes.watched
+
+-- a whole turn, its lines, its first device fault, and whether the gate held an event
 pub record Turned (roster : Rostered) (old new : World) (told : List Line) (device : Option DeviceFault) (held : Bool) : Type 0 where
   pub end : Option End
-  pub goes : Goes roster 64 old new [] told None device end
+  pub steps : Steps roster old new [] told None device end
   pub holds : held ≡ held_by end
-  pub rests : end ≡ None → Rests told
   pub few_events : length (events_in told) ≤ 64
   pub few_probes : length (probes_in told) ≤ 64

@@ -1,8 +1,9 @@
 //! The servers that are probed.
 
-ghost use Rattle.std.specs.Prelude.{[], IfNone, IfOk, IfSome, List, None, Some, filter, length, slice_get, vec_capacity, ◌++◌, ◌≡◌, ◌≤◌, ℕ};
-ghost use Rattle.std.specs.List.{position};
-ghost use Rattle.lb_clock.specs.Probes.{Answers, AreFresh, Follows, Unheard, begun, ended, is_of, place_of, stands};
+ghost use Rattle.std.specs.Prelude.{[], IfNone, IfOk, IfSome, List, None, Some, filter, length, slice_get, true, vec_capacity, ◌++◌, ◌∷◌, ◌≡◌, ◌≤◌, ◌⊎◌};
+ghost use Rattle.std.specs.List.{list_any, position};
+ghost use Rattle.lb_clock.specs.Probes.{Answers, AreFresh, AreProbed, Follows, Here, IsAsked, IsDue, IsOver, IsTimely, Unheard, begun, ended, is_of, most_probed, place_of, stands};
+ghost use Rattle.lb_lines.specs.declared.roster.Listed.{Listed};
 ghost use Rattle.lb_clock.specs.declared.watched.Watched.{Watched};
 
 use crate::watched::{SECOND, Waits, Watched};
@@ -57,17 +58,30 @@ impl Probes {
         self.watched.len()
     }
 
-    /// The server at a place, where there is one.
-    pub(crate) fn get(&self, index: usize) -> Option<Watched>
-        ensures { result ≡ slice_get self.now.watched index }
+    /// The server at a place, with its probe, where that is over at this moment.
+    pub(crate) fn over_at(&self, index: usize, now: u64) -> Option<(Watched, Waits)>
+        ensures some { IfSome result (λ r. (slice_get self.now.watched index ≡ Some r.0) × (r.0.waits ≡ Some r.1) × IsOver now r.1) }
+        ensures none { IfNone result (Here (IsTimely now) index self.now.watched) }
     {
-        self.watched.get(index).copied()
+        let watched = self.watched.get(index)?;
+        let waits = watched.over(now)?;
+        Some((*watched, waits))
+    }
+
+    /// The server at a place, and where it is, when its next probe is due at this moment.
+    pub(crate) fn due_at(&self, roster: &Roster, index: usize, now: u64) -> Option<(Watched, Place)>
+        ensures some { IfSome result (λ r. (slice_get self.now.watched index ≡ Some r.0) × IsDue roster.now.listed now r.0 r.1) }
+        ensures none { IfNone result (Here (IsAsked roster.now.listed now) index self.now.watched) }
+    {
+        let watched = self.watched.get(index)?;
+        let place = watched.due(roster, now)?;
+        Some((*watched, place))
     }
 
     /// The servers become those of the roster, where that was changed: one that left, or is at another end, goes, and one that came
     /// begins anew at this moment.
     pub(crate) fn follow(&mut self, roster: &Roster, now: u64)
-        ensures { Follows roster.now self.old self.new }
+        ensures { Follows roster.now now self.old self.new }
     {
         if self.version == Some(roster.version()) {
             return;
@@ -83,11 +97,11 @@ impl Probes {
         ensures none { IfNone result (Unheard now datagram.now self.now.watched) }
     {
         let index = place_of(self.watched.as_slice(), datagram.socket)?;
-        let watched = self.get(index)?;
+        let watched = self.watched.get(index)?;
         let waits = watched.answered(datagram, now)?;
         Some(Answered {
             index,
-            watched,
+            watched: *watched,
             waits,
         })
     }
@@ -103,24 +117,26 @@ impl Probes {
         };
     }
 
-    /// A probe of the server at a place was sent at this moment to this place, or could not be. The next one is due a second later.
+    /// A probe of the server at a place was sent at this moment to this place, or could not be, in a turn that began at that moment. The
+    /// next one is due a second after the turn began.
     pub(crate) fn begin(
         &mut self,
         index: usize,
         watched: Watched,
         place: Place,
+        turn: u64,
         stamp: (u64, u16),
         is_sent: bool,
     )
         requires there { slice_get self.old.watched index ≡ Some watched }
-        ensures { (next : ℕ) × (self.new ≡ begun self.old index watched place (stamp.0, stamp.1) is_sent next) }
+        ensures { self.new ≡ begun self.old index watched place turn (stamp.0, stamp.1) is_sent }
     {
         let (now, word) = stamp;
         self.watched[index] = Watched {
             server: watched.server,
             at: place.at,
             must_resolve: place.must_resolve,
-            next: now.saturating_add(SECOND),
+            next: turn.saturating_add(SECOND),
             waits: Some(Waits {
                 word,
                 sent: now,
@@ -147,6 +163,13 @@ fn index_of(watched: &[Watched], server: ServerId) -> Option<usize>
     watched.iter().position(|w| w.server.0 == server.0)
 }
 
+/// Whether a server is among these.
+fn is_probed(watched: &[Watched], server: ServerId) -> bool
+    ensures { result ≡ list_any (is_of server) watched.now }
+{
+    watched.iter().any(|w| w.server.0 == server.0)
+}
+
 /// Those that are not in the roster at their end any more go.
 fn keep_standing(watched: &mut Vec<Watched>, roster: &Roster)
     ensures items { watched.new.items ≡ filter (stands roster.now.listed) watched.old.items }
@@ -168,7 +191,8 @@ fn stands(roster: &Roster, watched: &Watched) -> bool
 /// The servers of the roster that are not here yet begin.
 fn admit_all(watched: &mut Vec<Watched>, roster: &Roster, now: u64)
     requires room { 256 ≤ vec_capacity watched.old }
-    ensures fresh { (fresh : List Watched) × (watched.new.items ≡ watched.old.items ++ fresh) × AreFresh roster.now.listed watched.old.items fresh }
+    ensures fresh { (fresh : List Watched) × (watched.new.items ≡ watched.old.items ++ fresh) × AreFresh now roster.now.listed watched.old.items fresh }
+    ensures all { AreProbed (length roster.now.listed) roster.now.listed watched.new.items }
     ensures room { vec_capacity watched.new ≡ vec_capacity watched.old }
 {
     for index in 0..roster.len() {
@@ -180,13 +204,14 @@ fn admit_all(watched: &mut Vec<Watched>, roster: &Roster, now: u64)
 /// second that its number tells.
 fn admit(watched: &mut Vec<Watched>, roster: &Roster, index: usize, now: u64)
     requires room { 256 ≤ vec_capacity watched.old }
-    ensures fresh { (fresh : List Watched) × (watched.new.items ≡ watched.old.items ++ fresh) × AreFresh roster.now.listed watched.old.items fresh }
+    ensures fresh { (fresh : List Watched) × (watched.new.items ≡ watched.old.items ++ fresh) × AreFresh now roster.now.listed watched.old.items fresh }
+    ensures here { (l : Listed) → slice_get roster.now.listed index ≡ Some l → (most_probed ≤ length watched.new.items) ⊎ (list_any (is_of l.server) watched.new.items ≡ true) }
     ensures room { vec_capacity watched.new ≡ vec_capacity watched.old }
 {
     let Some((server, _place)) = roster.nth(index) else {
         return;
     };
-    if index_of(watched.as_slice(), server).is_some() || watched.len() >= ROOM {
+    if is_probed(watched.as_slice(), server) || watched.len() >= ROOM {
         return;
     }
     let Some(place) = roster.get(server) else {

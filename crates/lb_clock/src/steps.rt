@@ -1,9 +1,9 @@
 //! What the steps of a turn are made of: each changes one part of the loop.
 
-ghost use Rattle.std.specs.Prelude.{[], IfNone, IfSome, Ok, Some, if◌then◌else◌, slice_get, ◌++◌, ◌∷◌, ◌≡◌, ℕ};
+ghost use Rattle.std.specs.Prelude.{[], IfNone, IfSome, Ok, Some, if◌then◌else◌, slice_get, ◌++◌, ◌∷◌, ◌≡◌};
 ghost use Rattle.lb_clock.specs.Lines.{ProbeComes, is_done, probe_to};
 ghost use Rattle.lb_clock.specs.News.{event_told, source_told};
-ghost use Rattle.lb_clock.specs.Probes.{Answers, Follows, Unheard, begun, ended, place_of};
+ghost use Rattle.lb_clock.specs.Probes.{Answers, Follows, Here, IsAsked, IsDue, IsOver, IsTimely, Unheard, begun, ended, place_of};
 ghost use Rattle.lb_clock.specs.Turn.{FailsBy, Tells};
 ghost use Rattle.lb_lines.specs.Counts.{Fails};
 ghost use Rattle.lb_lines.specs.Lines.{is_by_device};
@@ -15,7 +15,7 @@ use crate::clock::ClockLoop;
 use crate::news::News;
 use crate::probes::Answered;
 use crate::sending::{send_outcome, send_probe};
-use crate::watched::Watched;
+use crate::watched::{Waits, Watched};
 use lb_lines::{
     Datagram, Datagrams, Gate, Line, Outcome, Outside, Place, Posts, Received, Roster, Sending,
     Taker, outcome_of,
@@ -41,7 +41,7 @@ impl<S: Datagrams, P: Posts, T: Taker, O: Outside> ClockLoop<S, P, T, O> {
     /// The servers that are probed become those of the roster.
     pub(crate) fn follow(&mut self, roster: &Roster, now: u64)
         ensures same { self.new ≡ record self.old { probes = self.new.probes } }
-        ensures follows { Follows roster.now self.old.probes self.new.probes }
+        ensures follows { Follows roster.now now self.old.probes self.new.probes }
     {
         self.probes.follow(roster, now);
     }
@@ -65,11 +65,20 @@ impl<S: Datagrams, P: Posts, T: Taker, O: Outside> ClockLoop<S, P, T, O> {
         self.probes.answered(datagram, now)
     }
 
-    /// The server that is probed at a place, where there is one.
-    pub(crate) fn watched(&self, index: usize) -> Option<Watched>
-        ensures { result ≡ slice_get self.now.probes.watched index }
+    /// The server at a place, with its probe, where that is over at this moment.
+    pub(crate) fn over_at(&self, index: usize, now: u64) -> Option<(Watched, Waits)>
+        ensures some { IfSome result (λ r. (slice_get self.now.probes.watched index ≡ Some r.0) × (r.0.waits ≡ Some r.1) × IsOver now r.1) }
+        ensures none { IfNone result (Here (IsTimely now) index self.now.probes.watched) }
     {
-        self.probes.get(index)
+        self.probes.over_at(index, now)
+    }
+
+    /// The server at a place, and where it is, when its next probe is due at this moment.
+    pub(crate) fn due_at(&self, roster: &Roster, index: usize, now: u64) -> Option<(Watched, Place)>
+        ensures some { IfSome result (λ r. (slice_get self.now.probes.watched index ≡ Some r.0) × IsDue roster.now.listed now r.0 r.1) }
+        ensures none { IfNone result (Here (IsAsked roster.now.listed now) index self.now.probes.watched) }
+    {
+        self.probes.due_at(roster, index, now)
     }
 
     /// The probe of the server at a place ends.
@@ -80,19 +89,20 @@ impl<S: Datagrams, P: Posts, T: Taker, O: Outside> ClockLoop<S, P, T, O> {
         self.probes.end(index, watched);
     }
 
-    /// Sends a probe to a server, which has this moment, and its word as ID.
+    /// Sends a probe to a server, which has this moment, and its word as ID, in a turn that began at that moment.
     pub(crate) fn send_probe(
         &mut self,
         index: usize,
         watched: Watched,
         place: Place,
+        turn: u64,
         stamp: (u64, u16),
     ) -> Sending
         requires there { slice_get self.old.probes.watched index ≡ Some watched }
         ensures comes { ProbeComes result }
         ensures taken { self.new.taken ≡ self.old.taken ++ (if is_done result then probe_to watched.server stamp.1 place.at ∷ [] else []) }
         ensures failed { FailsBy (is_by_device result) self.old.failures self.new.failures }
-        ensures begun { (next : ℕ) × (self.new.probes ≡ begun self.old.probes index watched place (stamp.0, stamp.1) (is_done result) next) }
+        ensures begun { self.new.probes ≡ begun self.old.probes index watched place turn (stamp.0, stamp.1) (is_done result) }
         ensures same { self.new ≡ record self.old { probes = self.new.probes; taken = self.new.taken; failures = self.new.failures } }
     {
         let sending = send_probe(
@@ -103,7 +113,7 @@ impl<S: Datagrams, P: Posts, T: Taker, O: Outside> ClockLoop<S, P, T, O> {
             place.at,
         );
         self.probes
-            .begin(index, watched, place, stamp, is_done(sending));
+            .begin(index, watched, place, turn, stamp, is_done(sending));
         sending
     }
 

@@ -46,6 +46,7 @@ impl Tally {
     /// Whether no further event is told.
     pub(crate) fn is_full(&self) -> bool
         ensures full { result ≡ true → length (events_in self.now.lines.items) ≡ 64 }
+        ensures all { result ≡ true → self.now.events ≡ 64 }
         ensures room { result ≡ false → self.now.events < 64 }
     {
         self.events == MOST
@@ -58,7 +59,7 @@ impl Tally {
         requires one { (length (events_in (line ∷ [])) ≡ 1) × (probes_in (line ∷ []) ≡ []) }
         ensures lines { self.new.lines.items ≡ self.old.lines.items ++ line ∷ [] }
         ensures device { self.new.device ≡ or_device self.old.device (if is_by_device (sending_of line) then Some devices.Sockets else None) }
-        ensures count { self.new.events ≡ self.old.events + 1 }
+        ensures count { (self.new.events ≡ self.old.events + 1) × (self.new.probes ≡ self.old.probes) }
     {
         self.note(fault_in(&line));
         self.events += 1;
@@ -72,7 +73,7 @@ impl Tally {
         requires one { (length (probes_in (line ∷ [])) ≡ 1) × (events_in (line ∷ []) ≡ []) }
         ensures lines { self.new.lines.items ≡ self.old.lines.items ++ line ∷ [] }
         ensures device { self.new.device ≡ or_device self.old.device (if is_by_device (sending_of line) then Some devices.Sockets else None) }
-        ensures count { self.new.events ≡ self.old.events }
+        ensures count { (self.new.events ≡ self.old.events) × (self.old.probes ≤ self.new.probes) }
     {
         self.note(fault_in(&line));
         self.probes += 1;

@@ -1,19 +1,23 @@
 //! The turn of the clock.
 
-ghost use Rattle.std.specs.Prelude.{[], IfOk, None, OnErr, ◌+◌, ◌≡◌};
-ghost use Rattle.lb_clock.specs.Acts.{end_of, end_or};
+ghost use Rattle.std.specs.Prelude.{[], IfNone, IfOk, IfSome, None, OnErr, Some, slice_get, ◌++◌, ◌+◌, ◌<◌, ◌∷◌, ◌≡◌, ◌≤◌, ◌⊎◌, ℕ};
+ghost use Rattle.lb_clock.specs.Acts.{Setting, end_of, setting};
 ghost use Rattle.lb_clock.specs.Lines.{is_quiet};
-ghost use Rattle.lb_clock.specs.Turn.{Goes, Rests, Turned};
+ghost use Rattle.lb_clock.specs.Probes.{BeginsAt, Each, EndsAt, Follows, IsAsked, IsDue, IsTimely, ProbesAt};
+ghost use Rattle.lb_clock.specs.Turn.{Goes, Rests, Steps, Turned};
 ghost use Rattle.lb_clock.specs.declared.turn.Step.TheVariants as steps;
+ghost use Rattle.lb_lines.specs.Counts.{Fails};
 ghost use Rattle.lb_lines.specs.Roster.{Rostered};
 
 use crate::clock::ClockLoop;
 use crate::news::News;
 use crate::steps::line_of;
 use crate::tally::{MOST, Tally};
+use crate::watched::Watched;
 use lb_core::Answer;
 use lb_lines::{
-    Datagrams, DeviceFault, Gate, Line, Outcome, Outside, Posts, Received, Report, Roster, Taker,
+    Datagrams, DeviceFault, Gate, Line, Outcome, Outside, Place, Posts, Received, Report, Roster,
+    Taker,
 };
 use std::alloc::AllocError;
 use std::sync::Wait;
@@ -83,12 +87,11 @@ impl<S: Datagrams, P: Posts, T: Taker, O: Outside> ClockLoop<S, P, T, O> {
         gate: &G,
         tally: &mut Tally,
     ) -> Option<End>
-        ensures goes { Goes roster.now 64 self.old self.new tally.old.lines.items tally.new.lines.items tally.old.device tally.new.device result }
-        ensures rests { result ≡ None → Rests tally.new.lines.items }
+        ensures { Steps roster.now self.old self.new tally.old.lines.items tally.new.lines.items tally.old.device tally.new.device result }
     {
-        let begun = match self.begin(roster, tally) {
-            Ok(begun) => begun,
-            Err(end) => return Some(end),
+        let Some(begun) = self.begin(roster) else {
+            tally.note(Some(DeviceFault::Outside));
+            return Some(End::Blind);
         };
         if let Some(end) = self.read_all(rt, gate, tally) {
             return Some(end);
@@ -102,21 +105,19 @@ impl<S: Datagrams, P: Posts, T: Taker, O: Outside> ClockLoop<S, P, T, O> {
         self.tick_all(rt, gate, tally)
     }
 
-    /// The moment at which the turn begins. The servers that are probed become those of the roster.
-    fn begin(&mut self, roster: &Roster, tally: &mut Tally) -> Result<u64, End>
-        ensures goes { Goes roster.now 0 self.old self.new tally.old.lines.items tally.new.lines.items tally.old.device tally.new.device (end_or result) }
+    /// The moment at which the turn begins, where there is one. The servers that are probed become those of the roster.
+    fn begin(&mut self, roster: &Roster) -> Option<u64>
+        ensures begins { IfSome result (λ now. (word : ℕ) × (self.new ≡ record self.old { probes = self.new.probes; said = self.old.said ++ (now, word) ∷ [] }) × Follows roster.now now self.old.probes self.new.probes) }
+        ensures blind { IfNone result ((self.new ≡ record self.old { outside = self.new.outside }) × Fails self.old.outside self.new.outside) }
     {
-        let Some((now, _word)) = self.ask() else {
-            tally.note(Some(DeviceFault::Outside));
-            return Err(End::Blind);
-        };
+        let (now, _word) = self.ask()?;
         self.follow(roster, now);
-        Ok(now)
+        Some(now)
     }
 
     /// Reads at most 64 datagrams.
     fn read_all<R: Wait, G: Gate>(&mut self, rt: &R, gate: &G, tally: &mut Tally) -> Option<End>
-        ensures goes { (roster : Rostered) → Goes roster 64 self.old self.new tally.old.lines.items tally.new.lines.items tally.old.device tally.new.device result }
+        ensures goes { (on : Setting) → Goes on 64 self.old self.new tally.old.lines.items tally.new.lines.items tally.old.device tally.new.device result }
     {
         for _ in 0..MOST {
             match self.read_one(rt, gate, tally) {
@@ -130,7 +131,7 @@ impl<S: Datagrams, P: Posts, T: Taker, O: Outside> ClockLoop<S, P, T, O> {
 
     /// Reads a datagram, which may answer a probe.
     fn read_one<R: Wait, G: Gate>(&mut self, rt: &R, gate: &G, tally: &mut Tally) -> Step
-        ensures goes { (roster : Rostered) → Goes roster 1 self.old self.new tally.old.lines.items tally.new.lines.items tally.old.device tally.new.device (end_of result) }
+        ensures goes { (on : Setting) → Goes on 1 self.old self.new tally.old.lines.items tally.new.lines.items tally.old.device tally.new.device (end_of result) }
     {
         if tally.is_full() {
             return Step::Last;
@@ -167,7 +168,8 @@ impl<S: Datagrams, P: Posts, T: Taker, O: Outside> ClockLoop<S, P, T, O> {
         tally: &mut Tally,
         begun: u64,
     ) -> Option<End>
-        ensures goes { (roster : Rostered) → Goes roster 0 self.old self.new tally.old.lines.items tally.new.lines.items tally.old.device tally.new.device result }
+        ensures goes { (roster : Rostered) → Goes (setting roster begun) 0 self.old self.new tally.old.lines.items tally.new.lines.items tally.old.device tally.new.device result }
+        ensures timely { result ≡ None → (64 ≤ tally.new.events) ⊎ Each (IsTimely begun) self.new.probes.watched }
     {
         for index in 0..self.probes.len() {
             if let Some(end) = self.end_one(rt, gate, tally, begun, index) {
@@ -186,20 +188,18 @@ impl<S: Datagrams, P: Posts, T: Taker, O: Outside> ClockLoop<S, P, T, O> {
         begun: u64,
         index: usize,
     ) -> Option<End>
-        ensures goes { (roster : Rostered) → Goes roster 0 self.old self.new tally.old.lines.items tally.new.lines.items tally.old.device tally.new.device result }
+        ensures goes { (roster : Rostered) → Goes (setting roster begun) 0 self.old self.new tally.old.lines.items tally.new.lines.items tally.old.device tally.new.device result }
+        ensures ended { result ≡ None → EndsAt begun index self.old.probes.watched self.new.probes.watched tally.old.events tally.new.events }
+        ensures probes { tally.new.probes ≡ tally.old.probes }
     {
-        let watched = self.watched(index)?;
-        let waits = watched.waits?;
-        if tally.is_full() || !waits.is_over(begun) {
+        let (watched, waits) = self.over_at(index, begun)?;
+        if tally.is_full() {
             return None;
         }
         let Some((now, _word)) = self.ask() else {
             tally.note(Some(DeviceFault::Outside));
             return Some(End::Blind);
         };
-        if !waits.is_over(now) {
-            return None;
-        }
         let news = News::Result(watched.server, waits.word, false);
         let Some(told) = self.tell(rt, gate, news, now) else {
             return Some(End::Held);
@@ -218,7 +218,9 @@ impl<S: Datagrams, P: Posts, T: Taker, O: Outside> ClockLoop<S, P, T, O> {
         tally: &mut Tally,
         begun: u64,
     ) -> Option<End>
-        ensures goes { Goes roster.now 0 self.old self.new tally.old.lines.items tally.new.lines.items tally.old.device tally.new.device result }
+        ensures goes { Goes (setting roster.now begun) 0 self.old self.new tally.old.lines.items tally.new.lines.items tally.old.device tally.new.device result }
+        ensures timely { result ≡ None → (64 ≤ tally.old.events) ⊎ Each (IsTimely begun) self.old.probes.watched → (64 ≤ tally.new.events) ⊎ Each (IsTimely begun) self.new.probes.watched }
+        ensures asked { result ≡ None → (64 ≤ tally.new.probes) ⊎ Each (IsAsked roster.now.listed begun) self.new.probes.watched }
     {
         for index in 0..self.probes.len() {
             if let Some(end) = self.probe_one(rt, roster, gate, tally, begun, index) {
@@ -238,41 +240,49 @@ impl<S: Datagrams, P: Posts, T: Taker, O: Outside> ClockLoop<S, P, T, O> {
         begun: u64,
         index: usize,
     ) -> Option<End>
-        ensures goes { Goes roster.now 0 self.old self.new tally.old.lines.items tally.new.lines.items tally.old.device tally.new.device result }
+        ensures goes { Goes (setting roster.now begun) 0 self.old self.new tally.old.lines.items tally.new.lines.items tally.old.device tally.new.device result }
+        ensures probed { result ≡ None → ProbesAt roster.now.listed begun index self.old.probes.watched self.new.probes.watched tally.old.events tally.new.events tally.old.probes tally.new.probes }
     {
-        if let Some(end) = self.begin_one(roster, tally, begun, index) {
+        let (watched, place) = self.due_at(roster, index, begun)?;
+        if tally.probes == MOST {
+            return None;
+        }
+        if let Some(end) = self.begin_one(roster, tally, begun, index, watched, place) {
             return Some(end);
         }
         self.end_one(rt, gate, tally, begun, index)
     }
 
-    /// Sends the server at a place a probe, where one is due.
+    /// Sends the server at a place a probe, which is due.
     fn begin_one(
         &mut self,
         roster: &Roster,
         tally: &mut Tally,
         begun: u64,
         index: usize,
+        watched: Watched,
+        place: Place,
     ) -> Option<End>
-        ensures goes { Goes roster.now 0 self.old self.new tally.old.lines.items tally.new.lines.items tally.old.device tally.new.device result }
+        requires there { slice_get self.old.probes.watched index ≡ Some watched }
+        requires due { IsDue roster.now.listed begun watched place }
+        requires room { tally.old.probes < 64 }
+        ensures goes { Goes (setting roster.now begun) 0 self.old self.new tally.old.lines.items tally.new.lines.items tally.old.device tally.new.device result }
+        ensures begun { result ≡ None → BeginsAt begun index self.old.probes.watched self.new.probes.watched }
+        ensures counts { (tally.new.events ≡ tally.old.events) × (tally.old.probes ≤ tally.new.probes) }
     {
-        let watched = self.watched(index)?;
-        let place = watched.due(roster, begun)?;
-        if tally.probes == MOST {
-            return None;
-        }
         let Some(stamp) = self.ask() else {
             tally.note(Some(DeviceFault::Outside));
             return Some(End::Blind);
         };
-        let sending = self.send_probe(index, watched, place, stamp);
+        let sending = self.send_probe(index, watched, place, begun, stamp);
         tally.add_probe(Line::Probe(watched.server, stamp.1, sending));
         None
     }
 
     /// Ticks until the desk has nothing more that is due.
     fn tick_all<R: Wait, G: Gate>(&mut self, rt: &R, gate: &G, tally: &mut Tally) -> Option<End>
-        ensures goes { (roster : Rostered) → Goes roster 0 self.old self.new tally.old.lines.items tally.new.lines.items tally.old.device tally.new.device result }
+        ensures goes { (on : Setting) → Goes on 0 self.old self.new tally.old.lines.items tally.new.lines.items tally.old.device tally.new.device result }
+        ensures same { (self.new.probes ≡ self.old.probes) × (tally.old.events ≤ tally.new.events) × (tally.new.probes ≡ tally.old.probes) }
         ensures rests { result ≡ None → Rests tally.new.lines.items }
     {
         for _ in 0..MOST {
@@ -287,7 +297,8 @@ impl<S: Datagrams, P: Posts, T: Taker, O: Outside> ClockLoop<S, P, T, O> {
 
     /// Tells a tick. It is the last one where nothing more is due, or no further event is told.
     fn tick_one<R: Wait, G: Gate>(&mut self, rt: &R, gate: &G, tally: &mut Tally) -> Step
-        ensures goes { (roster : Rostered) → Goes roster 0 self.old self.new tally.old.lines.items tally.new.lines.items tally.old.device tally.new.device (end_of result) }
+        ensures goes { (on : Setting) → Goes on 0 self.old self.new tally.old.lines.items tally.new.lines.items tally.old.device tally.new.device (end_of result) }
+        ensures same { (self.new.probes ≡ self.old.probes) × (tally.old.events ≤ tally.new.events) × (tally.new.probes ≡ tally.old.probes) }
         ensures rests { result ≡ steps.Last → Rests tally.new.lines.items }
         ensures more { result ≡ steps.More → tally.new.events ≡ tally.old.events + 1 }
     {

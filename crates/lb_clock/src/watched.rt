@@ -1,7 +1,7 @@
 //! A server that is probed.
 
-ghost use Rattle.std.specs.Prelude.{IfNone, IfSome, IsTrue, Some, nat_le, ◌+◌, ◌≡◌};
-ghost use Rattle.lb_clock.specs.Probes.{Answers, IsDue, IsOver, Misses, is_by, is_open, second};
+ghost use Rattle.std.specs.Prelude.{IfNone, IfSome, IsTrue, Some, false, nat_le, true, ◌+◌, ◌≡◌};
+ghost use Rattle.lb_clock.specs.Probes.{Answers, IsAsked, IsDue, IsOver, IsTimely, Misses, is_by, is_open, second};
 
 use lb_health::judge;
 use lb_lines::{Datagram, Endpoint, Place, Roster, Socket};
@@ -46,14 +46,28 @@ impl Waits {
     }
 
     /// Whether the probe is over at this moment: it could not be sent, or it has waited for a second.
-    pub(crate) fn is_over(self, now: u64) -> bool
-        ensures { IsTrue result → IsOver now self }
+    fn is_over(self, now: u64) -> bool
+        ensures over { IsTrue result → IsOver now self }
+        ensures open { result ≡ false → is_open now (Some self) ≡ true }
     {
         !self.is_sent || self.is_late(now)
     }
 }
 
 impl Watched {
+    /// The probe that is under way, where it is over at this moment.
+    pub(crate) fn over(&self, now: u64) -> Option<Waits>
+        ensures some { IfSome result (λ waits. (self.now.waits ≡ Some waits) × IsOver now waits) }
+        ensures none { IfNone result (IsTimely now self.now) }
+    {
+        let waits = self.waits?;
+        if waits.is_over(now) {
+            Some(waits)
+        } else {
+            None
+        }
+    }
+
     /// The probe that a datagram answers at this moment, where it does.
     pub(crate) fn answered(&self, datagram: &Datagram, now: u64) -> Option<Waits>
         ensures answers { IfSome result (λ waits. (self.now.waits ≡ Some waits) × Answers now datagram.now self.now) }
@@ -84,7 +98,8 @@ impl Watched {
 
     /// The place of the server when its next probe is due: where the roster has it in mode auto.
     pub(crate) fn due(&self, roster: &Roster, now: u64) -> Option<Place>
-        ensures { IfSome result (λ place. IsDue roster.now.listed self.now place) }
+        ensures some { IfSome result (λ place. IsDue roster.now.listed now self.now place) }
+        ensures none { IfNone result (IsAsked roster.now.listed now self.now) }
     {
         if self.waits.is_some() || now < self.next {
             return None;

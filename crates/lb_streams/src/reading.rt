@@ -86,7 +86,18 @@ impl<S: Streams> Links<S> {
 
     /// Closes a connection whose peer has closed its side and has all that it waits for. One that was passed over and may be read now is
     /// told to be read once more.
+    #[tactic(auto, using(crate::proofs::Opening::goes_nothing))]
     pub(crate) fn settle(&mut self, number: u64)
+        ensures { Goes self.old self.new none none }
+    {
+        if self.table.is_settled(number) {
+            return;
+        }
+        self.see_to(number);
+    }
+
+    /// The same, where there may be something to do.
+    fn see_to(&mut self, number: u64)
         ensures { Goes self.old self.new none none }
     {
         let Some(mut connection) = self.table.take(number) else {

@@ -259,6 +259,16 @@ impl Connections {
         }
     }
 
+    /// Whether nothing is to be done for a connection but to wait: it is not at its end, and was not passed over.
+    pub(crate) fn is_settled(&self, number: u64) -> bool {
+        match &self.slots[place_of(number)] {
+            Some(connection) if connection.number == number => {
+                !connection.is_passed_over && !connection.is_finished()
+            }
+            _ => true,
+        }
+    }
+
     /// Puts a connection that has a whole message behind those that wait for their turn, where it does not stand there yet. The one error
     /// is want of memory.
     pub(crate) fn enqueue(&mut self, connection: &mut Connection) -> Result<(), AllocError>

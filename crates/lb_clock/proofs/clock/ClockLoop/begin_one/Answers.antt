@@ -1,21 +1,21 @@
-use Rattle.std.proofs.Common.{sym, ap, ◌∙◌}
-use Rattle.lb_clock.proofs.Going.{goes_begun, goes_blind, goes_none}
+use Rattle.std.proofs.Common.{refl, sym, ap, ◌∙◌}
+use Rattle.lb_clock.specs.Acts.{setting}
+use Rattle.lb_clock.specs.Lines.{is_done}
+use Rattle.lb_clock.specs.Probes.{Probed, begun}
+use Rattle.lb_clock.specs.World.{World}
+use Rattle.lb_clock.proofs.Going.{goes_begun, goes_blind}
+use Rattle.lb_clock.proofs.Probing.{begins_at}
 use Rattle.lb_clock.proofs.clock.ClockLoop.begin_one.Goals as goal
 
-pub returns-in_err-watched : goal.returns-in_err-watched
-returns-in_err-watched g c = record { goes = rw c.from_residual.ensures (goes_none c.args.roster.now 0 c.args.self.now c.args.tally.now.lines.items c.args.tally.now.device) }
+pub returns-in_default-clause-goes : goal.returns-in_default-clause-goes
+returns-in_default-clause-goes g c = goes_blind (setting c.args.roster.now c.args.begun) 0 c.args.self.now c.ask.new.self _ _ _ _ c.in_default.ensures.blind (ap (λ v. v.items) c.note.ensures.same.0) c.note.ensures.device
 
-pub returns-in_err-place : goal.returns-in_err-place
-returns-in_err-place g c = record { goes = rw c.from_residual-in_err-place.ensures (goes_none c.args.roster.now 0 c.args.self.now c.args.tally.now.lines.items c.args.tally.now.device) }
+pub returns-clause-goes : goal.returns-clause-goes
+returns-clause-goes g c =
+    goes_begun (setting c.args.roster.now c.args.begun) c.args.self.now c.ask.new.self c.send_probe-sending.new.self (c.in-Some.stamp.0, c.in-Some.stamp.1) c.args.index c.args.watched c.args.place c.send_probe-sending.result _ _ _ _
+    c.in-Some.ensures.said c.requires.there c.requires.due c.send_probe-sending.ensures.comes c.send_probe-sending.ensures.taken c.send_probe-sending.ensures.failed c.send_probe-sending.ensures.begun c.send_probe-sending.ensures.same c.add_probe.ensures.lines c.add_probe.ensures.device
 
-pub returns-then-tally-eq-MOST : goal.returns-then-tally-eq-MOST
-returns-then-tally-eq-MOST g c = record { goes = goes_none c.args.roster.now 0 c.args.self.now c.args.tally.now.lines.items c.args.tally.now.device }
-
-pub returns-in_default : goal.returns-in_default
-returns-in_default g c = record { goes = goes_blind c.args.roster.now 0 c.args.self.now c.ask.new.self _ _ _ _ c.in_default.ensures.blind (ap (λ v. v.items) c.note.ensures.same.0) c.note.ensures.device }
-
-pub returns : goal.returns
-returns g c = record {
-  goes = goes_begun c.args.roster.now c.args.self.now c.ask.new.self c.send_probe-sending.new.self (c.in-Some.stamp.0, c.in-Some.stamp.1) c.args.index c.in_ok-watched.watched c.in_ok-place.place c.send_probe-sending.result c.send_probe-sending.ensures.begun.0 _ _ _ _
-      c.in-Some.ensures.said (sym c.watched.ensures ∙ c.in_ok-watched.was) c.in_ok-place.ensures c.send_probe-sending.ensures.comes c.send_probe-sending.ensures.taken c.send_probe-sending.ensures.failed c.send_probe-sending.ensures.begun.1 c.send_probe-sending.ensures.same c.add_probe.ensures.lines c.add_probe.ensures.device;
-}
+pub returns-clause-begun : goal.returns-clause-begun
+returns-clause-begun g c = λ _.
+    begins_at c.args.begun c.args.index _ _ c.args.watched _ c.requires.there
+    (ap (λ (p : Probed). p.watched) c.send_probe-sending.ensures.begun ∙ ap (λ (w : World). (begun w.probes c.args.index c.args.watched c.args.place c.args.begun (c.in-Some.stamp.0, c.in-Some.stamp.1) (is_done c.send_probe-sending.result)).watched) c.in-Some.ensures.said) refl

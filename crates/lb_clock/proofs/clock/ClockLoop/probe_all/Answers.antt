@@ -1,11 +1,24 @@
+use Rattle.std.proofs.Common.{rules, inl, inr, refl, ◌∙◌, arith}
+use Rattle.lb_clock.specs.Acts.{setting}
+use Rattle.lb_clock.specs.Probes.{IsAsked}
 use Rattle.lb_clock.proofs.Going.{goes_none, goes_on}
+use Rattle.lb_clock.proofs.Probing.{asks_first, first_none, or_all, timely_on}
 use Rattle.lb_clock.proofs.clock.ClockLoop.probe_all.Goals as goal
 
 pub loop-index-init : goal.loop-index-init
-loop-index-init g c = goes_none c.args.roster.now 0 c.args.self.now c.args.tally.now.lines.items c.args.tally.now.device
+loop-index-init g c = (goes_none (setting c.args.roster.now c.args.begun) 0 c.args.self.now c.args.tally.now.lines.items c.args.tally.now.device, refl, λ timely. timely, inr (first_none (IsAsked c.args.roster.now.listed c.args.begun) _))
 
 pub loop-index-preserved : goal.loop-index-preserved
-loop-index-preserved g c = goes_on c.args.roster.now 0 0 _ _ _ _ _ _ _ _ _ _ c.loop-index.invariant c.in_default.ensures.goes
+loop-index-preserved g c =
+    let probed = c.in_default.ensures.probed refl in (
+      goes_on (setting c.args.roster.now c.args.begun) 0 0 _ _ _ _ _ _ _ _ _ _ c.loop-index.invariant.0 c.in_default.ensures.goes,
+      probed.0.0 ∙ c.loop-index.invariant.1,
+      timely_on c.args.roster.now.listed c.args.begun _ _ _ _ _ _ _ _ _ c.loop-index.invariant.2 probed,
+      asks_first c.args.roster.now.listed c.args.begun _ _ _ _ _ _ _ c.loop-index.invariant.3 probed,
+    )
 
-pub returns-in-Some : goal.returns-in-Some
-returns-in-Some g c = record { goes = goes_on c.args.roster.now 0 0 _ _ _ _ _ _ _ _ _ _ c.loop-index.invariant c.in-Some.ensures.goes }
+pub returns-in-Some-clause-goes : goal.returns-in-Some-clause-goes
+returns-in-Some-clause-goes g c = goes_on (setting c.args.roster.now c.args.begun) 0 0 _ _ _ _ _ _ _ _ _ _ c.loop-index.invariant.0 c.in-Some.ensures.goes
+
+pub returns-clause-asked : goal.returns-clause-asked
+returns-clause-asked g c = λ _. or_all (IsAsked c.args.roster.now.listed c.args.begun) _ _ _ (search rules) c.loop-index.invariant.3

@@ -5,7 +5,7 @@ use Rattle.lb_streams.specs.Connection.{Net}
 use Rattle.lb_streams.specs.Goes.{Goes, just, none}
 use Rattle.lb_streams.specs.Table.{Table, at, clients, client_count}
 use Rattle.lb_streams.specs.declared.connection.Connection.{Connection}
-use Rattle.lb_streams.proofs.links.Links.settle.Goals as goal
+use Rattle.lb_streams.proofs.links.Links.see_to.Goals as goal
 
 pub returns-then-is_finished : goal.returns-then-is_finished
 returns-then-is_finished g c =
