@@ -1,1 +1,2 @@
 mod Continuing
+mod Crosses
