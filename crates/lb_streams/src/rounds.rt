@@ -35,8 +35,25 @@ pub(crate) enum Step {
 }
 
 impl<S: Streams, T: Taker, O: Outside, P: Posts> StreamLoop<S, T, O, P> {
+    /// Takes a job, where there may be one, and sends its message.
+    #[tactic(auto, using(crate::proofs::Turning::turns_none))]
+    pub(crate) fn next_job<R: Wait>(
+        &mut self,
+        rt: &R,
+        roster: &Roster,
+        may_have_jobs: bool,
+    ) -> Option<Line>
+        ensures { Turns roster.now.listed 0 1 self.old self.new (option_to_list result) false }
+    {
+        if may_have_jobs {
+            self.one_job(rt, roster)
+        } else {
+            None
+        }
+    }
+
     /// Takes a job, and sends its message.
-    pub(crate) fn one_job<R: Wait>(&mut self, rt: &R, roster: &Roster) -> Option<Line>
+    fn one_job<R: Wait>(&mut self, rt: &R, roster: &Roster) -> Option<Line>
         ensures { Turns roster.now.listed 0 1 self.old self.new (option_to_list result) false }
     {
         let job = self.receiver.receive(rt)?;
@@ -49,9 +66,17 @@ impl<S: Streams, T: Taker, O: Outside, P: Posts> StreamLoop<S, T, O, P> {
         Some(Line::Job(job, sending))
     }
 
+    /// Sees to one socket, where one may have something. Whether there was one.
+    #[tactic(auto, using(crate::proofs::Turning::turns_none))]
+    pub(crate) fn next_arrival(&mut self, roster: &Roster, now: u64, may_be_ready: bool) -> bool
+        ensures { Turns roster.now.listed 0 0 self.old self.new [] false }
+    {
+        may_be_ready && self.one_arrival(roster, now)
+    }
+
     /// Sees to one socket: takes in a client, reads a piece, or writes. Whether there was one.
     #[tactic(auto, using(crate::proofs::Turning::turns_none, crate::proofs::Turning::turns_net))]
-    pub(crate) fn one_arrival(&mut self, roster: &Roster, now: u64) -> bool
+    fn one_arrival(&mut self, roster: &Roster, now: u64) -> bool
         ensures { Turns roster.now.listed 0 0 self.old self.new [] false }
     {
         match self.links.sockets.ready() {

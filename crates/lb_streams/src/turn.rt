@@ -115,21 +115,27 @@ impl<S: Streams, T: Taker, O: Outside, P: Posts> StreamLoop<S, T, O, P> {
         requires room { 128 ≤ vec_capacity lines.old }
         ensures { Turns roster.now.listed 64 64 self.old self.new lines.new.items (is_blind result) }
     {
+        let mut coming = Coming {
+            jobs: true,
+            sockets: true,
+        };
         for _ in 0..MOST {
-            if let Some(end) = self.one_round(rt, roster, gate, now, lines) {
+            if let Some(end) = self.one_round(rt, roster, gate, now, &mut coming, lines) {
                 return end;
             }
         }
         End::Done
     }
 
-    /// A round: a job, what one socket has, and an event. Why the rounds end, where they do.
+    /// A round: a job, what one socket has, and an event. Why the rounds end, where they do. Once there was no job, or no socket
+    /// had anything, none is asked for any more in this turn.
     fn one_round<R: Wait, G: Gate>(
         &mut self,
         rt: &R,
         roster: &Roster,
         gate: &G,
         now: u64,
+        coming: &mut Coming,
         lines: &mut Vec<Line>,
     ) -> Option<End>
         requires room { vec_len lines.old + 2 ≤ vec_capacity lines.old }
@@ -137,15 +143,24 @@ impl<S: Streams, T: Taker, O: Outside, P: Posts> StreamLoop<S, T, O, P> {
         ensures len { vec_len lines.new ≤ vec_len lines.old + 2 }
         ensures capacity { vec_capacity lines.new ≡ vec_capacity lines.old }
     {
-        let job = self.one_job(rt, roster);
-        let had_job = job.is_some();
+        let job = self.next_job(rt, roster, coming.jobs);
+        coming.jobs = job.is_some();
         add_line(lines, job);
-        let was_ready = self.one_arrival(roster, now);
+        coming.sockets = self.next_arrival(roster, now, coming.sockets);
         let step = self.one_event(roster, gate);
-        let end = end_after(&step, had_job || was_ready);
+        let end = end_after(&step, coming.jobs || coming.sockets);
         add_line(lines, line_of(step));
         end
     }
+}
+
+/// What may still come in a turn.
+#[derive(Clone, Copy, Debug)]
+struct Coming {
+    /// A job of another loop.
+    jobs: bool,
+    /// Something that a socket has.
+    sockets: bool,
 }
 
 /// Why the rounds end after this step, where they do.
