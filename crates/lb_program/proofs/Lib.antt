@@ -1,5 +1,4 @@
 pub mod Outputs
-pub mod Asked
 pub mod Replays
 pub mod Takes
 pub mod Texts

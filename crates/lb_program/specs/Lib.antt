@@ -11,4 +11,3 @@ pub mod Replaying
 pub mod Servers
 pub mod Setup
 pub mod Checking
-pub mod Program

@@ -41,7 +41,7 @@ fn check_told<W: Write, F: Write>(
 }
 
 /// Checks what an input holds, which is read whole first: one that fails or is not UTF-8 is a failure, and nothing of it is taken.
-pub(crate) fn check_input<R: Read + Drop, W: Write, F: Write>(
+pub fn check_input<R: Read + Drop, W: Write, F: Write>(
     alloc: Global,
     input: R,
     output: &mut W,

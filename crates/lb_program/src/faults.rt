@@ -41,7 +41,7 @@ pub enum Stop {
 
 impl Stop {
     /// The exit status.
-    pub(crate) fn status(&self) -> u8
+    pub fn status(&self) -> u8
         ensures { result ≡ stop_status self.now }
     {
         match self {
@@ -149,15 +149,15 @@ fn put_number(line: &mut ArrayVec<u8, MAX_TEXT>, number: u64)
 
 /// How a run of lines ended: its exit status, and whether what ended it early was told.
 #[derive(Debug, Drop)]
-pub(crate) struct Ended {
-    pub(crate) status: u8,
+pub struct Ended {
+    pub status: u8,
     /// The error is of the writer for faults.
-    pub(crate) told: io::Result<()>,
+    pub told: io::Result<()>,
 }
 
 impl Ended {
     /// Tells in one line what ended a run of lines early, where something did.
-    pub(crate) fn tell<F: Write>(end: Result<(), Stop>, faults: &mut F) -> Ended
+    pub fn tell<F: Write>(end: Result<(), Stop>, faults: &mut F) -> Ended
         ensures status { result.status ≡ end_status end }
         ensures told { Tells (F.contents faults.old) (F.contents faults.new) (end_text end) result.told }
     {

@@ -47,7 +47,7 @@ pub(crate) fn write_out<W: Write>(output: &mut W, held: &mut Vec<u8>) -> Result<
 }
 
 /// Writes a line out. The line has its line feed.
-pub(crate) fn write_line<W: Write>(output: &mut W, line: &[u8]) -> io::Result<()>
+pub fn write_line<W: Write>(output: &mut W, line: &[u8]) -> io::Result<()>
     ensures front { WritesFront (W.contents output.old) (W.contents output.new) line.now }
     ensures all { OnOk result (Appends (W.contents output.old) (W.contents output.new) line.now) }
 {

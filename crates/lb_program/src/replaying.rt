@@ -37,7 +37,7 @@ pub fn replay<A: AllocGlobal, R: Read + Drop, W: Write, F: Write>(
 }
 
 /// The same, and whether what ended the replay early was told.
-pub(crate) fn replay_told<R: Read + Drop, W: Write, F: Write>(
+pub fn replay_told<R: Read + Drop, W: Write, F: Write>(
     alloc: Global,
     input: R,
     output: &mut W,

@@ -1,4 +1,4 @@
-//! The listeners of datagrams.
+//! The listeners of datagrams, and why listeners were not bound.
 
 ghost use Rattle.std.specs.Prelude.{IfOk, IfSome, is_some, map, ◌≡◌};
 ghost use Rattle.std.specs.Arc.{arc_value};
@@ -19,21 +19,35 @@ use thiserror::Error;
 /// Why listeners were not bound.
 #[derive(Debug, Drop, Error)]
 pub enum BindFault {
-    /// The system does not let a socket listen at this end, and why.
-    #[error("cannot listen at {0}: {1}")]
-    Bind(SocketAddr, io::Error),
+    /// The system does not let a socket listen at this end, which stands at this place of the listen lines, and why.
+    #[error("cannot listen at {at}: {error}")]
+    Bind {
+        place: usize,
+        at: SocketAddr,
+        error: io::Error,
+    },
     /// Memory was wanting.
     #[error("no memory for the listeners")]
     NoMemory,
 }
 
 impl From<AllocError> for BindFault {
+    ghost use Rattle.std.specs.Prelude.{◌≡◌};
+    ghost use Rattle.lb_sockets.specs.declared.listening.BindFault.TheVariants as bind_faults;
+
+    ghost from_gives = { λ _ e. e ≡ bind_faults.NoMemory };
+
     fn from(_refused: AllocError) -> BindFault {
         BindFault::NoMemory
     }
 }
 
 impl<T: Drop> From<AllocFailed<T>> for BindFault {
+    ghost use Rattle.std.specs.Prelude.{◌≡◌};
+    ghost use Rattle.lb_sockets.specs.declared.listening.BindFault.TheVariants as bind_faults;
+
+    ghost from_gives = { λ _ e. e ≡ bind_faults.NoMemory };
+
     fn from(_refused: AllocFailed<T>) -> BindFault {
         BindFault::NoMemory
     }
@@ -78,13 +92,18 @@ pub fn listeners<N: Net>(
 {
     let mut sockets = Vec::with_capacity(alloc, ends.len())?;
     for end in ends {
-        sockets.push(listener(net, *end)?)?;
+        let place = sockets.len();
+        sockets.push(listener(net, place, *end)?)?;
     }
     Ok(Arc::new(alloc, ListenSockets { sockets })?)
 }
 
 /// Binds the listener of one place, if it is to have one.
-fn listener<N: Net>(net: &N, end: Option<Endpoint>) -> Result<Option<UdpSocket>, BindFault>
+fn listener<N: Net>(
+    net: &N,
+    place: usize,
+    end: Option<Endpoint>,
+) -> Result<Option<UdpSocket>, BindFault>
     ensures { IfOk result (λ socket. is_some socket ≡ is_some end) }
 {
     let Some(end) = end else {
@@ -92,6 +111,15 @@ fn listener<N: Net>(net: &N, end: Option<Endpoint>) -> Result<Option<UdpSocket>,
     };
     match bound(net, end) {
         Ok(socket) => Ok(Some(socket)),
-        Err(error) => Err(BindFault::Bind(socket_addr(end), error)),
+        Err(error) => Err(not_bound(place, end, error)),
+    }
+}
+
+/// Why no socket listens at the end of a place.
+pub(crate) fn not_bound(place: usize, end: Endpoint, error: io::Error) -> BindFault {
+    BindFault::Bind {
+        place,
+        at: socket_addr(end),
+        error,
     }
 }

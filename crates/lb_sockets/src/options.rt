@@ -1,11 +1,12 @@
-//! A socket of datagrams, with options that are set before it is bound.
+//! Sockets with options that are set before they are bound.
 
 ghost use Rattle.std.specs.Prelude.{IsOk, length, pos, ◌+◌, ◌↔◌, ◌≤ℤ◌, ◌≤◌};
+ghost use Rattle.libc.specs.Net.{Kind, SockOption};
 
 use crate::addresses::socket_addr;
 use lb_lines::Endpoint;
 use libc::net as c;
-use mio::net::UdpSocket;
+use mio::net::{TcpListener, UdpSocket};
 use os::FromRawFd;
 use std::io;
 use std::net::{Net, SocketAddr};
@@ -14,31 +15,62 @@ use std::os::fd::{AsRawFd, OwnedFd};
 /// The octets that are asked for as room for datagrams that wait to be read. The system may give less.
 const ROOM: i32 = 4_194_304;
 
-/// A socket that never blocks, bound at an end, with wide room for what waits. One of IPv6 takes no datagrams of IPv4.
+/// How many clients may wait: as many as the system lets.
+const BACKLOG: i32 = i32::MAX;
+
+/// A socket of datagrams that never blocks.
+const DATAGRAMS: i32 = c::SOCK_DGRAM | c::SOCK_NONBLOCK | c::SOCK_CLOEXEC;
+
+/// A socket of streams that never blocks.
+const STREAMS: i32 = c::SOCK_STREAM | c::SOCK_NONBLOCK | c::SOCK_CLOEXEC;
+
+/// A socket of datagrams that never blocks, bound at an end, with wide room for what waits. One of IPv6 takes no datagrams of IPv4.
 pub(crate) fn bound<N: Net>(_net: &N, end: Endpoint) -> io::Result<UdpSocket> {
     let address = socket_addr(end);
-    let socket = opened(&address)?;
-    let descriptor = socket.as_raw_fd();
-    let room = value(ROOM);
-    check(unsafe { c::setsockopt(descriptor, c::SOL_SOCKET, c::SO_RCVBUF, &room, 4) })?;
-    if address.is_ipv6() {
-        let on = value(1);
-        check(unsafe { c::setsockopt(descriptor, c::IPPROTO_IPV6, c::IPV6_V6ONLY, &on, 4) })?;
-    }
-    let (octets, len) = laid(&address);
-    check(unsafe { c::bind(descriptor, &octets, len) })?;
+    let socket = opened(&address, DATAGRAMS)?;
+    set(&socket, c::SOL_SOCKET, c::SO_RCVBUF, ROOM)?;
+    bind(&socket, &address)?;
     Ok(UdpSocket::from(socket))
 }
 
-/// A socket of datagrams of the address's family.
-fn opened(address: &SocketAddr) -> io::Result<OwnedFd> {
-    let kind = c::SOCK_DGRAM | c::SOCK_NONBLOCK | c::SOCK_CLOEXEC;
+/// A socket that listens for streams at an end and never blocks, with a long row of clients that may wait. It listens also where connections
+/// of an earlier one have not passed away yet. One of IPv6 takes in no client of IPv4.
+pub(crate) fn listening<N: Net>(_net: &N, end: Endpoint) -> io::Result<TcpListener> {
+    let address = socket_addr(end);
+    let socket = opened(&address, STREAMS)?;
+    set(&socket, c::SOL_SOCKET, c::SO_REUSEADDR, 1)?;
+    bind(&socket, &address)?;
+    check(c::listen(socket.as_raw_fd(), BACKLOG))?;
+    Ok(TcpListener::from(socket))
+}
+
+/// A socket of a kind, of the address's family.
+fn opened(address: &SocketAddr, kind: i32) -> io::Result<OwnedFd>
+    requires { Kind kind }
+{
     let descriptor = match address {
         SocketAddr::V4(_) => unsafe { c::socket(c::AF_INET, kind, 0) },
         SocketAddr::V6(_) => unsafe { c::socket(c::AF_INET6, kind, 0) },
     };
     check(descriptor)?;
     Ok(unsafe { OwnedFd::from_raw_fd(descriptor) })
+}
+
+/// Sets an option of a level to a number.
+fn set(socket: &OwnedFd, level: i32, name: i32, number: i32) -> io::Result<()>
+    requires { SockOption level name }
+{
+    let value = value(number);
+    check(unsafe { c::setsockopt(socket.as_raw_fd(), level, name, &value, 4) })
+}
+
+/// Gives a socket its address. One of IPv6 has nothing of IPv4.
+fn bind(socket: &OwnedFd, address: &SocketAddr) -> io::Result<()> {
+    if address.is_ipv6() {
+        set(socket, c::IPPROTO_IPV6, c::IPV6_V6ONLY, 1)?;
+    }
+    let (octets, len) = laid(address);
+    check(unsafe { c::bind(socket.as_raw_fd(), &octets, len) })
 }
 
 /// An address in the system's layout, with its length (ip(7), ipv6(7)): the family, the port, and the address behind them.

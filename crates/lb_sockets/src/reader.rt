@@ -78,9 +78,9 @@ fn received(wire: Wire<'_>, buffer: &mut [u8]) -> io::Result<(usize, Endpoint)>
 }
 
 /// These octets, in a block of their own; where that is refused, in the room, of which the rest is given back.
-fn copied(alloc: Global, piece: &[u8], room: &mut Vec<u8>) -> Octets
+pub(crate) fn copied(alloc: Global, piece: &[u8], room: &mut Vec<u8>) -> Octets
     requires empty { vec_len room.old ≡ 0 }
-    requires wide { max_message ≤ vec_capacity room.old }
+    requires wide { length piece.now ≤ vec_capacity room.old }
     requires short { length piece.now ≤ max_message }
     ensures octets { result ≡ piece.now }
     ensures empty { vec_len room.new ≡ 0 }

@@ -3,48 +3,31 @@
 ghost use Rattle.std.specs.Prelude.{IfSome, length, ◌<◌, ◌≡◌};
 
 use crate::waker::PollWaker;
+use crate::watch::Watch;
 use lb_lines::WaitFailed;
 use mio::net::UdpSocket;
-use mio::unix::SourceFd;
-use mio::{Events, Interest, Poll, Token, Waker};
+use mio::{Events, Interest};
 use std::alloc::{AllocError, Global};
 use std::io;
-use std::io::ErrorKind;
 use std::net::Net;
-use std::os::fd::AsRawFd;
-use std::time::Duration;
-
-/// The most events that one call of poll gives.
-const EVENTS: usize = 256;
-
-/// The token of wakers, which no place has.
-const WAKE: Token = Token(usize::MAX);
-
-/// The most reads without a look at what became ready: a socket that never runs dry is not to hide the others.
-const READS: u8 = 64;
 
 /// Flags of the sockets that may be read, each at its place. The system tells but once what has come: a socket stays ready until it is said
 /// to be dry.
 #[derive(Drop)]
 pub(crate) struct Readiness {
-    poll: Poll,
-    events: Events,
+    watch: Watch,
     ready: Vec<bool>,
     /// The place that is asked next.
     next: usize,
-    /// How many reads were made since the last look.
-    reads: u8,
 }
 
 impl Readiness {
     /// Of no sockets. The errors are the system's, and want of memory.
     pub(crate) fn made<R: Net>(rt: &R, alloc: Global) -> io::Result<Readiness> {
         Ok(Readiness {
-            poll: Poll::new(rt)?,
-            events: Events::with_capacity(alloc, EVENTS)?,
+            watch: Watch::made(rt, alloc)?,
             ready: Vec::new(alloc),
             next: 0,
-            reads: 0,
         })
     }
 
@@ -56,13 +39,7 @@ impl Readiness {
     /// Has a socket told at a place; what came to it before is told too. The errors are the system's, and want of memory.
     pub(crate) fn add(&mut self, socket: &UdpSocket, place: usize) -> io::Result<()> {
         while_short(&mut self.ready, place)?;
-        let descriptor = socket.as_raw_fd();
-        self.poll.registry().register(
-            &mut SourceFd(&descriptor),
-            Token(place),
-            Interest::READABLE,
-        )?;
-        Ok(())
+        self.watch.add(socket, place, Interest::READABLE)
     }
 
     /// How many places there are.
@@ -86,8 +63,7 @@ impl Readiness {
 
     /// Looks at what became ready, where many reads were made since the last look, and says whether it did. What fails here, a wait tells.
     pub(crate) fn look(&mut self) -> bool {
-        self.reads = self.reads.saturating_add(1);
-        let is_due = self.reads > READS;
+        let is_due = self.watch.is_look_due();
         if is_due {
             let _ = self.poll_for(0);
         }
@@ -102,19 +78,14 @@ impl Readiness {
 
     /// Notes what became ready in so many milliseconds.
     fn poll_for(&mut self, at_most: u64) -> Result<(), WaitFailed> {
-        self.reads = 0;
-        let timeout = Duration::from_millis(at_most);
-        match self.poll.poll(&mut self.events, Some(timeout)) {
-            Err(error) if error.kind() != ErrorKind::Interrupted => return Err(WaitFailed),
-            _ => {}
-        }
-        mark_all(&self.events, &mut self.ready);
+        self.watch.wait(at_most)?;
+        mark_all(self.watch.events(), &mut self.ready);
         Ok(())
     }
 
     /// What ends a wait.
     pub(crate) fn waker(&self) -> io::Result<PollWaker> {
-        Ok(PollWaker::new(Waker::new(self.poll.registry(), WAKE)?))
+        self.watch.waker()
     }
 }
 
@@ -136,7 +107,7 @@ fn mark_all(events: &Events, ready: &mut [bool]) {
 }
 
 /// The first flag that is set, from a place on and then round.
-fn first_from(ready: &[bool], from: usize) -> Option<usize> {
+pub(crate) fn first_from(ready: &[bool], from: usize) -> Option<usize> {
     for place in from..ready.len() {
         if ready[place] {
             return Some(place);

@@ -1,0 +1,11 @@
+-- The console may go to another thread.
+use denote.Param.Send.{IsSend, IsSync, sendable}
+use denote.RattleType.{RattleType}
+use denote.Ref.{NamedLft}
+use Rattle.std.proofs.Crossing.{crosses}
+use Rattle.lb_serve.proofs.console.Console.TheSendSync.{the_send}
+use Rattle.lb_serve.specs.contracts.console.Console as Console
+
+module _ (a : NamedLft) (R T O : RattleType) where
+  pub console_send : IsSync R → IsSend T → IsSend O → IsSend (Console.the_row a R T O)
+  console_send r_sync t_send o_send = search (the_send, sendable, crosses) depth 40 fits 10000

@@ -1,0 +1,2 @@
+mod Crosses
+mod Outputs

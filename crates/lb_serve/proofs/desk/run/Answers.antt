@@ -1,0 +1,8 @@
+use denote.Param.Send.{sendable}
+use Rattle.std.proofs.Crossing.{crosses}
+use Rattle.lb_serve.proofs.desk.run.Goals as goal
+
+pub run_beside-requires-send-T : goal.run_beside-requires-send-T
+run_beside-requires-send-T g c κs within =
+    let caller_send = c.callers_cross_threads.ensures in
+    search (caller_send, sendable, crosses) depth 40 fits 10000

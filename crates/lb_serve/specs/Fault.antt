@@ -1,0 +1,37 @@
+-- What ends serving other than by stop: its status and its text.
+use Rattle.std.specs.Prelude.{ℕ, List, codes}
+use Rattle.std.specs.IoError.{error_kind}
+use Rattle.lb_loops.specs.declared.fault.LoopFault.{LoopFault}
+use Rattle.lb_loops.specs.declared.fault.LoopFault.TheVariants as loops
+use Rattle.lb_program.specs.Faults.{device_text, failure_text, memory_text}
+use Rattle.lb_serve.specs.declared.fault.Fault.{Fault}
+use Rattle.lb_serve.specs.declared.fault.Fault.TheVariants.{NoListener, Http, Bind, System, Loops, Console, Output, Closing, NoMemory}
+use Rattle.lb_sockets.specs.declared.listening.BindFault.{BindFault}
+use Rattle.lb_sockets.specs.declared.listening.BindFault.TheVariants as binding
+
+-- the exit status
+abbrev pub fault_status : Fault → ℕ
+fault_status (Closing fault) = 4
+fault_status _ = 3
+
+-- the text where an address was not bound
+abbrev pub bind_text : BindFault → List ℕ
+bind_text binding.NoMemory = memory_text
+bind_text _ = device_text
+
+-- the text where a loop ended by itself
+abbrev pub loop_text : LoopFault → List ℕ
+loop_text loops.NoMemory = memory_text
+loop_text _ = device_text
+
+-- the text of the status
+abbrev pub fault_text : Fault → List ℕ
+fault_text NoListener = device_text
+fault_text (Http line) = device_text
+fault_text (Bind line fault) = bind_text fault
+fault_text (System error) = failure_text (error_kind error)
+fault_text (Loops fault) = loop_text fault
+fault_text Console = device_text
+fault_text (Output error) = failure_text (error_kind error)
+fault_text (Closing fault) = codes "audit differs\n"
+fault_text NoMemory = memory_text

@@ -1,0 +1,16 @@
+pub use Rattle.lb_command.specs.Commands
+pub use Rattle.lb_core.specs.Plain
+pub use Rattle.lb_core.specs.Snapshot
+pub use Rattle.lb_desk.specs.Book
+pub use Rattle.lb_lines.specs.Counts
+pub use Rattle.lb_lines.specs.Roster
+pub use Rattle.lb_program.specs.Faults
+pub use Rattle.lb_program.specs.Output
+pub use Rattle.lb_program.specs.Servers
+pub use Rattle.lb_program.specs.Setup
+pub mod Fault
+pub mod Listening
+pub mod Operator
+pub mod Sentences
+pub mod Serving
+pub mod Typed

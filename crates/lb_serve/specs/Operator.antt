@@ -1,0 +1,90 @@
+-- What the console says to an operator's lines.
+use Rattle.std.specs.Prelude.{◌≡◌, ◌⊎◌, ◌==◌, if◌then◌else◌, ℕ, ◌+◌, ◌++◌, List, [], ◌∷◌, length, codes, string_bytes, Option, Some, Result, Ok, Err}
+use Rattle.std.specs.Fmt.{decimal}
+use Rattle.std.specs.Int.NonZero.{non_zero_u16_get}
+use Rattle.lb_command.specs.Answers.{line_of}
+use Rattle.lb_command.specs.Commands.{command_of}
+use Rattle.lb_command.specs.Fault.{fault_name, fault_number}
+use Rattle.lb_command.specs.declared.fault.CommandFault.{CommandFault}
+use Rattle.lb_command.specs.declared.fault.FaultKind.TheVariants as kinds
+use Rattle.lb_core.specs.declared.answer.Answer.{Answer}
+use Rattle.lb_core.specs.declared.command.Command.{Command}
+use Rattle.lb_core.specs.declared.event.Event.{Event}
+use Rattle.lb_core.specs.declared.event.Event.TheVariants.{Edit}
+use Rattle.lb_desk.specs.declared.fault.DeskFault.{DeskFault}
+use Rattle.lb_desk.specs.declared.fault.DeskFault.TheVariants as calling
+use Rattle.lb_lines.specs.Counts.{Grows}
+use Rattle.lb_program.specs.Servers.{followed, stated_by}
+use Rattle.lb_program.specs.declared.servers.ServerPlace.{ServerPlace}
+use Rattle.lb_lines.specs.declared.endpoint.Endpoint.{Endpoint}
+use Rattle.lb_lines.specs.Roster.{Rostered, most_servers, others, place_in}
+use Rattle.lb_lines.specs.declared.roster.Place.{Place}
+use Rattle.lb_wire.specs.declared.ids.ServerId.{ServerId}
+use Rattle.lb_serve.specs.declared.operator.Said.{Said}
+use Rattle.lb_serve.specs.declared.operator.Said.TheVariants.{Line, Stop}
+
+-- where a server is, as the loops have to know it
+abbrev pub place_of : ServerPlace → Place
+place_of server = record { at = record { addr = server.addr; port = non_zero_u16_get server.port }; mode = server.mode; must_resolve = server.must_resolve }
+
+-- a server is put into a roster, or 256 others stand in it, and then nothing has changed
+abbrev pub Puts : ServerPlace → Rostered → Rostered → Type 0
+Puts server old new =
+    ((s : ServerId) → place_in s new.listed ≡ (if server.id.0 == s.0 then Some (place_of server) else place_in s old.listed))
+    ⊎ ((length (others server.id old.listed) ≡ most_servers) × (new ≡ old))
+
+-- the line that tells the fault of a line
+abbrev pub fault_text : CommandFault → List ℕ
+fault_text fault = codes "fault " ++ decimal fault.place ++ codes " " ++ decimal (fault_number fault.kind) ++ codes " " ++ fault_name fault.kind
+
+-- the line that tells that the desk took no event
+abbrev pub desk_text : DeskFault → List ℕ
+desk_text calling.CountFull = codes "desk 1 CountFull"
+desk_text calling.NoMemory = codes "desk 2 NoMemory"
+
+-- what was said is this line
+abbrev pub IsLine : Said → List ℕ → Type 0
+IsLine (Line text) line = string_bytes text ≡ line
+IsLine Stop line = ⊥
+
+-- the number of a handler's answered calls, its pairs, and the servers
+pub record Told : Type 0 where
+  pub answered : ℕ
+  pub pairs : List (Event × Answer)
+  pub servers : List ServerPlace
+
+-- a line is told a fault for want of memory, and nothing was done
+pub record Wants (said : Said) (old new : Told) : Type 0 where
+  pub fault : CommandFault
+  pub kind : fault.kind ≡ kinds.NoMemory
+  pub is : IsLine said (fault_text fault)
+  pub same : new ≡ old
+
+-- the desk took no event
+pub record Refuses (said : Said) (old new : Told) : Type 0 where
+  pub fault : DeskFault
+  pub is : IsLine said (desk_text fault)
+  pub same : new ≡ old
+
+-- a command was an edit, which was answered so; the list of servers follows it
+pub record Answers (command : Command) (said : Said) (old new : Told) : Type 0 where
+  pub now : ℕ
+  pub answer : Answer
+  pub is : IsLine said (line_of answer)
+  pub counted : new.answered ≡ old.answered + 1
+  pub pair : Grows old.pairs new.pairs ((Edit now command, answer) ∷ [])
+  pub followed : new.servers ≡ followed (stated_by command) answer old.servers
+
+-- what came of a line with this command
+abbrev pub Took : Command → Said → Told → Told → Type 0
+Took command said old new = Answers command said old new ⊎ (Refuses said old new ⊎ Wants said old new)
+
+-- what came of a line by what it is read as
+abbrev pub BySaid : Result Command CommandFault → Said → Told → Told → Type 0
+BySaid (Ok command) said old new = Took command said old new ⊎ Wants said old new
+BySaid (Err fault) said old new = (IsLine said (fault_text fault) × (new ≡ old)) ⊎ Wants said old new
+
+-- what came of a line: it ends serving, or is answered by what it is read as
+abbrev pub Says : List ℕ → Said → Told → Told → Type 0
+Says line Stop old new = (line ≡ codes "stop") × (new ≡ old)
+Says line (Line text) old new = BySaid (command_of line) (Line text) old new

@@ -1,0 +1,231 @@
+//! The console: one client after the other, each asked by lines.
+
+use crate::client::{Client, Progress};
+use crate::fault::Fault;
+use crate::halt::Halt;
+use crate::operator::Operator;
+use lb_loops::{Outside, Taker};
+use mio::event::Event;
+use mio::net::{TcpListener, TcpStream};
+use mio::unix::SourceFd;
+use mio::{Events, Interest, Poll, Token, Waker};
+use std::alloc::Global;
+use std::io;
+use std::io::ErrorKind;
+use std::net::Net;
+use std::os::fd::AsRawFd;
+use std::sync::Wait;
+use std::time::{Clock, Duration, Instant};
+
+/// What wakes the console.
+const WAKE: Token = Token(0);
+
+const LISTENER: Token = Token(1);
+
+const CLIENT: Token = Token(2);
+
+/// The most events that one look gives.
+const EVENTS: usize = 8;
+
+/// How long a client that ends no line is served where another one waits, in milliseconds.
+const PATIENCE: u64 = 60_000;
+
+/// How long to wait before a client is asked for again that could not be taken in, in milliseconds.
+const AGAIN: u64 = 100;
+
+/// The console's thread: its listeners, the client that is served, and what answers its lines.
+#[derive(Drop)]
+pub(crate) struct Console<'a, R: Wait + Clock, T: Taker, O: Outside> {
+    rt: &'a R,
+    alloc: Global,
+    poll: Poll,
+    events: Events,
+    listeners: Vec<TcpListener>,
+    client: Option<Client>,
+    /// When the client last ended a line, or came.
+    since: Option<Instant>,
+    /// Whether another client may wait.
+    has_others: bool,
+    operator: Operator<T, O>,
+    halt: Halt,
+    /// What ended it but a client's word or the loops.
+    fault: Option<Fault>,
+}
+
+impl<'a, R: Wait + Clock, T: Taker, O: Outside> Console<'a, R, T, O> {
+    /// One that listens with these. The errors are the system's, and want of memory.
+    pub(crate) fn made<N: Net>(
+        rt: &'a R,
+        net: &N,
+        alloc: Global,
+        listeners: Vec<TcpListener>,
+        operator: Operator<T, O>,
+        halt: Halt,
+    ) -> io::Result<Console<'a, R, T, O>> {
+        let poll = Poll::new(net)?;
+        for listener in &listeners {
+            watch(&poll, listener, LISTENER)?;
+        }
+        Ok(Console {
+            rt,
+            alloc,
+            poll,
+            events: Events::with_capacity(alloc, EVENTS)?,
+            listeners,
+            client: None,
+            since: None,
+            has_others: true,
+            operator,
+            halt,
+            fault: None,
+        })
+    }
+
+    /// What ends its wait.
+    pub(crate) fn waker(&self) -> io::Result<Waker> {
+        Waker::new(self.poll.registry(), WAKE)
+    }
+
+    /// The handler of events, the client that said stop, and what ended the console by itself.
+    pub(crate) fn into_parts(self) -> (T, Option<TcpStream>, Option<Fault>) {
+        let Console {
+            client,
+            operator,
+            fault,
+            ..
+        } = self;
+        (
+            operator.into_taker(),
+            client.map(Client::into_stream),
+            fault,
+        )
+    }
+
+    /// Serves clients until one says stop or the loops have ended; the loops end too. It gives itself back.
+    pub(crate) fn run(mut self) -> Console<'a, R, T, O> {
+        if let Err(fault) = self.serve() {
+            self.fault = Some(fault);
+        }
+        self.halt.halt();
+        self
+    }
+
+    /// Serves clients until serving ends.
+    fn serve(&mut self) -> Result<(), Fault> {
+        let rt = self.rt;
+        for _ in rt.forever() {
+            if self.halt.is_over() {
+                return Ok(());
+            }
+            self.serve_on()?;
+        }
+        unreachable!()
+    }
+
+    /// The next thing that can be done: a step with the client, or to take one in, or to wait.
+    fn serve_on(&mut self) -> Result<(), Fault> {
+        let Some(client) = &mut self.client else {
+            return self.take_in();
+        };
+        match client.step(self.rt, &mut self.operator)? {
+            Progress::Went => Ok(()),
+            Progress::Answered => self.note_time(),
+            Progress::Blocked => self.wait_for_client(),
+            Progress::Ended => {
+                self.client = None;
+                Ok(())
+            }
+            Progress::Stop => {
+                self.halt.halt();
+                Ok(())
+            }
+        }
+    }
+
+    /// Takes in a client that waits, or waits for one.
+    fn take_in(&mut self) -> Result<(), Fault> {
+        match accepted(self.listeners.as_slice()) {
+            Ok(stream) => self.welcome(stream),
+            Err(error) if error.kind() == ErrorKind::WouldBlock => {
+                self.has_others = false;
+                self.wait(None)
+            }
+            // The client left while it waited, or no descriptor is to be had: no further edge tells of it.
+            Err(_) => self.wait(Some(Duration::from_millis(AGAIN))),
+        }
+    }
+
+    /// Serves a client from now on. Where the system or memory is wanting for it, it is closed.
+    fn welcome(&mut self, stream: TcpStream) -> Result<(), Fault> {
+        let _ = stream.set_nodelay(true);
+        if watch(&self.poll, &stream, CLIENT).is_ok() {
+            self.client = Client::new(self.alloc, stream).ok();
+        }
+        self.note_time()
+    }
+
+    /// Notes that the client was served now.
+    fn note_time(&mut self) -> Result<(), Fault> {
+        self.since = Some(Instant::now(self.rt)?);
+        Ok(())
+    }
+
+    /// Waits for the client; where another one waits, it is closed once it ended no line for a minute.
+    fn wait_for_client(&mut self) -> Result<(), Fault> {
+        if !self.has_others {
+            return self.wait(None);
+        }
+        let patience = Duration::from_millis(PATIENCE);
+        let past = match &self.since {
+            Some(since) => since.elapsed(self.rt)?,
+            None => patience,
+        };
+        match patience.checked_sub(past) {
+            Some(left) if !left.is_zero() => self.wait(Some(left)),
+            _ => {
+                self.client = None;
+                Ok(())
+            }
+        }
+    }
+
+    /// Waits until something comes, or for so long.
+    fn wait(&mut self, at_most: Option<Duration>) -> Result<(), Fault> {
+        match self.poll.poll(&mut self.events, at_most) {
+            Err(error) if error.kind() != ErrorKind::Interrupted => return Err(Fault::System(
+                error,
+            )),
+            _ => {}
+        }
+        self.has_others |= self.events.iter().any(is_listeners);
+        Ok(())
+    }
+}
+
+/// A client that waits at one of these. With none, the error is the first but `WouldBlock`, or that.
+fn accepted(listeners: &[TcpListener]) -> io::Result<TcpStream> {
+    let mut none = io::Error::from(ErrorKind::WouldBlock);
+    for listener in listeners {
+        match listener.accept() {
+            Ok((stream, _)) => return Ok(stream),
+            Err(error) if error.kind() == ErrorKind::WouldBlock => {}
+            Err(error) => none = error,
+        }
+    }
+    Err(none)
+}
+
+/// Whether a client came.
+fn is_listeners(event: &Event) -> bool {
+    event.token() == LISTENER
+}
+
+/// Has a socket told.
+fn watch<S: AsRawFd>(poll: &Poll, socket: &S, token: Token) -> io::Result<()> {
+    let descriptor = socket.as_raw_fd();
+    poll.registry().register(
+        &mut SourceFd(&descriptor),
+        token,
+        Interest::READABLE | Interest::WRITABLE,
+    )
+}

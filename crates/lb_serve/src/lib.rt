@@ -1,0 +1,19 @@
+//! What `lb serve` does: it sets a balancer up by a file, listens, and has the loops run, each in a thread of its own, with a console
+//! beside them, until the console says stop.
+#![tactic(auto)]
+
+mod client;
+mod console;
+mod descriptors;
+mod desk;
+mod fault;
+mod halt;
+mod listening;
+mod nothing;
+mod operator;
+mod sentences;
+mod serving;
+mod threads;
+mod typed;
+
+pub use serving::{serve, serve_told, tell_unreadable};

@@ -1,0 +1,150 @@
+//! What the lines of a setup file listen with, each at its place.
+
+ghost use Rattle.std.specs.Prelude.{IfOk, map, ◌≡◌};
+ghost use Rattle.lb_serve.specs.Listening as spec;
+
+use crate::fault::Fault;
+use lb_command::{Listener, Protocol, begins_listen};
+use lb_loops::{Endpoint, Front};
+use lb_sockets::{
+    BindFault, ListenSockets, TcpListeners, listener_at, listeners, stream_listeners,
+};
+use mio::net::TcpListener;
+use std::alloc::{AllocError, Global};
+use std::net::Net;
+use std::sync::Arc;
+
+/// The sockets that listen.
+#[derive(Drop)]
+pub(crate) struct Listening {
+    pub(crate) datagrams: Arc<ListenSockets>,
+    pub(crate) streams: TcpListeners,
+    pub(crate) consoles: Vec<TcpListener>,
+}
+
+/// Binds all addresses of a setup file's lines, which this text has. Refused, none stays bound: by the first of them that the system does not give, by a line that listens for
+/// DNS on HTTP, and where no line listens.
+pub(crate) fn listen<N: Net>(
+    net: &N,
+    alloc: Global,
+    text: &str,
+    lines: &[Listener],
+) -> Result<Listening, Fault> {
+    if lines.is_empty() {
+        return Err(Fault::NoListener);
+    }
+    if let Some(place) = lines.iter().position(is_http) {
+        return Err(Fault::Http(line_of(text, place)));
+    }
+    match bound(net, alloc, lines) {
+        Ok(listening) => Ok(listening),
+        Err(fault) => Err(refused(text, fault)),
+    }
+}
+
+/// Binds the addresses.
+fn bound<N: Net>(net: &N, alloc: Global, lines: &[Listener]) -> Result<Listening, BindFault> {
+    let datagrams = ends(alloc, lines, Protocol::Udp)?;
+    let streams = ends(alloc, lines, Protocol::Tcp)?;
+    Ok(Listening {
+        datagrams: listeners(net, alloc, datagrams.as_slice())?,
+        streams: stream_listeners(net, alloc, streams.as_slice())?,
+        consoles: consoles(net, alloc, lines)?,
+    })
+}
+
+/// The listeners of the console.
+fn consoles<N: Net>(
+    net: &N,
+    alloc: Global,
+    lines: &[Listener],
+) -> Result<Vec<TcpListener>, BindFault> {
+    let mut consoles = Vec::with_capacity(alloc, lines.len())?;
+    for (place, line) in lines.iter().enumerate() {
+        if line.protocol == Protocol::Console {
+            consoles.push(listener_at(net, place, end_of(line))?)?;
+        }
+    }
+    Ok(consoles)
+}
+
+/// The fault of an address that was not bound, with the number of its line.
+fn refused(text: &str, fault: BindFault) -> Fault {
+    match fault {
+        BindFault::Bind { place, .. } => Fault::Bind(line_of(text, place), fault),
+        BindFault::NoMemory => Fault::Bind(0, fault),
+    }
+}
+
+fn is_http(line: &Listener) -> bool {
+    line.protocol == Protocol::Doh
+}
+
+/// The end that a line listens at.
+fn end_of(line: &Listener) -> Endpoint
+    ensures { result ≡ spec.end_of line.now }
+{
+    Endpoint {
+        addr: line.addr,
+        port: line.port.get(),
+    }
+}
+
+/// The ends of the lines of a protocol, each at its place; those of others have none.
+fn ends(
+    alloc: Global,
+    lines: &[Listener],
+    protocol: Protocol,
+) -> Result<Vec<Option<Endpoint>>, AllocError>
+    ensures { IfOk result (λ ends. ends.items ≡ map (spec.end_by protocol) lines.now) }
+{
+    lines
+        .iter()
+        .map(|line| end_by(protocol, line))
+        .collect(alloc)
+}
+
+/// The end of a line, where it is of this protocol.
+fn end_by(protocol: Protocol, line: &Listener) -> Option<Endpoint>
+    ensures { result ≡ spec.end_by protocol line.now }
+{
+    if line.protocol == protocol {
+        Some(end_of(line))
+    } else {
+        None
+    }
+}
+
+/// What listens at each place. The one error is want of memory.
+pub(crate) fn fronts(alloc: Global, lines: &[Listener]) -> Result<Vec<Front>, AllocError>
+    ensures { IfOk result (λ fronts. fronts.items ≡ map spec.front_of lines.now) }
+{
+    lines.iter().map(front_of).collect(alloc)
+}
+
+fn front_of(line: &Listener) -> Front
+    ensures { result ≡ spec.front_of line.now }
+{
+    match line.protocol {
+        Protocol::Udp => Front::Datagram,
+        Protocol::Tcp => Front::Stream,
+        Protocol::Doh => Front::Http,
+        Protocol::Console => Front::Console,
+    }
+}
+
+/// The number, from 1, of the line that listens with so many such lines before it.
+pub(crate) fn line_of(text: &str, place: usize) -> u64 {
+    let mut number = 0u64;
+    let mut before = 0usize;
+    for line in text.lines() {
+        number = number.saturating_add(1);
+        if begins_listen(line) {
+            if before == place {
+                return number;
+            }
+            before = before.wrapping_add(1);
+        }
+    }
+    number
+}

@@ -1,0 +1,197 @@
+//! The operator's lines, each answered by a line.
+
+ghost use Rattle.std.specs.Prelude.{IfOk, string_bytes, ◌≡◌};
+ghost use Rattle.lb_command.specs.Reading.{max_line};
+ghost use Rattle.lb_command.specs.declared.fault.CommandFault.{CommandFault};
+ghost use Rattle.lb_command.specs.declared.fault.FaultKind.TheVariants as kinds;
+ghost use Rattle.lb_serve.specs.Operator as spec;
+ghost use Rattle.lb_serve.specs.Operator.{IsLine, Puts, Says, Took, desk_text, fault_text};
+
+use crate::fault::Fault;
+use lb_command::{CommandFault, FaultKind, answer_line, read_command};
+use lb_core::{Answer, BoxedCommand, Command, Event, Note};
+use lb_desk::DeskFault;
+use lb_loops::{Endpoint, Outside, Place, Roster, RosterFull, Taker};
+use lb_program::{Expected, ServerList, ServerPlace};
+use lb_wire::ServerId;
+use std::alloc::{AllocError, Global};
+use std::sync::{Arc, Mutex, Wait};
+
+/// What comes of a line.
+#[derive(Debug, Drop)]
+pub(crate) enum Said {
+    /// It is answered by this line, which has no line feed yet.
+    Line(String),
+    /// Serving is to end.
+    Stop,
+}
+
+/// What answers an operator's lines: a handler of events, the moments of edits, the servers as the edits leave them, and the roster by
+/// which the loops find them.
+#[derive(Drop)]
+pub(crate) struct Operator<T: Taker, O: Outside> {
+    alloc: Global,
+    taker: T,
+    outside: O,
+    servers: ServerList,
+    roster: Arc<Mutex<Roster>>,
+}
+
+impl<T: Taker, O: Outside> Operator<T, O> {
+    /// One that was told no line. The roster is that of these servers.
+    pub(crate) fn new(
+        alloc: Global,
+        taker: T,
+        outside: O,
+        servers: ServerList,
+        roster: Arc<Mutex<Roster>>,
+    ) -> Operator<T, O>
+        ensures { (result.taker ≡ taker) × (result.outside ≡ outside) × (result.servers ≡ servers) }
+    {
+        Operator {
+            alloc,
+            taker,
+            outside,
+            servers,
+            roster,
+        }
+    }
+
+    /// The handler of events, when the console has ended.
+    pub(crate) fn into_taker(self) -> T
+        ensures { result ≡ self.taker }
+    {
+        let Operator { taker, .. } = self;
+        taker
+    }
+
+    /// Answers a line: a command is carried out by the desk, and its answer is told; a line that does not read is told its fault. Where no
+    /// moment is to be had, or no memory for the answer, there is none.
+    pub(crate) fn answer<R: Wait>(&mut self, rt: &R, line: &str) -> Result<Said, Fault>
+        ensures { IfOk result (λ said. Says line.now said (record { answered = T.answered self.old.taker; pairs = T.pairs self.old.taker; servers = self.old.servers }) (record { answered = T.answered self.new.taker; pairs = T.pairs self.new.taker; servers = self.new.servers })) }
+    {
+        if line == "stop" {
+            return Ok(Said::Stop);
+        }
+        match read_command(self.alloc, line) {
+            Ok(command) => self.edit(rt, line, command),
+            Err(fault) => Ok(Said::Line(fault_line(self.alloc, fault)?)),
+        }
+    }
+
+    /// Tells the fault of a line of over 300,000 bytes.
+    pub(crate) fn too_long(&self) -> Result<Said, Fault>
+        ensures { IfOk result (λ said. IsLine said (fault_text (record { place = max_line; kind = kinds.Extra }))) }
+    {
+        Ok(Said::Line(fault_line(self.alloc, CommandFault::too_long())?))
+    }
+
+    /// Carries out the command of a line.
+    fn edit<R: Wait>(&mut self, rt: &R, line: &str, command: Command) -> Result<Said, Fault>
+        ensures { IfOk result (λ said. Took command said (record { answered = T.answered self.old.taker; pairs = T.pairs self.old.taker; servers = self.old.servers }) (record { answered = T.answered self.new.taker; pairs = T.pairs self.new.taker; servers = self.new.servers })) }
+    {
+        let Some((now, _)) = self.outside.ask() else {
+            return Err(Fault::Console);
+        };
+        let command = match BoxedCommand::new(self.alloc, command) {
+            Ok(command) => command,
+            Err(refused) => return self.wanting(line, refused),
+        };
+        let expected = Expected::of(command.get());
+        match self.taker.take(Event::Edit { now, command }) {
+            Ok(answer) => {
+                self.servers.follow(expected, &answer);
+                self.tell_loops(rt, &answer);
+                Ok(Said::Line(answer_line(self.alloc, &answer)?))
+            }
+            Err((fault, _)) => {
+                expected.let_go();
+                Ok(Said::Line(String::from_str(self.alloc, desk_line(fault))?))
+            }
+        }
+    }
+
+    /// Tells the fault of a line for whose command no memory is to be had: its place is the line's end.
+    fn wanting(&self, line: &str, refused: AllocError) -> Result<Said, Fault>
+        ensures { IfOk result (λ said. (fault : CommandFault) × (fault.kind ≡ kinds.NoMemory) × IsLine said (fault_text fault)) }
+    {
+        let fault = CommandFault {
+            place: line.len(),
+            kind: FaultKind::from(refused),
+        };
+        Ok(Said::Line(fault_line(self.alloc, fault)?))
+    }
+
+    /// Tells the loops where a server is of which an edit was carried out. The roster's lock is taken for that alone.
+    fn tell_loops<R: Wait>(&self, rt: &R, answer: &Answer) {
+        let Answer::Edited(note) = answer else {
+            return;
+        };
+        match note {
+            Note::ServerAdded(id) | Note::ServerMode(id, _) => {
+                if let Some(server) = listed(self.servers.as_slice(), *id) {
+                    put(&mut self.roster.lock(rt), server);
+                }
+            }
+            Note::ServerRemoved(id) => self.roster.lock(rt).remove(*id),
+            _ => {}
+        }
+    }
+}
+
+/// The server of a list with this number.
+fn listed(servers: &[ServerPlace], id: ServerId) -> Option<&ServerPlace> {
+    servers.iter().find(|server| server.id.0 == id.0)
+}
+
+/// Where a server is, as the loops have to know it.
+fn place_of(server: &ServerPlace) -> Place
+    ensures { result ≡ spec.place_of server.now }
+{
+    Place {
+        at: Endpoint {
+            addr: server.addr,
+            port: server.port.get(),
+        },
+        mode: server.mode,
+        must_resolve: server.must_resolve,
+    }
+}
+
+/// Has the loops know where a server is. A list of servers has 256 at most, so that there is room for it.
+fn put(roster: &mut Roster, server: &ServerPlace)
+    ensures { Puts server.now roster.old roster.new }
+{
+    match roster.put(server.id, place_of(server)) {
+        Ok(()) | Err(RosterFull) => {}
+    }
+}
+
+/// The roster of a list of servers. The one error is want of memory.
+pub(crate) fn roster_of(alloc: Global, servers: &[ServerPlace]) -> Result<Roster, AllocError> {
+    let mut roster = Roster::made(alloc)?;
+    for server in servers {
+        put(&mut roster, server);
+    }
+    Ok(roster)
+}
+
+/// The line that tells the fault of a line.
+fn fault_line(alloc: Global, fault: CommandFault) -> Result<String, AllocError>
+    ensures { IfOk result (λ text. string_bytes text ≡ fault_text fault) }
+{
+    let place = fault.place;
+    let number = fault.kind.number();
+    let name = fault.kind.name();
+    format!(in alloc; "fault {place} {number} {name}")
+}
+
+/// The line that tells that the desk took no event.
+fn desk_line(fault: DeskFault) -> &'static str
+    ensures { result.now ≡ desk_text fault }
+{
+    match fault {
+        DeskFault::CountFull => "desk 1 CountFull",
+        DeskFault::NoMemory => "desk 2 NoMemory",
+    }
+}

@@ -1,0 +1,104 @@
+//! Sentences for an operator, on standard error: each is a line that begins with `lb: `.
+
+ghost use Rattle.std.specs.Prelude.{string_bytes, true, ◌≡◌};
+ghost use Rattle.lb_serve.specs.Sentences.{are_sentences};
+
+use crate::descriptors::{WANTED, limit};
+use crate::fault::Fault;
+use crate::listening::line_of;
+use lb_command::{Listener, Protocol};
+use lb_sockets::BindFault;
+use lb_wire::Addr;
+use std::alloc::{AllocError, Global};
+use std::fmt::Write;
+use std::io;
+
+/// Sentences that are still to be told.
+#[derive(Debug, Drop)]
+pub(crate) struct Sentences {
+    text: String,
+    ghost marked: { are_sentences (string_bytes text) ≡ true },
+}
+
+impl Sentences {
+    /// None. It takes no memory.
+    pub(crate) fn none(alloc: Global) -> Sentences {
+        Sentences {
+            text: String::new(alloc),
+        }
+    }
+
+    /// What is told, in lines.
+    pub(crate) fn as_bytes(&self) -> &[u8]
+        ensures { are_sentences result.now ≡ true }
+    {
+        self.text.as_bytes()
+    }
+
+    /// Adds a sentence.
+    fn add(&mut self, alloc: Global, words: String) -> Result<(), AllocError> {
+        let line = format!(in alloc; "lb: {words}\n")?;
+        self.text.push_str(line.as_str())
+    }
+
+    /// What an operator should know before the program serves: that it may have few descriptors, and that answers to a wildcard address
+    /// leave by the system's choice.
+    pub(crate) fn warn(
+        &mut self,
+        alloc: Global,
+        text: &str,
+        lines: &[Listener],
+    ) -> Result<(), AllocError> {
+        if let Some(limit) = limit()
+            && limit < WANTED
+        {
+            let words = format!(in alloc;
+                "the system allows {limit} descriptors; with 1,024 clients of streams and 256 servers {WANTED} are needed (ulimit -n {WANTED})"
+            )?;
+            self.add(alloc, words)?;
+        }
+        for (place, line) in lines.iter().enumerate() {
+            if line.protocol == Protocol::Udp && is_wildcard(line.addr) {
+                let number = line_of(text, place);
+                let words = format!(in alloc;
+                    "line {number}: answers leave by the address that the system chooses; where this machine has several, list each"
+                )?;
+                self.add(alloc, words)?;
+            }
+        }
+        Ok(())
+    }
+
+    /// What an operator should know of a fault.
+    pub(crate) fn explain(&mut self, alloc: Global, fault: &Fault) -> Result<(), AllocError> {
+        let words = match fault {
+            Fault::NoListener => String::from_str(alloc, "no line of the file listens")?,
+            Fault::Http(line) => format!(in alloc; "line {line}: DNS on HTTP is not there yet")?,
+            Fault::Bind(line, BindFault::Bind { at, error, .. }) => {
+                format!(in alloc; "line {line}: cannot listen at {at}: {error}")?
+            }
+            Fault::System(error) => format!(in alloc; "the system: {error}")?,
+            Fault::Output(error) => format!(in alloc; "standard output: {error}")?,
+            Fault::Loops(fault) => format!(in alloc; "a loop ended: {fault}")?,
+            Fault::Console => String::from_str(alloc, "the console: no moment is to be had")?,
+            _ => return Ok(()),
+        };
+        self.add(alloc, words)
+    }
+
+    /// Why a file is not read.
+    pub(crate) fn unreadable(
+        &mut self,
+        alloc: Global,
+        file: &str,
+        error: &io::Error,
+    ) -> Result<(), AllocError> {
+        let words = format!(in alloc; "cannot read {file}: {error}")?;
+        self.add(alloc, words)
+    }
+}
+
+/// Whether an address stands for all of a machine's.
+fn is_wildcard(addr: Addr) -> bool {
+    addr == Addr::V4([0; 4]) || addr == Addr::V6([0; 16])
+}

@@ -1,0 +1,159 @@
+//! `lb serve`.
+
+ghost use Rattle.std.specs.Prelude.{List, Option, Result, ◌≡◌, ℕ};
+ghost use Rattle.std.specs.declared.io.Error.{Error};
+ghost use Rattle.lb_core.specs.Snapshot.{snapshot_of};
+ghost use Rattle.lb_program.specs.Faults.{Tells, stop_text};
+ghost use Rattle.lb_program.specs.declared.faults.Stop.TheVariants.{Input};
+ghost use Rattle.lb_serve.specs.Fault.{fault_status, fault_text};
+ghost use Rattle.lb_serve.specs.Serving.{EndsServe, Says, Served, TellsBehind, serve_status, serve_text};
+
+use crate::desk::serve_at_desk;
+use crate::fault::Fault;
+use crate::listening::listen;
+use crate::sentences::Sentences;
+use lb_command::Listener;
+use lb_core::Balancer;
+use lb_program::{Ended, Setup, Stop, read_setup, write_line};
+use std::alloc::Global;
+use std::io;
+use std::io::Write;
+use std::net::{Net, TcpListener, TcpStream};
+use std::random::RandomSource;
+use std::sync::Wait;
+use std::thread::Threads;
+use std::time::Clock;
+
+/// Serves by a setup file's text: its commands are applied to an empty balancer, its addresses are bound, `ready` is written, and clients are
+/// answered until the console says stop; then `closed N` is written, N being how many calls the balancer had. Gives the exit status: 0; 1 after
+/// a line that does not read, or whose edit is refused; 3 where the system does not give what is needed, or memory is wanting; 4 where the
+/// calls' log differs from what the callers kept. What ended it early is told in one line on `faults`, behind sentences that begin with `lb: `.
+pub fn serve<
+    R: Threads
+        + Wait
+        + Net<Listener = TcpListener, Stream = TcpStream>
+        + Clock
+        + RandomSource
+        + AllocGlobal
+        + Sync,
+    W: Write,
+    F: Write,
+>(rt: &R, text: &str, output: &mut W, faults: &mut F) -> u8
+    ensures { (told : Result (Unit {0}) Error) × EndsServe text.now (W.contents output.old) (W.contents output.new) (F.contents faults.old) (F.contents faults.new) result told }
+{
+    serve_told(rt, rt.alloc(), text, output, faults).status
+}
+
+/// The same, and whether what ended it early was told.
+pub fn serve_told<
+    R: Threads
+        + Wait
+        + Net<Listener = TcpListener, Stream = TcpStream>
+        + Clock
+        + RandomSource
+        + Sync,
+    W: Write,
+    F: Write,
+>(rt: &R, alloc: Global, text: &str, output: &mut W, faults: &mut F) -> Ended
+    ensures { EndsServe text.now (W.contents output.old) (W.contents output.new) (F.contents faults.old) (F.contents faults.new) result.status result.told }
+{
+    let (setup, balancer) = match read_setup(alloc, text) {
+        Ok(read) => read,
+        Err(stop) => return Ended::tell(Err(stop), faults),
+    };
+    warn(alloc, text, setup.listeners(), faults);
+    let end = serve_by(rt, alloc, text, setup, balancer, output);
+    tell(alloc, end, faults)
+}
+
+/// Binds the addresses of a setup file's text, and serves by what it states.
+fn serve_by<
+    R: Threads
+        + Wait
+        + Net<Listener = TcpListener, Stream = TcpStream>
+        + Clock
+        + RandomSource
+        + Sync,
+    W: Write,
+>(
+    rt: &R,
+    alloc: Global,
+    text: &str,
+    setup: Setup,
+    balancer: Balancer,
+    output: &mut W,
+) -> Result<(), Fault>
+    ensures { Served (snapshot_of balancer) setup.log (W.contents output.old) (W.contents output.new) result }
+{
+    match listen(rt, alloc, text, setup.listeners()) {
+        Ok(listening) => serve_at_desk(rt, alloc, balancer, setup, listening, output),
+        Err(fault) => Err(fault),
+    }
+}
+
+/// Tells what an operator should know before the program serves. Where that can't be told, it is not.
+fn warn<F: Write>(alloc: Global, text: &str, lines: &[Listener], faults: &mut F)
+    ensures { Says (F.contents faults.old) (F.contents faults.new) }
+{
+    let mut sentences = Sentences::none(alloc);
+    let _ = sentences.warn(alloc, text, lines);
+    let _ = write_line(faults, sentences.as_bytes());
+}
+
+/// Tells what ended serving, in a sentence and the text of its status; nothing where the console said stop.
+fn tell<F: Write>(alloc: Global, end: Result<(), Fault>, faults: &mut F) -> Ended
+    ensures status { result.status ≡ serve_status end }
+    ensures told { (first : Option (List ℕ)) → Says first (F.contents faults.old) → TellsBehind first (F.contents faults.new) (serve_text end) result.told }
+{
+    match end {
+        Ok(()) => Ended {
+            status: 0,
+            told: Ok(()),
+        },
+        Err(fault) => tell_fault(alloc, fault, faults),
+    }
+}
+
+/// Tells a fault that ended serving.
+fn tell_fault<F: Write>(alloc: Global, fault: Fault, faults: &mut F) -> Ended
+    ensures status { result.status ≡ fault_status fault }
+    ensures told { (mid : Option (List ℕ)) × Says (F.contents faults.old) mid × Tells mid (F.contents faults.new) (fault_text fault) result.told }
+{
+    explain(alloc, &fault, faults);
+    Ended {
+        status: fault.status(),
+        told: write_line(faults, fault.text().as_bytes()),
+    }
+}
+
+/// Tells what an operator should know of a fault. Where that can't be told, it is not.
+fn explain<F: Write>(alloc: Global, fault: &Fault, faults: &mut F)
+    ensures { Says (F.contents faults.old) (F.contents faults.new) }
+{
+    let mut sentences = Sentences::none(alloc);
+    let _ = sentences.explain(alloc, fault);
+    let _ = write_line(faults, sentences.as_bytes());
+}
+
+/// Tells that a setup file can't be read: in a sentence, and the text of its status.
+pub fn tell_unreadable<F: Write>(
+    alloc: Global,
+    file: &str,
+    error: io::Error,
+    faults: &mut F,
+) -> Ended
+    ensures status { result.status ≡ 3 }
+    ensures told { (mid : Option (List ℕ)) × Says (F.contents faults.old) mid × Tells mid (F.contents faults.new) (stop_text (Input error)) result.told }
+{
+    say_unreadable(alloc, file, &error, faults);
+    Ended::tell(Err(Stop::Input(error)), faults)
+}
+
+/// Tells why a file is not read. Where that can't be told, it is not.
+fn say_unreadable<F: Write>(alloc: Global, file: &str, error: &io::Error, faults: &mut F)
+    ensures { Says (F.contents faults.old) (F.contents faults.new) }
+{
+    let mut sentences = Sentences::none(alloc);
+    let _ = sentences.unreadable(alloc, file, error);
+    let _ = write_line(faults, sentences.as_bytes());
+}

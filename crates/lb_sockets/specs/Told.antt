@@ -1,0 +1,11 @@
+-- What sockets of streams tell.
+use Rattle.std.specs.Prelude.{ℕ, List, [], map}
+use Rattle.lb_lines.specs.Moves.{Traffic}
+
+-- the numbers of connections, in order
+abbrev pub firsts : List (ℕ × ℕ) → List ℕ
+firsts = map (λ (pair : ℕ × ℕ). pair.0)
+
+-- nothing was given or taken, nobody came, and no device failed
+abbrev pub nothing : Traffic
+nothing = record { given = []; taken = []; came = []; dialed = []; ended = []; gone = []; turned = 0; failures = 0 }

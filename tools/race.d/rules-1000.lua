@@ -1,0 +1,5 @@
+-- So many rules of one suffix each: the last of them refuses what is asked.
+setSecurityPollSuffix("")
+setLocal("127.0.0.1:@port@")
+newServer("127.0.0.1:@backend@")
+@repeat 1000 addAction("n@n@.blocked.test", RCodeAction(DNSRCode.REFUSED))

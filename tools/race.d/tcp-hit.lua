@@ -1,0 +1,5 @@
+-- A hundred names, all of them in the cache, by TCP.
+setSecurityPollSuffix("")
+setLocal("127.0.0.1:@port@")
+newServer("127.0.0.1:@backend@")
+getPool(""):setCache(newPacketCache(100000))

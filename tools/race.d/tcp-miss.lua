@@ -1,0 +1,4 @@
+-- Each query goes to the server, by TCP: there is no cache.
+setSecurityPollSuffix("")
+setLocal("127.0.0.1:@port@")
+newServer("127.0.0.1:@backend@")
