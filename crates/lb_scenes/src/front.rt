@@ -6,72 +6,46 @@ use crate::stage::Stage;
 use crate::words::Words;
 use lb_command::read_event_line;
 use lb_core::Event;
-use lb_loops::{Job, Sender, Taker};
+use lb_loops::{Job, Taker};
 use lb_wire::{Kind, Lane, ServerId};
 use std::sync::Wait;
 
-/// The console's handler, and the HTTP front's sender.
-#[derive(Drop)]
-pub(crate) struct Front<T: Taker> {
-    pub(crate) console: T,
-    pub(crate) sender: Sender,
+/// Has the desk answer an event line.
+pub(crate) fn tell<R: Wait, T: Taker>(
+    console: &mut T,
+    stage: &mut Stage<'_, R>,
+    words: &Words<'_>,
+    line: &str,
+) -> Result<(), Fault> {
+    match read_event_line(stage.alloc, line) {
+        Ok(event) => hand(console, stage, words, event),
+        Err(_) => Err(words.bad()),
+    }
 }
 
-impl<T: Taker> Front<T> {
-    /// Has the desk answer an event line.
-    pub(crate) fn tell<R: Wait>(
-        &mut self,
-        stage: &mut Stage<'_, R>,
-        words: &Words<'_>,
-        line: &str,
-    ) -> Result<(), Fault> {
-        match read_event_line(stage.alloc, line) {
-            Ok(event) => self.hand(stage, words, event),
-            Err(_) => Err(words.bad()),
-        }
-    }
+/// Has the desk answer a query of the HTTP front, `NOW FRONT SLOT ADDR PORT WORD OCTETS`.
+pub(crate) fn ask<R: Wait, T: Taker>(
+    console: &mut T,
+    stage: &mut Stage<'_, R>,
+    words: &mut Words<'_>,
+) -> Result<(), Fault> {
+    let event = asked(stage, words)?;
+    hand(console, stage, words, event)
+}
 
-    /// Has the desk answer a query of the HTTP front, `NOW FRONT SLOT ADDR PORT WORD OCTETS`.
-    pub(crate) fn ask<R: Wait>(
-        &mut self,
-        stage: &mut Stage<'_, R>,
-        words: &mut Words<'_>,
-    ) -> Result<(), Fault> {
-        let event = asked(stage, words)?;
-        self.hand(stage, words, event)
-    }
-
-    /// Has the desk answer an event, and tells its answer.
-    fn hand<R: Wait>(
-        &mut self,
-        stage: &mut Stage<'_, R>,
-        words: &Words<'_>,
-        event: Event,
-    ) -> Result<(), Fault> {
-        match self.console.take(event) {
-            Ok(answer) => {
-                stage.told.answer_line(&answer);
-                stage.told.room()
-            }
-            Err(_) => Err(words.full()),
+/// Has the desk answer an event, and tells its answer.
+fn hand<R: Wait, T: Taker>(
+    console: &mut T,
+    stage: &mut Stage<'_, R>,
+    words: &Words<'_>,
+    event: Event,
+) -> Result<(), Fault> {
+    match console.take(event) {
+        Ok(answer) => {
+            stage.told.answer_line(&answer);
+            stage.told.room()
         }
-    }
-
-    /// A job of the HTTP front: `server SERVER udp|tcp LANE OCTETS`, or `client FRONT SLOT ADDR PORT OCTETS`.
-    pub(crate) fn job<R: Wait>(
-        &mut self,
-        stage: &Stage<'_, R>,
-        words: &mut Words<'_>,
-    ) -> Result<(), Fault> {
-        let job = match words.word()? {
-            "server" => job_to_server(stage, words),
-            "client" => job_to_client(stage, words),
-            _ => Err(words.bad()),
-        };
-        match self.sender.send(stage.rt, job?) {
-            Ok(()) => Ok(()),
-            Err(_) => Err(words.full()),
-        }
+        Err(_) => Err(words.full()),
     }
 }
 
@@ -88,6 +62,20 @@ fn asked<R: Wait>(stage: &Stage<'_, R>, words: &mut Words<'_>) -> Result<Event, 
         word,
         bytes,
     })
+}
+
+/// A job of the HTTP front: `server SERVER udp|tcp LANE OCTETS`, or `client FRONT SLOT ADDR PORT OCTETS`.
+pub(crate) fn send<R: Wait>(stage: &mut Stage<'_, R>, words: &mut Words<'_>) -> Result<(), Fault> {
+    let job = match words.word()? {
+        "server" => job_to_server(stage, words)?,
+        "client" => job_to_client(stage, words)?,
+        _ => return Err(words.bad()),
+    };
+    let sent = match &mut stage.sender {
+        Some(sender) => sender.send(stage.rt, job).is_ok(),
+        None => false,
+    };
+    if sent { Ok(()) } else { Err(words.full()) }
 }
 
 fn job_to_server<R: Wait>(stage: &Stage<'_, R>, words: &mut Words<'_>) -> Result<Job, Fault> {

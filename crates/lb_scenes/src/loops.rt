@@ -2,9 +2,8 @@
 //! its handler back.
 
 use crate::fault::Fault;
-use crate::front::Front;
 use crate::playing::play_all;
-use crate::stage::Stage;
+use crate::stage::{Sides, Stage};
 use lb_loops::{ClockLoop, DatagramLoop, Outbox, Receiver, Sender, StreamLoop, Taker};
 use lb_memory::{MemoryDatagrams, MemoryOutside, MemoryPosts, MemoryStreams};
 use std::sync::Wait;
@@ -60,15 +59,9 @@ fn with_outbox<'a, R: Wait, T: Taker>(
 ) -> Result<(), Fault> {
     let jobs = stage.setting.outbox.max(1).min(4_096);
     let (sender, second, receiver) = Outbox::made(stage.alloc, jobs)?;
+    stage.sender = Some(sender);
     let mut streams = streaming(handlers, stage, receiver)?;
-    let played = with_clock(
-        handlers,
-        stage,
-        (sender, second),
-        datagrams,
-        &mut streams,
-        lines,
-    );
+    let played = with_clock(handlers, stage, second, datagrams, &mut streams, lines);
     handlers.push(streams.into_parts().0)?;
     played
 }
@@ -80,9 +73,11 @@ fn streaming<'a, R: Wait, T: Taker>(
     receiver: Receiver,
 ) -> Result<Streaming<'a, R, T>, Fault> {
     let sockets = stage.streams()?;
-    let fronts = stage.fronts()?;
-    let posts = stage.posts()?;
-    let outside = stage.outside()?;
+    let Sides {
+        posts,
+        fronts,
+        outside,
+    } = stage.sides()?;
     let handler = next(handlers)?;
     Ok(StreamLoop::made(
         stage.alloc,
@@ -99,19 +94,18 @@ fn streaming<'a, R: Wait, T: Taker>(
 fn with_clock<'a, R: Wait, T: Taker>(
     handlers: &mut Vec<T>,
     stage: &mut Stage<'a, R>,
-    (sender, second): (Sender, Sender),
+    second: Sender,
     datagrams: &mut Datagramming<'a, R, T>,
     streams: &mut Streaming<'a, R, T>,
     lines: &[String],
 ) -> Result<(), Fault> {
-    let mut front = Front {
-        console: next(handlers)?,
-        sender,
-    };
     let mut clock = clocking(handlers, stage, second)?;
-    let played = play_all(lines, stage, &mut front, datagrams, streams, &mut clock);
+    // The handler that is left is the console's.
+    let played = match handlers.last_mut() {
+        Some(console) => play_all(lines, stage, console, datagrams, streams, &mut clock),
+        None => Err(Fault::Audit),
+    };
     handlers.push(clock.into_parts().0)?;
-    handlers.push(front.console)?;
     played
 }
 
@@ -122,9 +116,11 @@ fn clocking<'a, R: Wait, T: Taker>(
     second: Sender,
 ) -> Result<Clocking<'a, R, T>, Fault> {
     let sockets = stage.probes()?;
-    let fronts = stage.fronts()?;
-    let posts = stage.posts()?;
-    let outside = stage.outside()?;
+    let Sides {
+        posts,
+        fronts,
+        outside,
+    } = stage.sides()?;
     let handler = next(handlers)?;
     Ok(ClockLoop::made(
         stage.alloc,

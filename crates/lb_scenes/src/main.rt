@@ -49,10 +49,19 @@ fn play_input<R: AllocGlobal + Input + Wait, W: Write>(
     output: &mut W,
 ) -> Result<(), Fault> {
     let lines = lines_of(rt)?;
+    play_lines(rt, output, lines.as_slice())
+}
+
+/// Plays lines, and writes out what came of them.
+fn play_lines<R: AllocGlobal + Input + Wait, W: Write>(
+    rt: &R,
+    output: &mut W,
+    lines: &[String],
+) -> Result<(), Fault> {
     let is_full = AtomicBool::new(false);
-    let setting = Setting::read(lines.as_slice())?;
+    let setting = Setting::read(lines)?;
     let mut stage = Stage::new(rt, rt.alloc(), &is_full, setting)?;
-    desk::play_at_desk(&mut stage, lines.as_slice())?;
+    desk::play_at_desk(&mut stage, lines)?;
     write_out(output, stage.told.as_bytes())?;
     Ok(())
 }

@@ -1,7 +1,7 @@
 //! The lines of a scene, one after the other, and the turns of its loops.
 
 use crate::fault::Fault;
-use crate::front::Front;
+use crate::front::{ask, send, tell};
 use crate::report::tell_report;
 use crate::stage::Stage;
 use crate::words::Words;
@@ -15,7 +15,7 @@ use std::sync::Wait;
 pub(crate) fn play_all<R: Wait, D: Datagrams, S: Streams, P: Posts, T: Taker, O: Outside>(
     lines: &[String],
     stage: &mut Stage<'_, R>,
-    front: &mut Front<T>,
+    console: &mut T,
     datagrams: &mut DatagramLoop<D, T, O>,
     streams: &mut StreamLoop<S, T, O, P>,
     clock: &mut ClockLoop<D, P, T, O>,
@@ -24,7 +24,7 @@ pub(crate) fn play_all<R: Wait, D: Datagrams, S: Streams, P: Posts, T: Taker, O:
         let (times, line) = times_of(index + 1, line.as_str())?;
         for _ in 0..times {
             let mut words = Words::new(index + 1, line);
-            play(&mut words, line, stage, front, datagrams, streams, clock)?;
+            play(&mut words, line, stage, console, datagrams, streams, clock)?;
         }
     }
     Ok(())
@@ -35,7 +35,7 @@ fn play<R: Wait, D: Datagrams, S: Streams, P: Posts, T: Taker, O: Outside>(
     words: &mut Words<'_>,
     line: &str,
     stage: &mut Stage<'_, R>,
-    front: &mut Front<T>,
+    console: &mut T,
     datagrams: &mut DatagramLoop<D, T, O>,
     streams: &mut StreamLoop<S, T, O, P>,
     clock: &mut ClockLoop<D, P, T, O>,
@@ -44,9 +44,9 @@ fn play<R: Wait, D: Datagrams, S: Streams, P: Posts, T: Taker, O: Outside>(
         "datagrams" => turn_of_datagrams(stage, datagrams),
         "streams" => turn_of_streams(stage, streams),
         "clock" => turn_of_clock(stage, clock),
-        "edit" | "query" | "reply" | "tick" | "health" => front.tell(stage, words, line),
-        "asks" => front.ask(stage, words),
-        "job" => front.job(stage, words),
+        "edit" | "query" | "reply" | "tick" | "health" => tell(console, stage, words, line),
+        "asks" => ask(console, stage, words),
+        "job" => send(stage, words),
         word => stage.come(word, words),
     }
 }

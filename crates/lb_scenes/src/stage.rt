@@ -6,7 +6,7 @@ use crate::octets::Named;
 use crate::setting::Setting;
 use crate::shown::Shown;
 use crate::told::Told;
-use lb_loops::{Front, Roster};
+use lb_loops::{Front, Roster, Sender};
 use lb_memory::{
     Failing, MemoryDatagrams, MemoryOutside, MemoryPosts, MemoryStreams, Moments, Packets,
     Requests, Wires,
@@ -61,6 +61,8 @@ pub(crate) struct Stage<'a, R: Wait> {
     pub(crate) is_full: &'a AtomicBool,
     pub(crate) setting: Setting,
     pub(crate) shared: Shared,
+    /// Sends the jobs of the HTTP front, once there is an outbox.
+    pub(crate) sender: Option<Sender>,
     pub(crate) roster: Roster,
     pub(crate) gate: HoldsFrom,
     pub(crate) names: Vec<Named>,
@@ -83,6 +85,7 @@ impl<'a, R: Wait> Stage<'a, R> {
             is_full,
             setting,
             shared: Shared::new(alloc, setting)?,
+            sender: None,
             roster,
             gate: HoldsFrom(u64::MAX),
             names: Vec::new(alloc),
@@ -124,14 +127,23 @@ impl<'a, R: Wait> Stage<'a, R> {
         Ok(MemoryOutside::new(self.rt, moments))
     }
 
-    /// The HTTP requests, for one loop.
-    pub(crate) fn posts(&self) -> Result<MemoryPosts<'a, R>, AllocError> {
+    /// What stands beside sockets in a loop that delivers to HTTP requests: those, what listens at each place, and moments.
+    pub(crate) fn sides(&self) -> Result<Sides<'a, R>, AllocError> {
+        let outside = self.outside()?;
+        let fronts = Vec::from_slice(self.alloc, &FRONTS)?;
         let requests = Arc::try_clone(&self.shared.requests)?;
-        Ok(MemoryPosts::new(self.rt, self.alloc, requests))
+        Ok(Sides {
+            posts: MemoryPosts::new(self.rt, self.alloc, requests),
+            fronts,
+            outside,
+        })
     }
+}
 
-    /// What listens at each place.
-    pub(crate) fn fronts(&self) -> Result<Vec<Front>, AllocError> {
-        Vec::from_slice(self.alloc, &FRONTS)
-    }
+/// What stands beside the sockets of a loop.
+#[derive(Drop)]
+pub(crate) struct Sides<'a, R: Wait> {
+    pub(crate) posts: MemoryPosts<'a, R>,
+    pub(crate) fronts: Vec<Front>,
+    pub(crate) outside: MemoryOutside<'a, R>,
 }
