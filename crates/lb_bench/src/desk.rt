@@ -4,16 +4,18 @@ ghost use Rattle.std.specs.Prelude.{◌≡◌};
 ghost use Rattle.lb_core.specs.Snapshot.{snapshot_of};
 
 use crate::events::is_filled;
+use crate::loops::loops_at;
 use crate::rounds::{Round, Rounds, call_rounds, step_rounds};
+use crate::turns::turns_at;
 use lb_core::Balancer;
 use lb_desk::{Desk, Naming, Seat, desks_cross_threads};
-use std::alloc::{AllocError, Global};
+use std::alloc::Global;
 use std::io;
 use std::marker::Brand;
 use std::sync::Wait;
 use std::sync::ledger::Blank;
 use std::thread::{Threads, join};
-use std::time::Instant;
+use std::time::{Clock, Instant};
 
 /// How many rounds each thread has.
 const ROUNDS: u32 = 200_000;
@@ -23,7 +25,10 @@ pub(crate) const LIMIT: u32 = 1_000;
 
 /// Times rounds by steps alone, and by calls of a desk from one thread, two and four, past the limit of its log; and calls that the
 /// log has.
-pub(crate) fn time_desk<R: Threads + Wait + Sync>(rt: &HostRuntime, starts: &R) -> io::Result<()> {
+pub(crate) fn time_desk<R: Threads + Wait + Clock + Sync>(
+    rt: &HostRuntime,
+    starts: &R,
+) -> io::Result<()> {
     for round in [Round::Hit, Round::Forward] {
         let rounds = Rounds {
             round,
@@ -37,7 +42,7 @@ pub(crate) fn time_desk<R: Threads + Wait + Sync>(rt: &HostRuntime, starts: &R) 
 }
 
 /// Fills the log of a desk up to this limit, by hits.
-pub(crate) fn fill_desk<R: Threads + Wait + Sync>(
+pub(crate) fn fill_desk<R: Threads + Wait + Clock + Sync>(
     rt: &HostRuntime,
     starts: &R,
     limit: u32,
@@ -51,7 +56,7 @@ pub(crate) fn fill_desk<R: Threads + Wait + Sync>(
 
 /// Times rounds from so many threads, which are started by the second handle, or by steps where there are none. The making of the
 /// balancer and of the desk is counted in.
-fn time_rounds<R: Threads + Wait + Sync>(
+fn time_rounds<R: Threads + Wait + Clock + Sync>(
     rt: &HostRuntime,
     starts: &R,
     rounds: Rounds,
@@ -67,47 +72,112 @@ fn time_rounds<R: Threads + Wait + Sync>(
 }
 
 /// Rounds over a new balancer. How many went as they should.
-fn done<R: Threads + Wait + Sync>(
+fn done<R: Threads + Wait + Clock + Sync>(
     starts: &R,
     alloc: Global,
     rounds: Rounds,
     threads: u32,
     limit: u32,
-) -> Result<u32, AllocError> {
+) -> io::Result<u32> {
     let mut balancer = Balancer::new(alloc)?;
     match (is_filled(alloc, &mut balancer), threads) {
         // none went as it should
         (false, _) => Ok(0),
         (true, 0) => Ok(step_rounds(alloc, &mut balancer, rounds)),
-        (true, _) => called::<Brand, R>(
+        (true, _) => done_at_desk(
             starts,
             alloc,
-            Blank::new(4),
             balancer,
             limit,
-            rounds,
-            threads,
+            Work::Rounds(rounds, threads),
         ),
     }
 }
 
-/// Rounds on a new desk with so long a log. How many went as they should.
-fn called<J: Naming + Send + Sync, R: Threads + Wait + Sync>(
+/// The same on a desk.
+fn done_at_desk<R: Threads + Wait + Clock + Sync>(
+    starts: &R,
+    alloc: Global,
+    balancer: Balancer,
+    limit: u32,
+    work: Work,
+) -> io::Result<u32> {
+    let figures = at_desk(starts, alloc, balancer, limit, work)?;
+    Ok(figures.done)
+}
+
+/// What is measured at a desk.
+#[derive(Clone, Copy)]
+pub(crate) enum Work {
+    /// Rounds from so many threads.
+    Rounds(Rounds, u32),
+    /// Turns of datagrams.
+    Turns,
+    /// Turns of streams and of the clock.
+    Loops,
+}
+
+/// What was measured: how many rounds went as they should, and the least nanoseconds of each other thing.
+#[derive(Clone, Copy, Default)]
+pub(crate) struct Figures {
+    pub(crate) done: u32,
+    /// A refused query by a call.
+    pub(crate) call: u128,
+    /// The same by a turn: of 64 datagrams, or 40 in a piece of a stream.
+    pub(crate) query: u128,
+    /// A client that comes, asks and ends.
+    pub(crate) client: u128,
+    /// A turn of streams with nothing to do, without a client, and with 1,024.
+    pub(crate) empty: u128,
+    pub(crate) idle: u128,
+    /// A turn of the clock with nothing due and 256 servers.
+    pub(crate) clock: u128,
+}
+
+/// Measures something at a new desk of this balancer, whose log has so many calls.
+pub(crate) fn at_desk<R: Threads + Wait + Clock + Sync>(
+    rt: &R,
+    alloc: Global,
+    balancer: Balancer,
+    limit: u32,
+    work: Work,
+) -> io::Result<Figures> {
+    measured::<Brand, R>(rt, alloc, Blank::new(4), balancer, limit, work)
+}
+
+fn measured<J: Naming + Send + Sync, R: Threads + Wait + Clock + Sync>(
     rt: &R,
     alloc: Global,
     blank: Blank,
     balancer: Balancer,
     limit: u32,
-    rounds: Rounds,
-    threads: u32,
-) -> Result<u32, AllocError>
+    work: Work,
+) -> io::Result<Figures>
     requires name { blank.name ≡ J.name }
     requires parts { (blank.parts ≡ J.parts) × (J.parts ≡ 4) × (J.seats ≡ 4) }
     requires limit { J.limit ≡ limit }
     requires opening { J.opening ≡ snapshot_of balancer }
 {
     let (desk, mut seats) = Desk::<J>::made(alloc, blank, balancer, u64::from(limit), 4)?;
-    Ok(go_rounds(rt, alloc, &desk, &mut seats, rounds, threads))
+    worked(rt, alloc, &desk, &mut seats, work)
+}
+
+/// Measures something at a desk.
+fn worked<J: Naming + Send + Sync, R: Threads + Wait + Clock + Sync>(
+    rt: &R,
+    alloc: Global,
+    desk: &Desk<J>,
+    seats: &mut Vec<Seat<J>>,
+    work: Work,
+) -> io::Result<Figures> {
+    match work {
+        Work::Rounds(rounds, threads) => Ok(Figures {
+            done: go_rounds(rt, alloc, desk, seats, rounds, threads),
+            ..Figures::default()
+        }),
+        Work::Turns => turns_at(rt, alloc, desk, seats),
+        Work::Loops => loops_at(rt, alloc, desk, seats),
+    }
 }
 
 /// Rounds from one thread, two or four.

@@ -1,27 +1,24 @@
 //! How long turns of streams and of the clock take, over sockets in memory and a desk.
 
-ghost use Rattle.std.specs.Prelude.{◌≡◌};
-ghost use Rattle.lb_core.specs.Snapshot.{snapshot_of};
-
-use crate::turns::{Open, PEER, QUERY, is_ruled, less};
-use lb_core::{Balancer, Event};
+use crate::desk::{Figures, Work, at_desk};
+use crate::turns::{Open, PEER, QUERY, is_ruled, less, query};
+use lb_core::Balancer;
 use lb_desk::{Desk, Naming, Seat};
 use lb_loops::{
-    Caller, ClockLoop, Endpoint, Front, Outbox, Place, Roster, StreamLoop, Taker, clock_turn,
-    frame, stream_turn,
+    Caller, ClockLoop, Datagrams, Endpoint, Front, Outbox, Outside, Place, Posts, Roster,
+    StreamLoop, Streams, Taker, clock_turn, frame, stream_turn,
 };
 use lb_memory::{
     Failing, MemoryDatagrams, MemoryOutside, MemoryPosts, MemoryStreams, Moments, Packets,
     Requests, StreamFailing, Wires,
 };
 use lb_servers::Mode;
-use lb_wire::{Kind, Octets, Origin, ServerId};
+use lb_wire::{Kind, Octets, ServerId};
 use std::alloc::{AllocError, Global};
 use std::collections::VecDeque;
 use std::io;
-use std::marker::Brand;
-use std::sync::ledger::Blank;
 use std::sync::{Arc, Mutex, Wait};
+use std::thread::Threads;
 use std::time::{Clock, Instant};
 
 /// How many turns are timed together.
@@ -45,41 +42,13 @@ const IDLE: u64 = 1_024;
 /// How many servers a roster has.
 const SERVERS: u64 = 256;
 
-/// The loop of streams that is timed.
-type Streaming<'a, R, J> = StreamLoop<
-    MemoryStreams<'a, R>,
-    Caller<'a, R, J>,
-    MemoryOutside<'a, R>,
-    MemoryPosts<'a, R>,
->;
-
-/// The loop of the clock that is timed.
-type Clocking<'a, R, J> = ClockLoop<
-    MemoryDatagrams<'a, R>,
-    MemoryPosts<'a, R>,
-    Caller<'a, R, J>,
-    MemoryOutside<'a, R>,
->;
-
-/// The least nanoseconds of each.
-#[derive(Clone, Copy, Default)]
-struct Times {
-    /// A refused query by a call.
-    call: u128,
-    /// The same by a turn, 40 in a piece.
-    query: u128,
-    /// A client that comes, asks and ends.
-    client: u128,
-    /// A turn with nothing to do, without a client, and with 1,024.
-    empty: u128,
-    idle: u128,
-    /// A turn of the clock with nothing due and 256 servers.
-    clock: u128,
-}
-
 /// Times refused queries by calls and by turns of streams, clients that come and go, idle clients, and the clock.
-pub(crate) fn time_loops<R: Wait + Clock>(rt: &HostRuntime, waits: &R) -> io::Result<()> {
-    let times = best(waits, rt.alloc())?;
+pub(crate) fn time_loops<R: Threads + Wait + Clock + Sync>(
+    rt: &HostRuntime,
+    starts: &R,
+) -> io::Result<()> {
+    let balancer = Balancer::new(rt.alloc())?;
+    let times = at_desk(starts, rt.alloc(), balancer, 0, Work::Loops)?;
     let (call, query, client) = (times.call, times.query, times.client);
     let (empty, idle, clock) = (times.empty, times.idle, times.clock);
     eprintln!(rt; "a refused query by a call: {call} ns, by a turn of streams: {query} ns")?;
@@ -88,33 +57,33 @@ pub(crate) fn time_loops<R: Wait + Clock>(rt: &HostRuntime, waits: &R) -> io::Re
     eprintln!(rt; "a turn of the clock with 256 servers: {clock} ns")
 }
 
-/// The least times at a new desk.
-fn best<R: Wait + Clock>(rt: &R, alloc: Global) -> io::Result<Times> {
-    let balancer = Balancer::new(alloc)?;
-    least_at::<Brand, R>(rt, alloc, Blank::new(3), balancer)
-}
-
-fn least_at<J: Naming, R: Wait + Clock>(
+/// The least times at a desk.
+pub(crate) fn loops_at<J: Naming, R: Wait + Clock>(
     rt: &R,
     alloc: Global,
-    blank: Blank,
-    balancer: Balancer,
-) -> io::Result<Times>
-    requires name { blank.name ≡ J.name }
-    requires parts { (blank.parts ≡ J.parts) × (J.parts ≡ J.seats) }
-    requires seats { J.seats ≡ 3 }
-    requires limit { J.limit ≡ 0 }
-    requires opening { J.opening ≡ snapshot_of balancer }
-{
-    let (desk, mut seats) = Desk::<J>::made(alloc, blank, balancer, 0, 3)?;
-    let (Some(a), Some(b), Some(c)) = (seats.pop(), seats.pop(), seats.pop()) else {
-        return Ok(Times::default());
-    };
-    let mut times = Times::default();
-    time_calls(rt, alloc, &mut Caller::new(rt, &desk, a), &mut times)?;
-    time_streams(rt, alloc, &desk, b, &mut times)?;
-    time_clock(rt, alloc, &desk, c, &mut times)?;
-    Ok(times)
+    desk: &Desk<J>,
+    seats: &mut Vec<Seat<J>>,
+) -> io::Result<Figures> {
+    let mut figures = Figures::default();
+    let roster = Roster::made(alloc)?;
+    calls_at(rt, alloc, desk, seats, &mut figures)?;
+    streams_at(rt, alloc, desk, seats, &roster, &mut figures)?;
+    clock_at(rt, alloc, desk, seats, &mut figures)?;
+    Ok(figures)
+}
+
+/// Times calls of a desk.
+fn calls_at<J: Naming, R: Wait + Clock>(
+    rt: &R,
+    alloc: Global,
+    desk: &Desk<J>,
+    seats: &mut Vec<Seat<J>>,
+    figures: &mut Figures,
+) -> io::Result<()> {
+    match seats.pop() {
+        Some(seat) => time_calls(rt, alloc, &mut Caller::new(rt, desk, seat), figures),
+        None => Ok(()),
+    }
 }
 
 /// Times calls, once every query is refused.
@@ -122,13 +91,13 @@ fn time_calls<R: Wait + Clock, T: Taker>(
     rt: &R,
     alloc: Global,
     taker: &mut T,
-    times: &mut Times,
+    figures: &mut Figures,
 ) -> io::Result<()> {
     if !is_ruled(alloc, taker)? {
         return Ok(());
     }
     for _ in 0..BLOCKS {
-        times.call = less(times.call, time_call_block(rt, alloc, taker)?);
+        figures.call = less(figures.call, time_call_block(rt, alloc, taker)?);
     }
     Ok(())
 }
@@ -141,77 +110,60 @@ fn time_call_block<R: Wait + Clock, T: Taker>(
     let start = Instant::now(rt)?;
     let calls = TURNS * QUERIES as u32;
     for _ in 0..calls {
-        let _ = taker.take(query(alloc)?);
+        let bytes = Octets::from_vec(Vec::from_slice(alloc, QUERY)?);
+        let _ = taker.take(query(Kind::Stream, 1, bytes));
     }
     Ok(start.elapsed(rt)?.as_nanos() / u128::from(calls))
 }
 
-/// A query as one of a stream.
-fn query(alloc: Global) -> Result<Event, AllocError> {
-    Ok(Event::Query {
-        now: 1,
-        origin: Origin {
-            front: 0,
-            slot: 1,
-            source: PEER.addr,
-            port: PEER.port,
-        },
-        kind: Kind::Stream,
-        word: 16,
-        bytes: Octets::from_vec(Vec::from_slice(alloc, QUERY)?),
-    })
+/// Requests that wait, and moments, for one loop.
+fn sides<'a, R: Wait>(
+    rt: &'a R,
+    alloc: Global,
+) -> Result<(MemoryPosts<'a, R>, MemoryOutside<'a, R>), AllocError> {
+    let requests = Arc::new(alloc, Mutex::new(Requests::new(alloc)))?;
+    let moments = Arc::new(alloc, Mutex::new(Moments::new(1, 0, 16, 0)))?;
+    let posts = MemoryPosts::new(rt, alloc, requests);
+    Ok((posts, MemoryOutside::new(rt, moments)))
 }
 
-/// A loop of streams, and what is shared with its sockets.
+/// The wires of a loop of streams, and how many clients came.
 #[derive(Drop)]
-struct Streams<'a, R: Wait, J: Naming> {
-    streams: Streaming<'a, R, J>,
+struct Clients {
     wires: Arc<Mutex<Wires>>,
-    roster: Roster,
     last: u64,
 }
 
-impl<'a, R: Wait, J: Naming> Streams<'a, R, J> {
-    fn new(
-        rt: &'a R,
-        alloc: Global,
-        desk: &'a Desk<J>,
-        seat: Seat<J>,
-    ) -> Result<Streams<'a, R, J>, AllocError> {
-        let wires = Arc::new(alloc, Mutex::new(Wires::new(alloc)))?;
-        let theirs = Arc::try_clone(&wires)?;
-        let sockets = MemoryStreams::new(rt, alloc, theirs, StreamFailing::default());
-        let (_, _, receiver) = Outbox::made(alloc, 1)?;
-        let fronts = Vec::from_slice(alloc, &[Front::Stream])?;
-        let posts = posts(rt, alloc)?;
-        let caller = Caller::new(rt, desk, seat);
-        let outside = outside(rt, alloc)?;
-        let streams = StreamLoop::made(alloc, sockets, receiver, fronts, posts, caller, outside)?;
-        Ok(Streams {
-            streams,
-            wires,
-            roster: Roster::made(alloc)?,
+impl Clients {
+    /// None yet.
+    fn new(alloc: Global) -> Result<Clients, AllocError> {
+        Ok(Clients {
+            wires: Arc::new(alloc, Mutex::new(Wires::new(alloc)))?,
             last: 0,
         })
     }
 
-    /// One turn.
-    fn turn(&mut self, rt: &R) -> Result<(), AllocError> {
-        let report = stream_turn(rt, &mut self.streams, &self.roster, &Open)?;
-        self.streams.take_back(report.lines);
-        Ok(())
+    /// The sockets of their loop.
+    fn sockets<'a, R: Wait>(
+        &self,
+        rt: &'a R,
+        alloc: Global,
+    ) -> Result<MemoryStreams<'a, R>, AllocError> {
+        let wires = Arc::try_clone(&self.wires)?;
+        Ok(MemoryStreams::new(rt, alloc, wires, StreamFailing::default()))
     }
 
     /// A client comes.
-    fn come(&mut self, rt: &R) -> Result<u64, AllocError> {
+    fn come<R: Wait>(&mut self, rt: &R) -> Result<u64, AllocError> {
         self.last = self.last.saturating_add(1);
-        self.wires.lock(rt).come(0, PEER)?;
+        let come = self.wires.lock(rt).come(0, PEER);
+        come?;
         Ok(self.last)
     }
 
     /// Octets come on a connection.
-    fn piece(
-        &mut self,
+    fn piece<R: Wait>(
+        &self,
         rt: &R,
         alloc: Global,
         number: u64,
@@ -221,55 +173,101 @@ impl<'a, R: Wait, J: Naming> Streams<'a, R, J> {
         let piece = Octets::from_vec(Vec::from_slice(alloc, octets)?);
         self.wires.lock(rt).piece(number, piece)
     }
+
+    /// A client comes, asks and ends.
+    fn visit<R: Wait>(&mut self, rt: &R, alloc: Global, framed: &[u8]) -> Result<(), AllocError> {
+        let number = self.come(rt)?;
+        self.piece(rt, alloc, number, framed)?;
+        self.wires.lock(rt).end(number)
+    }
 }
 
-fn outside<'a, R: Wait>(rt: &'a R, alloc: Global) -> Result<MemoryOutside<'a, R>, AllocError> {
-    let moments = Arc::new(alloc, Mutex::new(Moments::new(1, 0, 16, 0)))?;
-    Ok(MemoryOutside::new(rt, moments))
-}
-
-fn posts<'a, R: Wait>(rt: &'a R, alloc: Global) -> Result<MemoryPosts<'a, R>, AllocError> {
-    let requests = Arc::new(alloc, Mutex::new(Requests::new(alloc)))?;
-    Ok(MemoryPosts::new(rt, alloc, requests))
-}
-
-/// Times turns of streams.
-fn time_streams<R: Wait + Clock, J: Naming>(
+/// Times turns of streams at the next seat.
+fn streams_at<J: Naming, R: Wait + Clock>(
     rt: &R,
     alloc: Global,
     desk: &Desk<J>,
-    seat: Seat<J>,
-    times: &mut Times,
+    seats: &mut Vec<Seat<J>>,
+    roster: &Roster,
+    figures: &mut Figures,
 ) -> io::Result<()> {
-    let mut streams = Streams::new(rt, alloc, desk, seat)?;
-    times.empty = time_empty(rt, &mut streams)?;
+    let mut clients = Clients::new(alloc)?;
+    let sockets = clients.sockets(rt, alloc)?;
+    let (posts, outside) = sides(rt, alloc)?;
+    let Some(seat) = seats.pop() else {
+        return Ok(());
+    };
+    let caller = Caller::new(rt, desk, seat);
+    let mut streams = streaming(alloc, sockets, posts, caller, outside)?;
+    let timed = time_streams(rt, alloc, &mut streams, roster, &mut clients, figures);
+    let _left = streams.into_parts();
+    timed
+}
+
+/// A loop of streams with one listener, to which no job comes.
+fn streaming<S: Streams, T: Taker, O: Outside, P: Posts>(
+    alloc: Global,
+    sockets: S,
+    posts: P,
+    taker: T,
+    outside: O,
+) -> Result<StreamLoop<S, T, O, P>, AllocError> {
+    let (_, _, receiver) = Outbox::made(alloc, 1)?;
+    let fronts = Vec::from_slice(alloc, &[Front::Stream])?;
+    StreamLoop::made(alloc, sockets, receiver, fronts, posts, taker, outside)
+}
+
+/// One turn of streams.
+fn turn<R: Wait, S: Streams, T: Taker, O: Outside, P: Posts>(
+    rt: &R,
+    streams: &mut StreamLoop<S, T, O, P>,
+    roster: &Roster,
+) -> Result<(), AllocError> {
+    let report = stream_turn(rt, streams, roster, &Open)?;
+    streams.take_back(report.lines);
+    Ok(())
+}
+
+/// Times turns of streams.
+fn time_streams<R: Wait + Clock, S: Streams, T: Taker, O: Outside, P: Posts>(
+    rt: &R,
+    alloc: Global,
+    streams: &mut StreamLoop<S, T, O, P>,
+    roster: &Roster,
+    clients: &mut Clients,
+    figures: &mut Figures,
+) -> io::Result<()> {
+    figures.empty = time_empty(rt, streams, roster)?;
     for _ in 0..CLIENT_BLOCKS {
-        times.client = less(times.client, time_clients(rt, alloc, &mut streams)?);
+        let time = time_clients(rt, alloc, streams, roster, clients)?;
+        figures.client = less(figures.client, time);
     }
-    let number = streams.come(rt)?;
+    let number = clients.come(rt)?;
     for _ in 0..BLOCKS {
-        times.query = less(times.query, time_queries(rt, alloc, &mut streams, number)?);
+        let time = time_queries(rt, alloc, streams, roster, clients, number)?;
+        figures.query = less(figures.query, time);
     }
     for _ in 1..IDLE {
-        let _ = streams.come(rt)?;
+        let _ = clients.come(rt)?;
     }
     for _ in 0..IDLE {
-        streams.turn(rt)?;
+        turn(rt, streams, roster)?;
     }
-    times.idle = time_empty(rt, &mut streams)?;
+    figures.idle = time_empty(rt, streams, roster)?;
     Ok(())
 }
 
 /// Nanoseconds of a turn with nothing to do.
-fn time_empty<R: Wait + Clock, J: Naming>(
+fn time_empty<R: Wait + Clock, S: Streams, T: Taker, O: Outside, P: Posts>(
     rt: &R,
-    streams: &mut Streams<'_, R, J>,
+    streams: &mut StreamLoop<S, T, O, P>,
+    roster: &Roster,
 ) -> io::Result<u128> {
     let mut least = 0;
     for _ in 0..BLOCKS {
         let start = Instant::now(rt)?;
         for _ in 0..TURNS {
-            streams.turn(rt)?;
+            turn(rt, streams, roster)?;
         }
         least = less(least, start.elapsed(rt)?.as_nanos() / u128::from(TURNS));
     }
@@ -277,76 +275,105 @@ fn time_empty<R: Wait + Clock, J: Naming>(
 }
 
 /// Nanoseconds of a client that comes, asks once and ends, 20 a turn.
-fn time_clients<R: Wait + Clock, J: Naming>(
+fn time_clients<R: Wait + Clock, S: Streams, T: Taker, O: Outside, P: Posts>(
     rt: &R,
     alloc: Global,
-    streams: &mut Streams<'_, R, J>,
+    streams: &mut StreamLoop<S, T, O, P>,
+    roster: &Roster,
+    clients: &mut Clients,
 ) -> io::Result<u128> {
     let framed = frame(alloc, QUERY)?;
     let start = Instant::now(rt)?;
     for _ in 0..TURNS {
         for _ in 0..CLIENTS {
-            let number = streams.come(rt)?;
-            streams.piece(rt, alloc, number, framed.as_slice())?;
-            streams.wires.lock(rt).end(number)?;
+            clients.visit(rt, alloc, framed.as_slice())?;
         }
-        streams.turn(rt)?;
+        turn(rt, streams, roster)?;
     }
-    let clients = u128::from(TURNS) * u128::from(CLIENTS);
-    Ok(start.elapsed(rt)?.as_nanos() / clients)
+    let visits = u128::from(TURNS) * u128::from(CLIENTS);
+    Ok(start.elapsed(rt)?.as_nanos() / visits)
 }
 
 /// Nanoseconds of a query, 40 in a piece.
-fn time_queries<R: Wait + Clock, J: Naming>(
+fn time_queries<R: Wait + Clock, S: Streams, T: Taker, O: Outside, P: Posts>(
     rt: &R,
     alloc: Global,
-    streams: &mut Streams<'_, R, J>,
+    streams: &mut StreamLoop<S, T, O, P>,
+    roster: &Roster,
+    clients: &Clients,
     number: u64,
 ) -> io::Result<u128> {
+    let piece = queries(alloc)?;
+    let start = Instant::now(rt)?;
+    for _ in 0..TURNS {
+        clients.piece(rt, alloc, number, piece.as_slice())?;
+        turn(rt, streams, roster)?;
+    }
+    Ok(start.elapsed(rt)?.as_nanos() / (u128::from(TURNS) * QUERIES as u128))
+}
+
+/// 40 queries, each behind its length.
+fn queries(alloc: Global) -> Result<Vec<u8>, AllocError> {
     let framed = frame(alloc, QUERY)?;
     let mut piece = Vec::new(alloc);
     for _ in 0..QUERIES {
         piece.extend_from_slice(framed.as_slice())?;
     }
-    let start = Instant::now(rt)?;
-    for _ in 0..TURNS {
-        streams.piece(rt, alloc, number, piece.as_slice())?;
-        streams.turn(rt)?;
-    }
-    Ok(start.elapsed(rt)?.as_nanos() / (u128::from(TURNS) * QUERIES as u128))
+    Ok(piece)
 }
 
-/// Times turns of the clock with nothing due.
-fn time_clock<R: Wait + Clock, J: Naming>(
+/// Times turns of the clock at the next seat.
+fn clock_at<J: Naming, R: Wait + Clock>(
     rt: &R,
     alloc: Global,
     desk: &Desk<J>,
-    seat: Seat<J>,
-    times: &mut Times,
+    seats: &mut Vec<Seat<J>>,
+    figures: &mut Figures,
 ) -> io::Result<()> {
-    let mut clock = clock(rt, alloc, desk, seat)?;
-    let roster = roster(alloc)?;
-    for _ in 0..BLOCKS {
-        times.clock = less(times.clock, time_clock_block(rt, &mut clock, &roster)?);
-    }
-    Ok(())
+    let sockets = sockets(rt, alloc)?;
+    let (posts, outside) = sides(rt, alloc)?;
+    let Some(seat) = seats.pop() else {
+        return Ok(());
+    };
+    let caller = Caller::new(rt, desk, seat);
+    let mut clock = clocking(alloc, sockets, posts, caller, outside)?;
+    let timed = time_clock(rt, alloc, &mut clock, figures);
+    let _left = clock.into_parts();
+    timed
 }
 
-fn clock<'a, R: Wait, J: Naming>(
-    rt: &'a R,
-    alloc: Global,
-    desk: &'a Desk<J>,
-    seat: Seat<J>,
-) -> Result<Clocking<'a, R, J>, AllocError> {
+/// Sockets of datagrams to which none comes.
+fn sockets<'a, R: Wait>(rt: &'a R, alloc: Global) -> Result<MemoryDatagrams<'a, R>, AllocError> {
     let packets = Arc::new(alloc, Mutex::new(Packets::new(alloc)))?;
     let none = VecDeque::new(alloc);
-    let sockets = MemoryDatagrams::new(rt, alloc, 1, none, packets, Failing::default());
+    Ok(MemoryDatagrams::new(rt, alloc, 1, none, packets, Failing::default()))
+}
+
+/// A loop of the clock beside one listener.
+fn clocking<D: Datagrams, P: Posts, T: Taker, O: Outside>(
+    alloc: Global,
+    sockets: D,
+    posts: P,
+    taker: T,
+    outside: O,
+) -> Result<ClockLoop<D, P, T, O>, AllocError> {
     let (_, second, _) = Outbox::made(alloc, 1)?;
     let fronts = Vec::from_slice(alloc, &[Front::Datagram])?;
-    let posts = posts(rt, alloc)?;
-    let caller = Caller::new(rt, desk, seat);
-    let outside = outside(rt, alloc)?;
-    ClockLoop::made(alloc, sockets, second, fronts, posts, caller, outside)
+    ClockLoop::made(alloc, sockets, second, fronts, posts, taker, outside)
+}
+
+/// Times turns of the clock with nothing due.
+fn time_clock<R: Wait + Clock, D: Datagrams, P: Posts, T: Taker, O: Outside>(
+    rt: &R,
+    alloc: Global,
+    clock: &mut ClockLoop<D, P, T, O>,
+    figures: &mut Figures,
+) -> io::Result<()> {
+    let roster = roster(alloc)?;
+    for _ in 0..BLOCKS {
+        figures.clock = less(figures.clock, time_clock_block(rt, clock, &roster)?);
+    }
+    Ok(())
 }
 
 /// A roster of 256 servers in mode auto.
@@ -366,9 +393,9 @@ fn roster(alloc: Global) -> Result<Roster, AllocError> {
     Ok(roster)
 }
 
-fn time_clock_block<R: Wait + Clock, J: Naming>(
+fn time_clock_block<R: Wait + Clock, D: Datagrams, P: Posts, T: Taker, O: Outside>(
     rt: &R,
-    clock: &mut Clocking<'_, R, J>,
+    clock: &mut ClockLoop<D, P, T, O>,
     roster: &Roster,
 ) -> io::Result<u128> {
     let start = Instant::now(rt)?;

@@ -1,10 +1,8 @@
 //! How long a datagram takes: by turns over sockets in memory, and by calls of a desk with the same copies.
 
-ghost use Rattle.std.specs.Prelude.{◌≡◌};
-ghost use Rattle.lb_core.specs.Snapshot.{snapshot_of};
-
+use crate::desk::{Figures, Work, at_desk};
 use lb_core::{Answer, Balancer, BoxedCommand, Command, Event, StatedAction, StatedRule};
-use lb_desk::{Desk, Naming};
+use lb_desk::{Desk, Naming, Seat};
 use lb_loops::{Caller, Datagram, Endpoint, Gate, Roster, Socket, Spare, Taker, datagram_turn};
 use lb_memory::{Failing, MemoryDatagrams, MemoryOutside, Moments, Packets};
 use lb_terms::Term;
@@ -12,9 +10,8 @@ use lb_wire::{Addr, Kind, Octets, Origin, Rcode};
 use std::alloc::{AllocError, Global};
 use std::collections::VecDeque;
 use std::io;
-use std::marker::Brand;
-use std::sync::ledger::Blank;
 use std::sync::{Arc, Mutex, Wait};
+use std::thread::Threads;
 use std::time::{Clock, Instant};
 
 /// How many turns are timed together, and how many calls instead of them.
@@ -46,49 +43,38 @@ impl Gate for Open {
     }
 }
 
-/// The least nanoseconds of a datagram.
-#[derive(Clone, Copy)]
-struct Times {
-    call: u128,
-    turn: u128,
-}
-
 /// Times refused queries, in turn by calls alone and by turns. That the datagrams are made is counted in.
-pub(crate) fn time_turns<R: Wait + Clock>(rt: &HostRuntime, waits: &R) -> io::Result<()> {
-    let least = best(waits, rt.alloc())?;
-    let (call, turn) = (least.call, least.turn);
+pub(crate) fn time_turns<R: Threads + Wait + Clock + Sync>(
+    rt: &HostRuntime,
+    starts: &R,
+) -> io::Result<()> {
+    let balancer = Balancer::new(rt.alloc())?;
+    let least = at_desk(starts, rt.alloc(), balancer, 0, Work::Turns)?;
+    let (call, turn) = (least.call, least.query);
     eprintln!(rt; "a refused query by a call: {call} ns, by a turn: {turn} ns")
 }
 
-/// The least times at a new desk.
-fn best<R: Wait + Clock>(rt: &R, alloc: Global) -> io::Result<Times> {
-    let balancer = Balancer::new(alloc)?;
-    least_at::<Brand, R>(rt, alloc, Blank::new(1), balancer)
-}
-
-fn least_at<J: Naming, R: Wait + Clock>(
+/// The least times at a desk.
+pub(crate) fn turns_at<J: Naming, R: Wait + Clock>(
     rt: &R,
     alloc: Global,
-    blank: Blank,
-    balancer: Balancer,
-) -> io::Result<Times>
-    requires name { blank.name ≡ J.name }
-    requires parts { (blank.parts ≡ J.parts) × (J.parts ≡ J.seats) }
-    requires seats { J.seats ≡ 1 }
-    requires limit { J.limit ≡ 0 }
-    requires opening { J.opening ≡ snapshot_of balancer }
-{
-    let (desk, mut seats) = Desk::<J>::made(alloc, blank, balancer, 0, 1)?;
+    desk: &Desk<J>,
+    seats: &mut Vec<Seat<J>>,
+) -> io::Result<Figures> {
     match seats.pop() {
-        Some(seat) => least_of(rt, alloc, &mut Caller::new(rt, &desk, seat)),
-        None => Ok(Times { call: 0, turn: 0 }),
+        Some(seat) => least_of(rt, alloc, &mut Caller::new(rt, desk, seat)),
+        None => Ok(Figures::default()),
     }
 }
 
 /// The least times where every query is refused.
-fn least_of<R: Wait + Clock, T: Taker>(rt: &R, alloc: Global, taker: &mut T) -> io::Result<Times> {
+fn least_of<R: Wait + Clock, T: Taker>(
+    rt: &R,
+    alloc: Global,
+    taker: &mut T,
+) -> io::Result<Figures> {
     if !is_ruled(alloc, taker)? {
-        return Ok(Times { call: 0, turn: 0 });
+        return Ok(Figures::default());
     }
     let mut around = Around::new(rt, alloc)?;
     least_around(rt, alloc, &mut around, taker)
@@ -100,15 +86,13 @@ fn least_around<R: Wait + Clock, T: Taker>(
     alloc: Global,
     around: &mut Around<'_, R>,
     taker: &mut T,
-) -> io::Result<Times> {
-    let mut least = Times { call: 0, turn: 0 };
+) -> io::Result<Figures> {
+    let mut least = Figures::default();
     for _ in 0..BLOCKS {
         let call = time_block(rt, alloc, around, taker, false)?;
         let turn = time_block(rt, alloc, around, taker, true)?;
-        least = Times {
-            call: less(least.call, call),
-            turn: less(least.turn, turn),
-        };
+        least.call = less(least.call, call);
+        least.query = less(least.query, turn);
     }
     Ok(least)
 }
@@ -150,17 +134,27 @@ fn time_block<R: Wait + Clock, T: Taker>(
     let start = Instant::now(rt)?;
     let mut answered = 0usize;
     for _ in 0..TURNS {
-        let coming = coming(alloc)?;
-        let more = if is_turn {
-            by_turn(rt, alloc, coming, around, taker)?
-        } else {
-            by_calls(rt, alloc, coming, &around.packets, taker)?
-        };
-        answered = answered.wrapping_add(more);
+        answered = answered.wrapping_add(answers(rt, alloc, around, taker, is_turn)?);
         around.packets.lock(rt).taken.clear();
     }
     let nanos = start.elapsed(rt)?.as_nanos();
     Ok(nanos / (answered as u128).max(1))
+}
+
+/// How many datagrams of a turn were answered, by a turn or by calls.
+fn answers<R: Wait, T: Taker>(
+    rt: &R,
+    alloc: Global,
+    around: &mut Around<'_, R>,
+    taker: &mut T,
+    is_turn: bool,
+) -> Result<usize, AllocError> {
+    let mut coming = coming(alloc)?;
+    if is_turn {
+        by_turn(rt, alloc, coming, around, taker)
+    } else {
+        by_calls(rt, alloc, &mut coming, &around.packets, taker)
+    }
 }
 
 /// Has a rule taken by which every query is refused. Whether there is one.
@@ -228,21 +222,22 @@ fn by_turn<R: Wait, T: Taker>(
 fn by_calls<R: Wait, T: Taker>(
     rt: &R,
     alloc: Global,
-    coming: VecDeque<Datagram>,
+    coming: &mut VecDeque<Datagram>,
     packets: &Mutex<Packets>,
     taker: &mut T,
 ) -> Result<usize, AllocError> {
     let mut answered = 0usize;
-    for datagram in coming {
-        let copy = datagram.bytes.copy(alloc)?;
-        if is_answered(rt, alloc, datagram, packets, taker)? {
+    for _ in 0..DATAGRAMS {
+        if let Some(datagram) = coming.pop_front()
+            && is_answered(rt, alloc, datagram, packets, taker)?
+        {
             answered = answered.wrapping_add(1);
         }
-        drop(copy);
     }
     Ok(answered)
 }
 
+/// Whether a datagram is answered.
 fn is_answered<R: Wait, T: Taker>(
     rt: &R,
     alloc: Global,
@@ -250,26 +245,51 @@ fn is_answered<R: Wait, T: Taker>(
     packets: &Mutex<Packets>,
     taker: &mut T,
 ) -> Result<bool, AllocError> {
-    let event = Event::Query {
+    let Datagram {
+        socket,
+        peer,
+        bytes,
+    } = datagram;
+    // what a turn keeps for its line
+    let _copy = bytes.copy(alloc)?;
+    match taker.take(query(Kind::Datagram, 0, bytes)) {
+        Ok(Answer::Local(bytes, _)) => sent(rt, alloc, packets, socket, peer, &bytes),
+        _ => Ok(false),
+    }
+}
+
+/// Sends a copy of an answer.
+fn sent<R: Wait>(
+    rt: &R,
+    alloc: Global,
+    packets: &Mutex<Packets>,
+    socket: Socket,
+    peer: Endpoint,
+    bytes: &Octets,
+) -> Result<bool, AllocError> {
+    let bytes = bytes.copy(alloc)?;
+    let datagram = Datagram {
+        socket,
+        peer,
+        bytes,
+    };
+    let pushed = packets.lock(rt).taken.push(datagram);
+    pushed?;
+    Ok(true)
+}
+
+/// The query of the one who asks.
+pub(crate) fn query(kind: Kind, slot: u64, bytes: Octets) -> Event {
+    Event::Query {
         now: 1,
         origin: Origin {
             front: 0,
-            slot: 0,
-            source: datagram.peer.addr,
-            port: datagram.peer.port,
+            slot,
+            source: PEER.addr,
+            port: PEER.port,
         },
-        kind: Kind::Datagram,
+        kind,
         word: 16,
-        bytes: datagram.bytes,
-    };
-    let Ok(Answer::Local(bytes, _)) = taker.take(event) else {
-        return Ok(false);
-    };
-    let bytes = bytes.copy(alloc)?;
-    packets.lock(rt).taken.push(Datagram {
-        socket: datagram.socket,
-        peer: datagram.peer,
         bytes,
-    })?;
-    Ok(true)
+    }
 }

@@ -1,19 +1,19 @@
-//! Lines that say what comes to sockets, to the outbox and to the roster.
+//! Lines that say what comes to sockets.
 
 use crate::fault::Fault;
 use crate::octets::{message_of, rest_of};
 use crate::stage::Stage;
 use crate::words::Words;
-use lb_desk::Naming;
-use lb_loops::{Datagram, Job, Place, Socket, frame};
-use lb_servers::Mode;
-use lb_wire::{Kind, Lane, Octets, Origin, ServerId};
-use std::sync::Wait;
+use lb_loops::{Datagram, Socket, frame};
+use lb_memory::{Packets, Wires};
+use lb_wire::{Octets, Origin, ServerId};
+use std::alloc::AllocError;
+use std::sync::{Mutex, Wait};
 
 /// The most octets that one read of a connection gives.
 const PIECE: usize = 16_384;
 
-impl<'a, R: Wait, J: Naming> Stage<'a, R, J> {
+impl<R: Wait> Stage<'_, R> {
     /// Plays a line with this first word.
     pub(crate) fn come(&mut self, word: &str, words: &mut Words<'_>) -> Result<(), Fault> {
         match word {
@@ -23,57 +23,29 @@ impl<'a, R: Wait, J: Naming> Stage<'a, R, J> {
             "message" => self.message(words),
             "octets" => self.octets(words),
             "ends" | "breaks" | "leaves" | "takes" => self.wire(word, words),
-            "job" => self.job(words),
             "request" => self.request(words),
-            _ => Err(words.unknown()),
-        }
-    }
-
-    /// `put SERVER ADDR PORT up|down|auto [resolve]`, `remove SERVER`.
-    pub(crate) fn set_roster(&mut self, words: &mut Words<'_>) -> Result<(), Fault> {
-        let word = words.word()?;
-        let server = ServerId(words.number()?);
-        if word == "remove" {
-            self.roster.remove(server);
-            return Ok(());
-        }
-        let place = place_of(words)?;
-        match self.roster.put(server, place) {
-            Ok(()) => Ok(()),
-            Err(_) => Err(words.full()),
+            word => self.set(word, words),
         }
     }
 
     /// A datagram to a listener, `FRONT ADDR PORT OCTETS`, or to a server's socket, `server SERVER LANE ADDR PORT ADDR PORT OCTETS`: of the
     /// end that it was made for, and where the datagram is from.
     fn packet(&mut self, words: &mut Words<'_>) -> Result<(), Fault> {
-        let word = words.word()?;
-        let socket = if word == "server" {
-            server_socket(words)?
-        } else {
-            match word.parse::<u8>() {
-                Ok(front) => Socket::Listener(front),
-                Err(_) => return Err(words.bad()),
-            }
-        };
+        let socket = socket_of(words)?;
         let datagram = self.datagram(socket, words)?;
-        let mut packets = self.shared.packets.lock(self.rt);
-        packets.coming.push_back(datagram)?;
-        Ok(())
+        come_to(self.rt, &self.shared.packets, datagram)
     }
 
     /// The same to the socket of a probe.
     fn answer(&mut self, words: &mut Words<'_>) -> Result<(), Fault> {
         let socket = server_socket(words)?;
         let datagram = self.datagram(socket, words)?;
-        let mut probes = self.shared.probes.lock(self.rt);
-        probes.coming.push_back(datagram)?;
-        Ok(())
+        come_to(self.rt, &self.shared.probes, datagram)
     }
 
     fn datagram(&self, socket: Socket, words: &mut Words<'_>) -> Result<Datagram, Fault> {
         let peer = words.end()?;
-        let bytes = message_of(self.alloc, words, self.names.as_slice())?;
+        let bytes = self.message_of(words)?;
         Ok(Datagram {
             socket,
             peer,
@@ -81,19 +53,28 @@ impl<'a, R: Wait, J: Naming> Stage<'a, R, J> {
         })
     }
 
+    /// The octets of the words that are left.
+    fn rest_of(&self, words: &mut Words<'_>) -> Result<Vec<u8>, Fault> {
+        rest_of(self.alloc, words, self.names.as_slice())
+    }
+
+    /// The same as a message.
+    pub(crate) fn message_of(&self, words: &mut Words<'_>) -> Result<Octets, Fault> {
+        message_of(self.alloc, words, self.names.as_slice())
+    }
+
     /// A client that waits, `FRONT ADDR PORT`.
     fn client(&mut self, words: &mut Words<'_>) -> Result<(), Fault> {
         let front = words.place()?;
         let from = words.end()?;
-        let mut wires = self.shared.wires.lock(self.rt);
-        wires.come(front, from)?;
-        Ok(())
+        let come = self.shared.wires.lock(self.rt).come(front, from);
+        Ok(come?)
     }
 
     /// A message that comes on a connection behind its length, `CONNECTION OCTETS`.
     fn message(&mut self, words: &mut Words<'_>) -> Result<(), Fault> {
         let connection = words.number()?;
-        let message = message_of(self.alloc, words, self.names.as_slice())?;
+        let message = self.message_of(words)?;
         let framed = frame(self.alloc, message.as_slice())?;
         self.pieces(connection, framed.as_slice())
     }
@@ -101,16 +82,16 @@ impl<'a, R: Wait, J: Naming> Stage<'a, R, J> {
     /// Octets that come on a connection, `CONNECTION OCTETS`.
     fn octets(&mut self, words: &mut Words<'_>) -> Result<(), Fault> {
         let connection = words.number()?;
-        let octets = rest_of(self.alloc, words, self.names.as_slice())?;
+        let octets = self.rest_of(words)?;
         self.pieces(connection, octets.as_slice())
     }
 
     /// Octets that come on a connection, in pieces.
     fn pieces(&mut self, connection: u64, octets: &[u8]) -> Result<(), Fault> {
-        let mut wires = self.shared.wires.lock(self.rt);
         for piece in octets.chunks(PIECE) {
             let piece = Octets::from_vec(Vec::from_slice(self.alloc, piece)?);
-            wires.piece(connection, piece)?;
+            let come = self.shared.wires.lock(self.rt).piece(connection, piece);
+            come?;
         }
         Ok(())
     }
@@ -119,56 +100,53 @@ impl<'a, R: Wait, J: Naming> Stage<'a, R, J> {
     /// octets more.
     fn wire(&mut self, word: &str, words: &mut Words<'_>) -> Result<(), Fault> {
         let connection = words.number()?;
-        let mut wires = self.shared.wires.lock(self.rt);
-        match word {
-            "ends" => wires.end(connection)?,
-            "breaks" => wires.fail(connection)?,
-            "leaves" => wires.leave(connection)?,
-            _ => {
-                let octets = words.number()?;
-                wires.take_at_most(connection, octets as usize)?;
-            }
-        }
-        Ok(())
-    }
-
-    /// A job of the HTTP front: `server SERVER udp|tcp LANE OCTETS`, or `client FRONT SLOT ADDR PORT OCTETS`.
-    fn job(&mut self, words: &mut Words<'_>) -> Result<(), Fault> {
-        let job = match words.word()? {
-            "server" => self.job_to_server(words)?,
-            "client" => self.job_to_client(words)?,
-            _ => return Err(words.bad()),
+        let octets = match word {
+            "takes" => words.number()?,
+            _ => 0,
         };
-        match self.sender.send(self.rt, job) {
-            Ok(()) => Ok(()),
-            Err(_) => Err(words.full()),
-        }
-    }
-
-    fn job_to_server(&self, words: &mut Words<'_>) -> Result<Job, Fault> {
-        let server = ServerId(words.number()?);
-        let kind = match words.word()? {
-            "udp" => Kind::Datagram,
-            "tcp" => Kind::Stream,
-            _ => return Err(words.bad()),
-        };
-        let number = words.place()?;
-        let octets = message_of(self.alloc, words, self.names.as_slice())?;
-        Ok(Job::ToServer(server, Lane { kind, number }, octets))
-    }
-
-    fn job_to_client(&self, words: &mut Words<'_>) -> Result<Job, Fault> {
-        let origin = origin_of(words)?;
-        let octets = message_of(self.alloc, words, self.names.as_slice())?;
-        Ok(Job::ToClient(origin, octets))
+        let happened = happen(
+            &mut self.shared.wires.lock(self.rt),
+            word,
+            connection,
+            octets,
+        );
+        Ok(happened?)
     }
 
     /// A request that has ended, by its number.
     fn request(&mut self, words: &mut Words<'_>) -> Result<(), Fault> {
         let number = words.number()?;
-        let mut requests = self.shared.requests.lock(self.rt);
-        requests.end(number)?;
-        Ok(())
+        let ended = self.shared.requests.lock(self.rt).end(number);
+        Ok(ended?)
+    }
+}
+
+/// A datagram comes to sockets.
+fn come_to<R: Wait>(rt: &R, packets: &Mutex<Packets>, datagram: Datagram) -> Result<(), Fault> {
+    let come = packets.lock(rt).coming.push_back(datagram);
+    come?;
+    Ok(())
+}
+
+/// Something happens to a connection, by the word for it.
+fn happen(wires: &mut Wires, word: &str, connection: u64, octets: u64) -> Result<(), AllocError> {
+    match word {
+        "ends" => wires.end(connection),
+        "breaks" => wires.fail(connection),
+        "leaves" => wires.leave(connection),
+        _ => wires.take_at_most(connection, octets as usize),
+    }
+}
+
+/// The socket of a datagram that comes: a listener by its place, or `server` and a server's socket.
+fn socket_of(words: &mut Words<'_>) -> Result<Socket, Fault> {
+    let word = words.word()?;
+    if word == "server" {
+        return server_socket(words);
+    }
+    match word.parse::<u8>() {
+        Ok(front) => Ok(Socket::Listener(front)),
+        Err(_) => Err(words.bad()),
     }
 }
 
@@ -177,23 +155,6 @@ fn server_socket(words: &mut Words<'_>) -> Result<Socket, Fault> {
     let server = ServerId(words.number()?);
     let number = words.place()?;
     Ok(Socket::Server(server, number, words.end()?))
-}
-
-/// Where a server is: `ADDR PORT up|down|auto [resolve]`.
-fn place_of(words: &mut Words<'_>) -> Result<Place, Fault> {
-    let at = words.end()?;
-    let mode = match words.word()? {
-        "up" => Mode::Up,
-        "down" => Mode::Down,
-        "auto" => Mode::Auto,
-        _ => return Err(words.bad()),
-    };
-    let must_resolve = words.more() == Some("resolve");
-    Ok(Place {
-        at,
-        mode,
-        must_resolve,
-    })
 }
 
 /// Where a query comes from, `FRONT SLOT ADDR PORT`.

@@ -2,25 +2,43 @@
 
 use std::alloc::{AllocError, AllocFailed};
 use std::io;
-use thiserror::Error;
 
-/// Why a scene is not played to its end.
-#[derive(Debug, Drop, Error)]
+/// Why a scene is not played to its end; where it is for a line, with its number from 1.
+#[derive(Clone, Copy, Drop)]
 pub(crate) enum Fault {
-    #[error("line {0}: no such line")]
     NoSuchLine(usize),
-    #[error("line {0}: a word is missing")]
     Missing(usize),
-    #[error("line {0}: a word that cannot stand there")]
     BadWord(usize),
-    #[error("line {0}: more than there is room for")]
     Full(usize),
-    #[error("the desk's log or its receipts differ")]
     Audit,
-    #[error("no memory")]
     NoMemory,
-    #[error("device fault")]
-    Device(io::Error),
+    Device,
+}
+
+impl Fault {
+    /// The number of the line; 0 where it is for none.
+    pub(crate) fn line(self) -> usize {
+        match self {
+            Fault::NoSuchLine(number)
+            | Fault::Missing(number)
+            | Fault::BadWord(number)
+            | Fault::Full(number) => number,
+            Fault::Audit | Fault::NoMemory | Fault::Device => 0,
+        }
+    }
+
+    /// What an operator reads.
+    pub(crate) fn why(self) -> &'static str {
+        match self {
+            Fault::NoSuchLine(_) => "no such line",
+            Fault::Missing(_) => "a word is missing",
+            Fault::BadWord(_) => "a word that cannot stand there",
+            Fault::Full(_) => "more than there is room for",
+            Fault::Audit => "the desk's log or its receipts differ",
+            Fault::NoMemory => "no memory",
+            Fault::Device => "device fault",
+        }
+    }
 }
 
 impl From<AllocError> for Fault {
@@ -36,7 +54,7 @@ impl<T: Drop> From<AllocFailed<T>> for Fault {
 }
 
 impl From<io::Error> for Fault {
-    fn from(error: io::Error) -> Fault {
-        Fault::Device(error)
+    fn from(_error: io::Error) -> Fault {
+        Fault::Device
     }
 }

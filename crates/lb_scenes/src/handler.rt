@@ -1,50 +1,38 @@
 //! The event handler of a scene's loop.
 
 use lb_core::{Answer, Event};
-use lb_desk::{Desk, DeskFault, Naming, Seat};
-use lb_loops::{Caller, Taker};
+use lb_desk::DeskFault;
+use lb_loops::Taker;
 use std::sync::atomic::{AtomicBool, Ordering};
-use std::sync::{Arc, Wait};
 
-/// Hands events to the desk, or refuses them as a desk whose count is full does.
+/// Hands events to another handler, or refuses them as a desk whose count is full does.
 #[derive(Drop)]
-pub(crate) struct Handler<'a, R: Wait, J: Naming> {
-    caller: Caller<'a, R, J>,
-    is_full: Arc<AtomicBool>,
+pub(crate) struct Handler<'a, T: Taker> {
+    taker: T,
+    is_full: &'a AtomicBool,
 }
 
-impl<'a, R: Wait, J: Naming> Handler<'a, R, J> {
-    pub(crate) fn new(
-        rt: &'a R,
-        desk: &'a Desk<J>,
-        seat: Seat<J>,
-        is_full: Arc<AtomicBool>,
-    ) -> Handler<'a, R, J> {
-        Handler {
-            caller: Caller::new(rt, desk, seat),
-            is_full,
-        }
+impl<'a, T: Taker> Handler<'a, T> {
+    pub(crate) fn new(taker: T, is_full: &'a AtomicBool) -> Handler<'a, T> {
+        Handler { taker, is_full }
     }
 
-    /// The seat, when the loop has ended.
-    pub(crate) fn into_seat(self) -> Seat<J> {
-        let Handler { caller, .. } = self;
-        caller.into_seat()
+    /// The other handler, when the loop has ended.
+    pub(crate) fn into_taker(self) -> T {
+        let Handler { taker, .. } = self;
+        taker
     }
 }
 
-impl<'a, R: Wait, J: Naming> Taker for Handler<'a, R, J> {
-    ghost use Rattle.std.specs.Prelude.{List, map};
-    ghost use Rattle.lb_loops.specs.Caller.{pairs_of};
+impl<T: Taker> Taker for Handler<'_, T> {
+    ghost answered = { λ h. T.answered h.taker };
 
-    ghost answered = { λ h. h.caller.seat.calls };
-
-    ghost pairs = { λ h. pairs_of h.caller.seat.receipts };
+    ghost pairs = { λ h. T.pairs h.taker };
 
     fn take(&mut self, event: Event) -> Result<Answer, (DeskFault, Event)> {
         if self.is_full.load(Ordering::SeqCst) {
             return Err((DeskFault::CountFull, event));
         }
-        self.caller.take(event)
+        self.taker.take(event)
     }
 }

@@ -52,19 +52,45 @@ fn add(
     if word == "-" {
         return Ok(());
     }
-    if let Some(name) = word.strip_prefix("$") {
-        let Some(named) = names.iter().find(|named| named.name.as_str() == name) else {
-            return Err(words.bad());
-        };
-        octets.extend_from_slice(named.octets.as_slice())?;
-        return Ok(());
+    match word.strip_prefix("$") {
+        Some(name) => add_named(octets, name, words, names),
+        None => add_digits(alloc, octets, word, words),
     }
+}
+
+/// The same of named octets.
+fn add_named(
+    octets: &mut Vec<u8>,
+    name: &str,
+    words: &Words<'_>,
+    names: &[Named],
+) -> Result<(), Fault> {
+    for named in names {
+        if named.name.as_str() == name {
+            octets.extend_from_slice(named.octets.as_slice())?;
+            return Ok(());
+        }
+    }
+    Err(words.bad())
+}
+
+/// The same of digits.
+fn add_digits(
+    alloc: Global,
+    octets: &mut Vec<u8>,
+    word: &str,
+    words: &Words<'_>,
+) -> Result<(), Fault> {
     let (digits, times) = parts_of(word, words)?;
-    let Ok(once) = hex::decode(alloc, digits) else {
-        return Err(words.bad());
-    };
+    match hex::decode(alloc, digits) {
+        Ok(once) => repeat(octets, once.as_slice(), times),
+        Err(_) => Err(words.bad()),
+    }
+}
+
+fn repeat(octets: &mut Vec<u8>, once: &[u8], times: u32) -> Result<(), Fault> {
     for _ in 0..times {
-        octets.extend_from_slice(once.as_slice())?;
+        octets.extend_from_slice(once)?;
     }
     Ok(())
 }

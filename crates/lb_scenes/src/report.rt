@@ -1,56 +1,58 @@
 //! Reports as a scene tells them.
 
-use crate::texts::{LONG, end_text, lane_text, marks, octets_text, sending_text, source_text};
-use lb_command::answer_line;
+use crate::told::Told;
 use lb_core::Event;
 use lb_desk::DeskFault;
-use lb_loops::{Endpoint, Job, Line, Outcome, Report};
-use lb_wire::Origin;
-use std::alloc::{AllocError, Global};
+use lb_loops::{DeviceFault, Job, Line, Outcome, Report, Sending, Source, Way, Why};
 
 /// Tells a report: a line with the turn's name, its device fault and whether a gate held, and behind it one for each line of the report.
-pub(crate) fn tell_report(
-    alloc: Global,
-    told: &mut String,
-    name: &str,
-    report: &Report,
-) -> Result<(), AllocError> {
-    told.push_str(name)?;
-    told.push_str(marks(report.device, report.is_held))?;
-    told.push_str("\n")?;
+/// The lines, whose room the loop takes back.
+pub(crate) fn tell_report(told: &mut Told, name: &str, report: Report) -> Vec<Line> {
+    told.put(name);
+    told.put(marks(report.device, report.is_held));
+    told.put("\n");
     for line in &report.lines {
-        let text = line_text(alloc, line)?;
-        told.push_str(text.as_str())?;
-        told.push_str("\n")?;
+        tell_line(told, line);
     }
-    Ok(())
+    report.lines
 }
 
 /// One line.
-fn line_text(alloc: Global, line: &Line) -> Result<String, AllocError> {
+fn tell_line(told: &mut Told, line: &Line) {
     match line {
         Line::Event(source, event, outcome, sending) => {
-            let source = source_text(alloc, *source)?;
-            let event = event_text(alloc, event)?;
-            let outcome = outcome_text(alloc, outcome)?;
-            let sending = sending_text(alloc, *sending)?;
-            format!(in alloc; "  {source}: {event}: {outcome}: {sending}")
+            tell_source(told, *source);
+            tell_event(told, event);
+            tell_outcome(told, outcome);
+            tell_sending(told, *sending);
         }
         Line::Job(job, sending) => {
-            let job = job_text(alloc, job)?;
-            let sending = sending_text(alloc, *sending)?;
-            format!(in alloc; "  job: {job}: {sending}")
+            tell_job(told, job);
+            tell_sending(told, *sending);
         }
         Line::Probe(server, word, sending) => {
-            let server = server.0;
-            let sending = sending_text(alloc, *sending)?;
-            format!(in alloc; "  probe {server} {word}: {sending}")
+            told.number("  probe ", server.0);
+            told.number(" ", u64::from(*word));
+            tell_sending(told, *sending);
+        }
+    }
+}
+
+/// What an event came from.
+fn tell_source(told: &mut Told, source: Source) {
+    match source {
+        Source::Datagrams => told.put("  datagrams"),
+        Source::Connection(number) => told.number("  connection ", number),
+        Source::Clock => told.put("  clock"),
+        Source::Probe(server, word) => {
+            told.number("  probe ", server.0);
+            told.number(" ", u64::from(word));
         }
     }
 }
 
 /// The event of a line.
-fn event_text(alloc: Global, event: &Event) -> Result<String, AllocError> {
+fn tell_event(told: &mut Told, event: &Event) {
     match event {
         Event::Query {
             now,
@@ -59,9 +61,10 @@ fn event_text(alloc: Global, event: &Event) -> Result<String, AllocError> {
             bytes,
             ..
         } => {
-            let origin = origin_text(alloc, *origin)?;
-            let octets = octets_text(alloc, bytes.as_slice())?;
-            format!(in alloc; "query {now} {origin} {word} {octets}")
+            told.number(": query ", *now);
+            told.origin(*origin);
+            told.number(" ", u64::from(*word));
+            told.octets(bytes.as_slice());
         }
         Event::Reply {
             now,
@@ -69,62 +72,79 @@ fn event_text(alloc: Global, event: &Event) -> Result<String, AllocError> {
             lane,
             bytes,
         } => {
-            let lane = lane_text(alloc, *lane)?;
-            let octets = octets_text(alloc, bytes.as_slice())?;
-            let server = server.0;
-            format!(in alloc; "reply {now} {server} {lane} {octets}")
+            told.number(": reply ", *now);
+            told.number(" ", server.0);
+            told.lane(*lane);
+            told.octets(bytes.as_slice());
         }
-        Event::Tick { now } => format!(in alloc; "tick {now}"),
+        Event::Tick { now } => told.number(": tick ", *now),
         Event::HealthResult { now, server, ok } => {
-            let server = server.0;
-            let result = if *ok { "ok" } else { "fail" };
-            format!(in alloc; "health {now} {server} {result}")
+            told.number(": health ", *now);
+            told.number(" ", server.0);
+            told.put(if *ok { " ok" } else { " fail" });
         }
-        Event::Edit { now, .. } => format!(in alloc; "edit {now}"),
+        Event::Edit { now, .. } => told.number(": edit ", *now),
     }
 }
 
-/// Where a query came from: listener, slot, address and port.
-fn origin_text(alloc: Global, origin: Origin) -> Result<String, AllocError> {
-    let (front, slot) = (origin.front, origin.slot);
-    let end = end_text(
-        alloc,
-        Endpoint {
-            addr: origin.source,
-            port: origin.port,
-        },
-    )?;
-    format!(in alloc; "{front} {slot} {end}")
-}
-
 /// What came of an event.
-fn outcome_text(alloc: Global, outcome: &Outcome) -> Result<String, AllocError> {
+fn tell_outcome(told: &mut Told, outcome: &Outcome) {
+    told.put(": ");
     match outcome {
-        Outcome::Answered(answer) => {
-            let line = answer_line(alloc, answer)?;
-            if line.len() > 2 * LONG + 100 {
-                return String::from_str(alloc, line.split_whitespace().next().unwrap_or(""));
-            }
-            Ok(line)
-        }
-        Outcome::Fault(DeskFault::CountFull, _) => String::from_str(alloc, "desk 1 CountFull"),
-        Outcome::Fault(DeskFault::NoMemory, _) => String::from_str(alloc, "desk 2 NoMemory"),
+        Outcome::Answered(answer) => told.answer(answer),
+        Outcome::Fault(DeskFault::CountFull, _) => told.put("desk 1 CountFull"),
+        Outcome::Fault(DeskFault::NoMemory, _) => told.put("desk 2 NoMemory"),
     }
 }
 
 /// A job of another loop.
-fn job_text(alloc: Global, job: &Job) -> Result<String, AllocError> {
+fn tell_job(told: &mut Told, job: &Job) {
     match job {
         Job::ToServer(server, lane, bytes) => {
-            let lane = lane_text(alloc, *lane)?;
-            let octets = octets_text(alloc, bytes.as_slice())?;
-            let server = server.0;
-            format!(in alloc; "server {server} {lane} {octets}")
+            told.number("  job: server ", server.0);
+            told.lane(*lane);
+            told.octets(bytes.as_slice());
         }
         Job::ToClient(origin, bytes) => {
-            let origin = origin_text(alloc, *origin)?;
-            let octets = octets_text(alloc, bytes.as_slice())?;
-            format!(in alloc; "client {origin} {octets}")
+            told.put("  job: client");
+            told.origin(*origin);
+            told.octets(bytes.as_slice());
         }
+    }
+}
+
+/// What came of a send, and the end of its line.
+fn tell_sending(told: &mut Told, sending: Sending) {
+    match sending {
+        Sending::Done(Way::Connection(number)) => told.number(": connection ", number),
+        _ => told.put(sending_word(sending)),
+    }
+    told.put("\n");
+}
+
+fn sending_word(sending: Sending) -> &'static str {
+    match sending {
+        Sending::Nothing => ": nothing",
+        Sending::Done(Way::Datagram) => ": datagram",
+        Sending::Done(Way::Connection(_)) => ": connection",
+        Sending::Done(Way::Outbox) => ": outbox",
+        Sending::Done(Way::Post) => ": post",
+        Sending::Failed(Why::NoServer) => ": failed noserver",
+        Sending::Failed(Why::Gone) => ": failed gone",
+        Sending::Failed(Why::Limit) => ": failed limit",
+        Sending::Failed(Why::Full) => ": failed full",
+        Sending::Failed(Why::Device) => ": failed device",
+        Sending::Failed(Why::NoMemory) => ": failed nomemory",
+    }
+}
+
+/// The device fault of a report, and whether a gate held, as words behind its name.
+fn marks(device: Option<DeviceFault>, is_held: bool) -> &'static str {
+    match (device, is_held) {
+        (None, false) => "",
+        (None, true) => " held",
+        (Some(DeviceFault::Sockets), false) => " fault-of-sockets",
+        (Some(DeviceFault::Sockets), true) => " fault-of-sockets held",
+        (Some(DeviceFault::Outside), _) => " fault-outside",
     }
 }

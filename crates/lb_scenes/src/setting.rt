@@ -5,7 +5,7 @@ use crate::words::Words;
 use lb_memory::{Failing, StreamFailing};
 
 /// Which calls of the sockets go wrong, each counted from 1; 0 is none. Lines `fails ..` say it, wherever they stand.
-#[derive(Clone, Copy, Debug, Default)]
+#[derive(Clone, Copy, Default)]
 pub(crate) struct Setting {
     pub(crate) datagrams: Failing,
     pub(crate) streams: StreamFailing,

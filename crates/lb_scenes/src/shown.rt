@@ -1,17 +1,15 @@
 //! What sockets took in a turn, as a scene tells it.
 
-use crate::fault::Fault;
 use crate::stage::Stage;
-use crate::texts::{end_text, octets_text, socket_text};
-use lb_desk::Naming;
-use lb_loops::Datagram;
+use crate::told::Told;
+use lb_loops::{Datagram, Endpoint, Socket};
 use lb_memory::Wires;
 use lb_wire::{Octets, Origin};
 use std::alloc::{AllocError, Global};
 use std::sync::Wait;
 
 /// What was shown of a connection: how many octets that it took, how many writes, and whether it was closed.
-#[derive(Clone, Copy, Debug, Default)]
+#[derive(Clone, Copy, Default)]
 struct Wire {
     octets: usize,
     writes: u64,
@@ -43,135 +41,130 @@ impl Shown {
     }
 
     /// What streams did: whom was dialled, what connections took and in how many writes, which were closed, who was turned away.
-    fn streams(
-        &mut self,
-        alloc: Global,
-        wires: &Wires,
-        told: &mut String,
-    ) -> Result<(), AllocError> {
-        let dialed = wires.dialed();
-        for (number, end) in dialed.get(self.dials..).unwrap_or(&[]) {
-            let end = end_text(alloc, *end)?;
-            put_line(told, format!(in alloc; "dialed {number} {end}\n")?)?;
-        }
-        self.dials = dialed.len();
+    fn streams(&mut self, wires: &Wires, told: &mut Told) -> Result<(), AllocError> {
+        self.dials(wires.dialed(), told);
         for number in 1..=wires.last() {
-            self.wire(alloc, wires, number, told)?;
+            self.wire(wires, number, told)?;
         }
-        let turned_away = wires.turned_away();
-        if turned_away != self.turned_away {
-            let more = turned_away.saturating_sub(self.turned_away);
-            put_line(told, format!(in alloc; "turned away {more}\n")?)?;
-        }
-        self.turned_away = turned_away;
+        self.turned_away(wires.turned_away(), told);
         Ok(())
     }
 
+    fn dials(&mut self, dialed: &[(u64, Endpoint)], told: &mut Told) {
+        for (number, end) in dialed.get(self.dials..).unwrap_or(&[]) {
+            told.number("dialed ", *number);
+            told.end(*end);
+            told.put("\n");
+        }
+        self.dials = dialed.len();
+    }
+
+    fn turned_away(&mut self, turned_away: u64, told: &mut Told) {
+        if turned_away != self.turned_away {
+            told.number("turned away ", turned_away.saturating_sub(self.turned_away));
+            told.put("\n");
+        }
+        self.turned_away = turned_away;
+    }
+
     /// What the connection with a number did.
-    fn wire(
-        &mut self,
-        alloc: Global,
-        wires: &Wires,
-        number: u64,
-        told: &mut String,
-    ) -> Result<(), AllocError> {
+    fn wire(&mut self, wires: &Wires, number: u64, told: &mut Told) -> Result<(), AllocError> {
         let place = number as usize;
         for _ in self.wires.len()..=place {
             self.wires.push(Wire::default())?;
         }
-        let Some(shown) = self.wires.get_mut(place) else {
-            return Ok(());
-        };
+        if let Some(shown) = self.wires.get_mut(place) {
+            shown.tell(wires, number, told);
+        }
+        Ok(())
+    }
+}
+
+impl Wire {
+    /// Tells what the connection with a number did since.
+    fn tell(&mut self, wires: &Wires, number: u64, told: &mut Told) {
         let taken = wires.taken(number);
         let writes = wires.writes(number);
-        if taken.len() > shown.octets {
-            let octets = octets_text(alloc, taken.get(shown.octets..).unwrap_or(&[]))?;
-            let times = writes.saturating_sub(shown.writes);
-            put_line(
-                told,
-                format!(in alloc; "wrote {number} in {times}: {octets}\n")?,
-            )?;
+        if taken.len() > self.octets {
+            told.number("wrote ", number);
+            told.number(" in ", writes.saturating_sub(self.writes));
+            told.put(":");
+            told.octets(taken.get(self.octets..).unwrap_or(&[]));
+            told.put("\n");
         }
         let was_closed = wires.was_closed(number);
-        if was_closed && !shown.was_closed {
-            put_line(told, format!(in alloc; "closed {number}\n")?)?;
+        if was_closed && !self.was_closed {
+            told.number("closed ", number);
+            told.put("\n");
         }
-        *shown = Wire {
+        *self = Wire {
             octets: taken.len(),
             writes,
             was_closed,
         };
-        Ok(())
     }
-}
-
-fn put_line(told: &mut String, line: String) -> Result<(), AllocError> {
-    told.push_str(line.as_str())
 }
 
 /// Tells the datagrams behind so many; how many there are.
-fn tell_packets(
-    alloc: Global,
-    packets: &[Datagram],
-    shown: usize,
-    told: &mut String,
-) -> Result<usize, AllocError> {
+fn tell_packets(packets: &[Datagram], shown: usize, told: &mut Told) -> usize {
     for packet in packets.get(shown..).unwrap_or(&[]) {
-        let socket = socket_text(alloc, packet.socket)?;
-        let peer = end_text(alloc, packet.peer)?;
-        let octets = octets_text(alloc, packet.bytes.as_slice())?;
-        put_line(
-            told,
-            format!(in alloc; "sent {socket} to {peer}: {octets}\n")?,
-        )?;
+        tell_socket(packet.socket, told);
+        told.put(" to");
+        told.end(packet.peer);
+        told.put(":");
+        told.octets(packet.bytes.as_slice());
+        told.put("\n");
     }
-    Ok(packets.len())
+    packets.len()
+}
+
+/// The socket that sent a datagram.
+fn tell_socket(socket: Socket, told: &mut Told) {
+    match socket {
+        Socket::Listener(front) => told.number("sent listener ", u64::from(front)),
+        Socket::Server(server, number, at) => {
+            told.number("sent server ", server.0);
+            told.number(" udp/", u64::from(number));
+            told.end(at);
+        }
+    }
 }
 
 /// Tells what was handed to requests behind so many; how many there are.
-fn tell_posts(
-    alloc: Global,
-    handed: &[(Origin, Octets)],
-    shown: usize,
-    told: &mut String,
-) -> Result<usize, AllocError> {
+fn tell_posts(handed: &[(Origin, Octets)], shown: usize, told: &mut Told) -> usize {
     for (origin, bytes) in handed.get(shown..).unwrap_or(&[]) {
-        let slot = origin.slot;
-        let octets = octets_text(alloc, bytes.as_slice())?;
-        put_line(told, format!(in alloc; "posted {slot}: {octets}\n")?)?;
+        told.number("posted ", origin.slot);
+        told.put(":");
+        told.octets(bytes.as_slice());
+        told.put("\n");
     }
-    Ok(handed.len())
+    handed.len()
 }
 
-impl<'a, R: Wait, J: Naming> Stage<'a, R, J> {
+impl<R: Wait> Stage<'_, R> {
     /// Tells what the sockets of datagrams took since it was told last.
-    pub(crate) fn show_packets(&mut self) -> Result<(), Fault> {
+    pub(crate) fn show_packets(&mut self) {
         let packets = self.shared.packets.lock(self.rt);
         let taken = packets.taken.as_slice();
-        self.shown.packets = tell_packets(self.alloc, taken, self.shown.packets, &mut self.told)?;
-        Ok(())
+        self.shown.packets = tell_packets(taken, self.shown.packets, &mut self.told);
     }
 
     /// The same of the clock's.
-    pub(crate) fn show_probes(&mut self) -> Result<(), Fault> {
+    pub(crate) fn show_probes(&mut self) {
         let packets = self.shared.probes.lock(self.rt);
         let taken = packets.taken.as_slice();
-        self.shown.probes = tell_packets(self.alloc, taken, self.shown.probes, &mut self.told)?;
-        Ok(())
+        self.shown.probes = tell_packets(taken, self.shown.probes, &mut self.told);
     }
 
     /// The same of the connections.
-    pub(crate) fn show_streams(&mut self) -> Result<(), Fault> {
+    pub(crate) fn show_streams(&mut self) -> Result<(), AllocError> {
         let wires = self.shared.wires.lock(self.rt);
-        self.shown.streams(self.alloc, &wires, &mut self.told)?;
-        Ok(())
+        self.shown.streams(&wires, &mut self.told)
     }
 
     /// Tells what was handed to requests since it was told last.
-    pub(crate) fn show_posts(&mut self) -> Result<(), Fault> {
+    pub(crate) fn show_posts(&mut self) {
         let requests = self.shared.requests.lock(self.rt);
-        let handed = requests.handed();
-        self.shown.posts = tell_posts(self.alloc, handed, self.shown.posts, &mut self.told)?;
-        Ok(())
+        self.shown.posts = tell_posts(requests.handed(), self.shown.posts, &mut self.told);
     }
 }
