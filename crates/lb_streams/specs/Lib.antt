@@ -7,3 +7,4 @@ pub mod Lines
 pub mod Turn
 pub mod Steps
 pub mod Ends
+pub mod Writing

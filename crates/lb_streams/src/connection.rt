@@ -98,10 +98,19 @@ impl Connection {
     /// Puts a message behind what is to be written. The one error is want of memory, and then nothing has changed.
     pub(crate) fn promise(&mut self, message: &Octets) -> Result<(), AllocError>
         ensures promised { OnOk result (self.new.outgoing ≡ self.old.outgoing ++ framed message.now) }
-        ensures same { OnErr result (self.new.outgoing ≡ self.old.outgoing) }
-        ensures rest { (self.new.number ≡ self.old.number) × (self.new.peer ≡ self.old.peer) × (self.new.incoming ≡ self.old.incoming) × (self.new.is_ended ≡ self.old.is_ended) }
+        ensures same { OnErr result (self.new ≡ self.old) }
+        ensures rest { self.new ≡ record self.old { outgoing = self.new.outgoing } }
     {
         self.outgoing.push_framed(message.as_slice())
+    }
+
+    /// Notes its number among those that are to be written at the end of the turn, where there is memory for that.
+    pub(crate) fn touch(&mut self, touched: &mut Vec<u64>)
+        ensures { self.new ≡ record self.old { is_touched = self.new.is_touched } }
+    {
+        if !self.is_touched {
+            self.is_touched = touched.push(self.number).is_ok();
+        }
     }
 
     /// Its peer has closed its side, at this moment. Tells the moment at which it is closed at the latest.

@@ -295,16 +295,6 @@ impl Connections {
         let _ = self.queue.pop_front();
     }
 
-    /// Notes that a connection is to be written at the end of the turn, where there is memory for that.
-    pub(crate) fn touch(&mut self, connection: &mut Connection)
-        ensures same { self.new ≡ self.old }
-        ensures rest { (connection.new.number ≡ connection.old.number) × (connection.new.peer ≡ connection.old.peer) × (connection.new.incoming ≡ connection.old.incoming) × (connection.new.outgoing ≡ connection.old.outgoing) × (connection.new.is_ended ≡ connection.old.is_ended) }
-    {
-        if !connection.is_touched {
-            connection.is_touched = self.touched.push(connection.number).is_ok();
-        }
-    }
-
     /// A connection that is to be written at the end of the turn.
     pub(crate) fn next_touched(&mut self) -> Option<u64>
         ensures same { self.new ≡ self.old }
