@@ -1,5 +1,5 @@
 -- A connection taken out of its place or put in changes no other.
-use Rattle.std.proofs.Common.{◌≡◌, ◌≢◌, ℕ, ⊎_elim, ◌+◌, ◌<◌, ◌≤◌, ◌%◌, Bool, true, false, true≢false, subst, List, ◌++◌, length, zero, suc, set, get_or, replicate, if◌then◌else◌, cond, ◌==◌, Option, Some, None, refl, sym, ap, ◌∙◌, arith, rules}
+use Rattle.std.proofs.Common.{◌≡◌, ◌≢◌, ℕ, ⊎_elim, ◌+◌, ◌<◌, ◌≤◌, ◌%◌, ◌^◌, Bool, true, false, true≢false, subst, List, ◌++◌, length, zero, suc, set, get_or, replicate, if◌then◌else◌, cond, ◌==◌, Option, Some, None, refl, sym, ap, ◌∙◌, arith, rules}
 use Rattle.std.proofs.lemmas.List.{get_or-set_same, get_or-set_other}
 use Rattle.std.proofs.lemmas.List.Elements.{All-set, All-weaker}
 use Rattle.std.proofs.lemmas.List.Sums.{sum_by-set}
@@ -8,8 +8,10 @@ use Rattle.std.specs.List.{All}
 use Rattle.std.proofs.lemmas.Bool.Decides.{nat_tests}
 use Rattle.std.proofs.lemmas.Bool.{cases_eq}
 use Rattle.lb_frames.specs.Frames.{framed}
+use Rattle.lb_lines.specs.declared.traffic.Peer.{Peer}
 use Rattle.lb_streams.specs.declared.connection.Connection.{Connection}
-use Rattle.lb_streams.specs.Table.{IsGiven, IsNew, Narrows, Swaps, Table, at, at_place, client_count, clients_in, holds_client, if_number, is_client, is_none}
+use Rattle.lb_streams.specs.Table.{IsFirst, IsGiven, IsNew, Narrows, Swaps, Table, at, at_place, client_count, clients_in, holds_client, if_number, is_client, is_none}
+use Rattle.lb_streams.specs.Taking.{Takes}
 use Rattle.lb_streams.specs.Writing.{Puts}
 
 pub is_same : (c : ℕ) → (c == c) ≡ true
@@ -123,6 +125,28 @@ puts_at n i message t x m y at fits lt was num put rest touched =
       x = x;
       y = y;
       swaps = swaps_at n t x y (subst (λ (k : ℕ). k < length t.slots) at fits) lt (subst (λ (k : ℕ). get_or t.slots k None ≡ Some x) at was) num (ap (λ (z : Connection). z.number) same ∙ num) (ap (λ (z : Connection). z.peer) same);
+      same = same;
+    })
+
+one_at : (n : ℕ) (t : Table) (x y : Connection) → at n t ≡ Some x → at n t ≡ Some y → y ≡ x
+one_at n t x y here there = let both : Some y ≡ Some x = sym there ∙ here in cc
+
+pub takes_at : (n i : ℕ) (t : Table) (x m y : Connection) (peer : Peer) (message : List ℕ) → i ≡ n % 4096 → i < length t.slots → n < t.next → get_or t.slots i None ≡ Some x → x.number ≡ n
+    → ((message rest : List ℕ) → length message < 2 ^ 16 → x.incoming ≡ framed message ++ rest → m.incoming ≡ rest) → m ≡ record x { incoming = m.incoming; is_queued = false } → y ≡ record m { is_queued = y.is_queued }
+    → IsFirst n peer message t → Takes n message t (record t { slots = set t.slots i (Some y) })
+takes_at n i t x m y peer message place fits lt was num left rest queued first =
+    let incoming : y.incoming ≡ m.incoming = ap (λ (z : Connection). z.incoming) queued in
+    let same : y ≡ record x { incoming = y.incoming; is_queued = y.is_queued } =
+    queued ∙ ap (λ (z : Connection). record z { is_queued = y.is_queued }) rest ∙ ap (λ (zs : List ℕ). record x { incoming = zs; is_queued = y.is_queued }) (sym incoming) in
+    let swap : Swaps n t (record t { slots = set t.slots (n % 4096) (Some y) }) x y = swaps_at n t x y (subst (λ (k : ℕ). k < length t.slots) place fits) lt (subst (λ (k : ℕ). get_or t.slots k None ≡ Some x) place was) num
+    (ap (λ (z : Connection). z.number) same ∙ num) (ap (λ (z : Connection). z.peer) same) in
+    let front : x.incoming ≡ framed message ++ first.1 = ap (λ (z : Connection). z.incoming) (sym (one_at n t x first.0 swap.was first.2)) ∙ first.5 in
+    subst (λ (k : ℕ). Takes n message t (record t { slots = set t.slots k (Some y) })) (sym place) (record {
+      x = x;
+      y = y;
+      swaps = swap;
+      fits = first.4;
+      front = front ∙ ap (λ (zs : List ℕ). framed message ++ zs) (sym (incoming ∙ left message first.1 first.4 front));
       same = same;
     })
 

@@ -18,6 +18,7 @@ use Rattle.lb_streams.proofs.Steps.{fares_ended, fares_moved, fares_same, goes_s
 use Rattle.lb_streams.specs.Connection.{Ends, Moves, Net, Same, held, link, max_waiting, of_number, unwritten, wants}
 use Rattle.lb_streams.specs.Goes.{Goes, IsFull, IsOver, Notes, just, none, noted, noted_by}
 use Rattle.lb_streams.specs.Table.{Swaps, Table, at, client_count, clients, is_client, is_none}
+use Rattle.lb_streams.specs.Taking.{Takes}
 use Rattle.lb_streams.specs.Writing.{Puts}
 use Rattle.lb_streams.specs.declared.connection.Connection.{Connection}
 
@@ -73,6 +74,20 @@ pub drops_taken : (n : ℕ) (a b : Table) (taken : Option Connection) (x : Conne
 drops_taken n a b taken x was is given none_here others few next refusals =
     let one : taken ≡ Some x = sym is ∙ was in
     drops n a b x was (subst (λ (o : Option Connection). IfSome o (λ y. (y.number ≡ n) × (n < b.next))) one given).1 none_here others (subst (λ (o : Option Connection). IfSome o (λ y. clients b + client_count y ≡ clients a)) one few) next refusals
+
+-- the same, where it was changed before
+pub drops_swapped : (n : ℕ) (a mid b : Table) (x y : Connection) → Swaps n a mid x y → Drops n mid b y → Drops n a b x
+drops_swapped n a mid b x y swap drop =
+    let refusals = swap.refusals in let fewer = drop.refusals in let same = swap.clients in let few = drop.clients in
+    record {
+      was = swap.was;
+      is = drop.is;
+      given = drop.given;
+      others = λ c apart. drop.others c apart ∙ swap.others c apart;
+      next = drop.next ∙ swap.next;
+      refusals = omega (arith, refusals, fewer);
+      clients = omega (arith, same, few);
+    }
 
 pub drops_wanting : (n : ℕ) (a mid b : Table) (x : Connection) → Drops n a mid x → b ≡ record mid { refusals = b.refusals } → mid.refusals ≤ b.refusals → Drops n a b x
 drops_wanting n a mid b x d e le =
@@ -298,7 +313,7 @@ goes_put n old new message put told device = goes_promised n old new put.x put.y
     (ap (λ (z : Connection). z.outgoing) put.same) (ap (λ (z : Connection). z.is_ended) put.same)
 
 -- a message was taken of what came
-pub goes_taken : (n : ℕ) (old new : Net) (x y : Connection) (message : List ℕ) → Swaps n old.table new.table x y → new.told ≡ old.told → new.device ≡ old.device
+goes_taken : (n : ℕ) (old new : Net) (x y : Connection) (message : List ℕ) → Swaps n old.table new.table x y → new.told ≡ old.told → new.device ≡ old.device
     → y.peer ≡ x.peer → length message < 65536 → x.incoming ≡ framed message ++ y.incoming → y.outgoing ≡ x.outgoing → y.is_ended ≡ x.is_ended → Goes old new (just n message) none
 goes_taken n old new x y message table told device peer fits incoming outgoing ended =
     let gone_same : count_by (λ (k : ℕ). k == n) new.told.ended ≡ count_by (λ (k : ℕ). k == n) old.told.ended = ap (λ (t : Traffic). count_by (λ (k : ℕ). k == n) t.ended) told in
@@ -320,6 +335,10 @@ goes_taken n old new x y message table told device peer fits incoming outgoing e
       taken = ap (λ (t : Traffic). octets_of n t.taken) told ∙ sym (append-nil (octets_of n old.told.taken));
       put = outgoing ∙ sym (append-nil x.outgoing);
     })
+
+pub goes_took : (n : ℕ) (old new : Net) (message : List ℕ) → Takes n message old.table new.table → new.told ≡ old.told → new.device ≡ old.device → Goes old new (just n message) none
+goes_took n old new message taken told device = goes_taken n old new taken.x taken.y message taken.swaps told device (ap (λ (z : Connection). z.peer) taken.same) taken.fits taken.front
+    (ap (λ (z : Connection). z.outgoing) taken.same) (ap (λ (z : Connection). z.is_ended) taken.same)
 
 -- Why one is closed.
 

@@ -269,20 +269,6 @@ impl Connections {
         }
     }
 
-    /// Puts a connection that has a whole message behind those that wait for their turn, where it does not stand there yet. The one error
-    /// is want of memory.
-    pub(crate) fn enqueue(&mut self, connection: &mut Connection) -> Result<(), AllocError>
-        ensures same { self.new ≡ self.old }
-        ensures rest { (connection.new.number ≡ connection.old.number) × (connection.new.peer ≡ connection.old.peer) × (connection.new.incoming ≡ connection.old.incoming) × (connection.new.outgoing ≡ connection.old.outgoing) × (connection.new.is_ended ≡ connection.old.is_ended) }
-    {
-        if connection.is_queued || !connection.incoming.has_message() {
-            return Ok(());
-        }
-        self.queue.push_back(connection.number)?;
-        connection.is_queued = true;
-        Ok(())
-    }
-
     /// The connection whose turn it is.
     pub(crate) fn first_queued(&self) -> Option<u64> {
         self.queue.front().copied()
