@@ -1,6 +1,6 @@
 -- A connection taken out of its place or put in changes no other.
 use Rattle.std.proofs.Common.{◌≡◌, ◌≢◌, ℕ, ⊎_elim, ◌+◌, ◌<◌, ◌≤◌, ◌%◌, ◌^◌, Bool, true, false, true≢false, subst, List, ◌++◌, length, zero, suc, set, get_or, replicate, if◌then◌else◌, cond, ◌==◌, Option, Some, None, refl, sym, ap, ◌∙◌, arith, rules}
-use Rattle.std.proofs.lemmas.List.{get_or-set_same, get_or-set_other}
+use Rattle.std.proofs.lemmas.List.{length-append, get_or-set_same, get_or-set_other}
 use Rattle.std.proofs.lemmas.List.Elements.{All-set, All-weaker}
 use Rattle.std.proofs.lemmas.List.Sums.{sum_by-set}
 use Rattle.std.specs.Prelude.{IfSome, nat_lt}
@@ -9,6 +9,7 @@ use Rattle.std.proofs.lemmas.Bool.Decides.{nat_tests}
 use Rattle.std.proofs.lemmas.Bool.{cases_eq}
 use Rattle.lb_frames.specs.Frames.{framed}
 use Rattle.lb_lines.specs.declared.traffic.Peer.{Peer}
+use Rattle.lb_streams.specs.Connection.{max_waiting}
 use Rattle.lb_streams.specs.declared.connection.Connection.{Connection}
 use Rattle.lb_streams.specs.Table.{IsFirst, IsGiven, IsNew, Narrows, Swaps, Table, at, at_place, client_count, clients_in, holds_client, if_number, is_client, is_none}
 use Rattle.lb_streams.specs.Taking.{Takes}
@@ -117,15 +118,18 @@ swaps_at n t x y fits lt was num num' peer = record {
 }
 
 pub puts_at : (n i : ℕ) (message : List ℕ) (t : Table) (x m y : Connection) → i ≡ n % 4096 → i < length t.slots → n < t.next → get_or t.slots i None ≡ Some x → x.number ≡ n
-    → m.outgoing ≡ x.outgoing ++ framed message → m ≡ record x { outgoing = m.outgoing } → y ≡ record m { is_touched = y.is_touched } → Puts n message t (record t { slots = set t.slots i (Some y) })
-puts_at n i message t x m y at fits lt was num put rest touched =
+    → m.outgoing ≡ x.outgoing ++ framed message → m ≡ record x { outgoing = m.outgoing } → y ≡ record m { is_touched = y.is_touched }
+    → length x.outgoing + length (framed message) ≤ max_waiting → Puts n message t (record t { slots = set t.slots i (Some y) })
+puts_at n i message t x m y at fits lt was num put rest touched few =
     let same : y ≡ record x { outgoing = x.outgoing ++ framed message; is_touched = y.is_touched } =
     touched ∙ ap (λ (z : Connection). record z { is_touched = y.is_touched }) rest ∙ ap (λ (zs : List ℕ). record x { outgoing = zs; is_touched = y.is_touched }) put in
+    let all : length y.outgoing ≡ length x.outgoing + length (framed message) = ap (λ (z : Connection). length z.outgoing) same ∙ length-append x.outgoing (framed message) in
     subst (λ (k : ℕ). Puts n message t (record t { slots = set t.slots k (Some y) })) (sym at) (record {
       x = x;
       y = y;
       swaps = swaps_at n t x y (subst (λ (k : ℕ). k < length t.slots) at fits) lt (subst (λ (k : ℕ). get_or t.slots k None ≡ Some x) at was) num (ap (λ (z : Connection). z.number) same ∙ num) (ap (λ (z : Connection). z.peer) same);
       same = same;
+      within = omega (arith, all, few);
     })
 
 one_at : (n : ℕ) (t : Table) (x y : Connection) → at n t ≡ Some x → at n t ≡ Some y → y ≡ x

@@ -1,6 +1,6 @@
 //! One connection.
 
-ghost use Rattle.std.specs.Prelude.{[], IsTrue, List, None, OnErr, OnOk, drop, false, length, true, ℕ, ◌++◌, ◌+◌, ◌<◌, ◌^◌, ◌≡◌, ◌≤◌};
+ghost use Rattle.std.specs.Prelude.{[], IfSome, IsTrue, List, None, OnErr, OnOk, Some, drop, false, length, true, ℕ, ◌++◌, ◌+◌, ◌<◌, ◌^◌, ◌≡◌, ◌≤◌};
 ghost use Rattle.lb_frames.specs.Frames.{NoneWhole, framed};
 ghost use Rattle.lb_streams.specs.Table.{IsOverdue};
 ghost use Rattle.lb_wire.specs.Octets.{max_message};
@@ -90,7 +90,8 @@ impl Connection {
 
     /// Whether with this message more octets would wait than may.
     pub(crate) fn is_over(&self, message: &Octets) -> bool
-        ensures { IsTrue result → 1048576 < length self.now.outgoing + length (framed message.now) }
+        ensures over { IsTrue result → 1048576 < length self.now.outgoing + length (framed message.now) }
+        ensures within { result ≡ false → length self.now.outgoing + length (framed message.now) ≤ 1048576 }
     {
         self.outgoing.len() > MOST_WAITING - LENGTH - message.as_slice().len()
     }
@@ -147,6 +148,8 @@ impl Connection {
 
     /// Its peer has closed its side, at this moment. Tells the moment at which it is closed at the latest.
     pub(crate) fn end(&mut self, now: u64) -> u64
+        ensures ended { self.new.is_ended ≡ true }
+        ensures until { (self.new.until ≡ Some result) × (now ≤ result) }
         ensures rest { (self.new.number ≡ self.old.number) × (self.new.peer ≡ self.old.peer) × (self.new.incoming ≡ self.old.incoming) × (self.new.outgoing ≡ self.old.outgoing) }
     {
         let until = now.saturating_add(KEPT);
@@ -178,7 +181,8 @@ impl Connection {
 
     /// Whether its time is over at this moment.
     pub(crate) fn is_overdue(&self, now: u64) -> bool
-        ensures { IsTrue result → IsOverdue now self.now }
+        ensures over { IsTrue result → IsOverdue now self.now }
+        ensures kept { result ≡ false → IfSome self.now.until (λ until. now < until) }
     {
         match self.until {
             Some(until) => until <= now,

@@ -235,7 +235,8 @@ impl Connections {
 
     /// Whether as many clients are connected as may be.
     pub(crate) fn is_full(&self) -> bool
-        ensures { IsTrue result → 1024 ≤ clients self.now }
+        ensures full { IsTrue result → 1024 ≤ clients self.now }
+        ensures room { result ≡ false → clients self.now < 1024 }
     {
         self.clients >= MOST_CLIENTS
     }
