@@ -1,6 +1,6 @@
 //! The loop of datagrams.
 
-ghost use Rattle.std.specs.Prelude.{IfOk, IsTrue, OnErr, is_some, length, map, option_to_list, ◌++◌, ◌+◌, ◌≡◌, ◌≤◌};
+ghost use Rattle.std.specs.Prelude.{IfOk, IsTrue, OnErr, is_some, length, map, option_to_list, vec_capacity, ◌++◌, ◌+◌, ◌≡◌, ◌≤◌};
 ghost use Rattle.lb_datagrams.specs.Lines.{AreLines};
 ghost use Rattle.lb_datagrams.specs.Turn.{Stamps};
 ghost use Rattle.lb_lines.specs.Counts.{Grows, Rose};
@@ -70,7 +70,8 @@ impl<S: Datagrams, T: Taker, O: Outside> DatagramLoop<S, T, O> {
 
     /// Takes the room of a report's lines back for the next turn. The lines go.
     pub fn take_back(&mut self, lines: Vec<Line>)
-        ensures { (self.new.sockets ≡ self.old.sockets) × (self.new.taker ≡ self.old.taker) × (self.new.outside ≡ self.old.outside) }
+        ensures room { vec_capacity self.new.spare.lines ≡ vec_capacity lines }
+        ensures same { (self.new.sockets ≡ self.old.sockets) × (self.new.taker ≡ self.old.taker) × (self.new.outside ≡ self.old.outside) }
     {
         self.spare.take_back(lines);
     }

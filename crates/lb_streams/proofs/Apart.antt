@@ -1,11 +1,11 @@
 -- What sockets tell of one connection changes nothing of another.
-use Rattle.std.proofs.Common.{◌≡◌, ◌≢◌, ℕ, ◌+◌, ◌≤◌, Bool, true, false, List, [], ◌∷◌, ◌++◌, length, if◌then◌else◌, ◌==◌, refl, sym, ap, ◌∙◌, arith, rules}
-use Rattle.std.specs.Prelude.{sum_by, cond}
+use Rattle.std.proofs.Common.{◌≡◌, ◌≢◌, ℕ, ◌+◌, ◌≤◌, Bool, List, [], ◌∷◌, ◌++◌, length, if◌then◌else◌, ◌==◌, ap, ◌∙◌, arith}
+use Rattle.std.specs.Prelude.{cond}
 use Rattle.std.specs.List.{count_by}
 use Rattle.std.proofs.lemmas.Grind.{flat_map-append}
 use Rattle.std.proofs.lemmas.List.{append-nil, length-append}
 use Rattle.std.proofs.lemmas.List.Sums.{sum_by-append}
-use Rattle.lb_lines.specs.Moves.{Client, Piece, Traffic, octets_of}
+use Rattle.lb_lines.specs.Moves.{Piece, Traffic, octets_of}
 use Rattle.lb_lines.specs.declared.endpoint.Endpoint.{Endpoint}
 use Rattle.lb_streams.proofs.AtPlaces.{is_other, is_same}
 use Rattle.lb_streams.specs.Connection.{of_number}

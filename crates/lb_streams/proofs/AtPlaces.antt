@@ -1,14 +1,19 @@
 -- A connection taken out of its place or put in changes no other.
-use Rattle.std.proofs.Common.{◌≡◌, ◌≢◌, ℕ, ⊎_elim, ◌+◌, ◌<◌, ◌≤◌, ◌%◌, Bool, true, false, true≢false, subst, List, length, zero, suc, set, get_or, replicate, if◌then◌else◌, cond, ◌==◌, Option, Some, None, refl, sym, ap, ◌∙◌, arith, rules}
-use Rattle.std.proofs.lemmas.List.{get_or-set_same, get_or-set_other}
+use Rattle.std.proofs.Common.{◌≡◌, ◌≢◌, ℕ, ⊎_elim, ◌+◌, ◌<◌, ◌≤◌, ◌%◌, ◌^◌, Bool, true, false, true≢false, subst, List, ◌++◌, length, zero, suc, set, get_or, replicate, if◌then◌else◌, cond, ◌==◌, Option, Some, None, refl, sym, ap, ◌∙◌, arith, rules}
+use Rattle.std.proofs.lemmas.List.{length-append, get_or-set_same, get_or-set_other}
 use Rattle.std.proofs.lemmas.List.Elements.{All-set, All-weaker}
 use Rattle.std.proofs.lemmas.List.Sums.{sum_by-set}
 use Rattle.std.specs.Prelude.{IfSome, nat_lt}
 use Rattle.std.specs.List.{All}
 use Rattle.std.proofs.lemmas.Bool.Decides.{nat_tests}
 use Rattle.std.proofs.lemmas.Bool.{cases_eq}
+use Rattle.lb_frames.specs.Frames.{framed}
+use Rattle.lb_lines.specs.declared.traffic.Peer.{Peer}
+use Rattle.lb_streams.specs.Connection.{max_waiting}
 use Rattle.lb_streams.specs.declared.connection.Connection.{Connection}
-use Rattle.lb_streams.specs.Table.{IsGiven, IsNew, Narrows, Table, at, at_place, client_count, clients_in, holds_client, if_number, is_none}
+use Rattle.lb_streams.specs.Table.{IsFirst, IsGiven, IsNew, Narrows, Swaps, Table, at, at_place, client_count, clients_in, holds_client, if_number, is_client, is_none}
+use Rattle.lb_streams.specs.Taking.{Takes}
+use Rattle.lb_streams.specs.Writing.{Puts}
 
 pub is_same : (c : ℕ) → (c == c) ≡ true
 is_same c = search rules
@@ -87,6 +92,67 @@ counted_out slots i y lt was = let all = counts slots i None lt in let one : con
 
 pub counted_in : (slots : List (Option Connection)) (i : ℕ) (y : Connection) → i < length slots → get_or slots i None ≡ None → clients_in (set slots i (Some y)) ≡ clients_in slots + client_count y
 counted_in slots i y lt was = let all = counts slots i (Some y) lt in let zero_clients : ℕ = 0 in let one : cond (holds_client (get_or slots i None)) 1 0 ≡ zero_clients = ap (λ (o : Option Connection). cond (holds_client o) 1 0) was in omega (arith, all, one, count_is y)
+
+pub count_as : (x y : Connection) → y.peer ≡ x.peer → client_count y ≡ client_count x
+count_as x y e = ap (λ p. if is_client p then 1 else 0) e
+
+counted_same : (slots : List (Option Connection)) (i : ℕ) (x y : Connection) → i < length slots → get_or slots i None ≡ Some x → y.peer ≡ x.peer → clients_in (set slots i (Some y)) ≡ clients_in slots
+counted_same slots i x y lt was peer =
+    let all = counts slots i (Some y) lt in
+    let before : cond (holds_client (get_or slots i None)) 1 0 ≡ client_count x = ap (λ (o : Option Connection). cond (holds_client o) 1 0) was in
+    let same = count_as x y peer in
+    omega (arith, all, before, count_is y, same)
+
+is_below : (n : ℕ) (t : Table) → n < t.next → nat_lt n t.next ≡ true
+is_below n t lt = grind (arith, nat_tests)
+
+-- a connection that is changed where it stands
+swaps_at : (n : ℕ) (t : Table) (x y : Connection) → n % 4096 < length t.slots → n < t.next → get_or t.slots (n % 4096) None ≡ Some x → x.number ≡ n → y.number ≡ n → y.peer ≡ x.peer → Swaps n t (record t { slots = set t.slots (n % 4096) (Some y) }) x y
+swaps_at n t x y fits lt was num num' peer = record {
+  was = ap (λ (b : Bool). if b then at_place n t.slots else None) (is_below n t lt) ∙ ap (if_number n) was ∙ ap (λ (c : ℕ). if_number c (Some x)) (sym num) ∙ is_here x;
+  is = ap (λ (b : Bool). if b then at_place n (set t.slots (n % 4096) (Some y)) else None) (is_below n t lt) ∙ put_here n t.slots y fits num';
+  others = λ c apart. seen c t.next _ _ (set_others c n t.slots (Some y) fits (ap (if_number c) was ∙ not_here c x (λ p. apart (p ∙ num))) (not_here c y (λ p. apart (p ∙ num'))));
+  next = refl;
+  refusals = refl;
+  clients = counted_same t.slots (n % 4096) x y fits was peer;
+}
+
+pub puts_at : (n i : ℕ) (message : List ℕ) (t : Table) (x m y : Connection) → i ≡ n % 4096 → i < length t.slots → n < t.next → get_or t.slots i None ≡ Some x → x.number ≡ n
+    → m.outgoing ≡ x.outgoing ++ framed message → m ≡ record x { outgoing = m.outgoing } → y ≡ record m { is_touched = y.is_touched }
+    → length x.outgoing + length (framed message) ≤ max_waiting → Puts n message t (record t { slots = set t.slots i (Some y) })
+puts_at n i message t x m y at fits lt was num put rest touched few =
+    let same : y ≡ record x { outgoing = x.outgoing ++ framed message; is_touched = y.is_touched } =
+    touched ∙ ap (λ (z : Connection). record z { is_touched = y.is_touched }) rest ∙ ap (λ (zs : List ℕ). record x { outgoing = zs; is_touched = y.is_touched }) put in
+    let all : length y.outgoing ≡ length x.outgoing + length (framed message) = ap (λ (z : Connection). length z.outgoing) same ∙ length-append x.outgoing (framed message) in
+    subst (λ (k : ℕ). Puts n message t (record t { slots = set t.slots k (Some y) })) (sym at) (record {
+      x = x;
+      y = y;
+      swaps = swaps_at n t x y (subst (λ (k : ℕ). k < length t.slots) at fits) lt (subst (λ (k : ℕ). get_or t.slots k None ≡ Some x) at was) num (ap (λ (z : Connection). z.number) same ∙ num) (ap (λ (z : Connection). z.peer) same);
+      same = same;
+      within = omega (arith, all, few);
+    })
+
+one_at : (n : ℕ) (t : Table) (x y : Connection) → at n t ≡ Some x → at n t ≡ Some y → y ≡ x
+one_at n t x y here there = let both : Some y ≡ Some x = sym there ∙ here in cc
+
+pub takes_at : (n i : ℕ) (t : Table) (x m y : Connection) (peer : Peer) (message : List ℕ) → i ≡ n % 4096 → i < length t.slots → n < t.next → get_or t.slots i None ≡ Some x → x.number ≡ n
+    → ((message rest : List ℕ) → length message < 2 ^ 16 → x.incoming ≡ framed message ++ rest → m.incoming ≡ rest) → m ≡ record x { incoming = m.incoming; is_queued = false } → y ≡ record m { is_queued = y.is_queued }
+    → IsFirst n peer message t → Takes n message t (record t { slots = set t.slots i (Some y) })
+takes_at n i t x m y peer message place fits lt was num left rest queued first =
+    let incoming : y.incoming ≡ m.incoming = ap (λ (z : Connection). z.incoming) queued in
+    let same : y ≡ record x { incoming = y.incoming; is_queued = y.is_queued } =
+    queued ∙ ap (λ (z : Connection). record z { is_queued = y.is_queued }) rest ∙ ap (λ (zs : List ℕ). record x { incoming = zs; is_queued = y.is_queued }) (sym incoming) in
+    let swap : Swaps n t (record t { slots = set t.slots (n % 4096) (Some y) }) x y = swaps_at n t x y (subst (λ (k : ℕ). k < length t.slots) place fits) lt (subst (λ (k : ℕ). get_or t.slots k None ≡ Some x) place was) num
+    (ap (λ (z : Connection). z.number) same ∙ num) (ap (λ (z : Connection). z.peer) same) in
+    let front : x.incoming ≡ framed message ++ first.1 = ap (λ (z : Connection). z.incoming) (sym (one_at n t x first.0 swap.was first.2)) ∙ first.5 in
+    subst (λ (k : ℕ). Takes n message t (record t { slots = set t.slots k (Some y) })) (sym place) (record {
+      x = x;
+      y = y;
+      swaps = swap;
+      fits = first.4;
+      front = front ∙ ap (λ (zs : List ℕ). framed message ++ zs) (sym (incoming ∙ left message first.1 first.4 front));
+      same = same;
+    })
 
 -- numbers were given
 pub given_out : (last i : ℕ) (slots : List (Option Connection)) → All (IsGiven last) slots → All (IsGiven last) (set slots i None)

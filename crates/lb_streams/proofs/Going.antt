@@ -1,34 +1,26 @@
 -- Steps of one connection.
-use Rattle.std.proofs.Common.{◌≡◌, ◌≢◌, ℕ, ◌+◌, ◌<◌, ◌≤◌, ◌⊎◌, inl, inr, Bool, true, false, List, [], ◌∷◌, ◌++◌, length, Option, Some, None, Result, Ok, Err, if◌then◌else◌, ◌==◌, refl, sym, ap, ◌∙◌, arith, rules, subst, append_assoc}
-use Rattle.std.specs.Prelude.{nat_lt, take, drop, ◌&&◌}
+use Rattle.std.proofs.Common.{◌≡◌, ◌≢◌, ℕ, ◌+◌, ◌<◌, ◌≤◌, inl, inr, Bool, true, false, List, [], ◌∷◌, ◌++◌, length, Option, Some, None, Err, if◌then◌else◌, ◌==◌, refl, sym, ap, ◌∙◌, arith, subst}
+use Rattle.std.specs.Prelude.{IfSome, nat_lt, take, drop, ◌&&◌}
 use Rattle.std.specs.List.{count_by}
 use Rattle.std.proofs.lemmas.Bool.Decides.{nat_tests}
-use Rattle.std.proofs.lemmas.List.{append-nil, length-append, take-append-drop}
+use Rattle.std.proofs.lemmas.List.{append-nil, take-append-drop}
 use Rattle.lb_frames.specs.Frames.{AreMessages, NoneWhole, framed, frames}
 use Rattle.lb_lines.specs.Counts.{Fails, Rose}
-use Rattle.lb_lines.specs.Moves.{Faulty, GavePiece, Took, Traffic, octets_of}
+use Rattle.lb_lines.specs.Moves.{Faulty, Took, Traffic, octets_of}
 use Rattle.lb_lines.specs.declared.report.DeviceFault.{DeviceFault}
 use Rattle.lb_lines.specs.declared.report.DeviceFault.TheVariants as devices
 use Rattle.lb_lines.specs.declared.report.Why.{Why}
 use Rattle.lb_lines.specs.declared.report.Why.TheVariants as whys
-use Rattle.lb_lines.specs.declared.traffic.Read.{Read}
 use Rattle.lb_streams.proofs.Apart.{Apart, apart_ended, apart_failed, apart_given, apart_gone, apart_none, apart_taken, count_here, octets_here}
-use Rattle.lb_streams.proofs.AtPlaces.{is_other, is_same}
+use Rattle.lb_streams.proofs.AtPlaces.{count_as, is_other, is_same}
 use Rattle.lb_streams.proofs.Faring.{rose_earlier}
 use Rattle.lb_streams.proofs.Steps.{fares_ended, fares_moved, fares_same, goes_step, lives_at}
-use Rattle.lb_streams.specs.Connection.{Ends, HasEnded, Leaves, Link, Moves, Net, Over, Same, WasServer, held, link, max_waiting, of_number, shut, unwritten, wants}
-use Rattle.lb_streams.specs.Goes.{Beside, Goes, IsFull, IsOver, Notes, both, just, none, noted, noted_by}
-use Rattle.lb_streams.specs.Table.{Table, at, client_count, clients, is_client, is_none}
+use Rattle.lb_streams.specs.Connection.{Ends, Moves, Net, Same, held, link, max_waiting, of_number, unwritten, wants}
+use Rattle.lb_streams.specs.Goes.{Goes, IsFull, IsOver, Notes, just, none, noted, noted_by}
+use Rattle.lb_streams.specs.Table.{Swaps, Table, at, client_count, clients, is_client, is_none}
+use Rattle.lb_streams.specs.Taking.{Takes}
+use Rattle.lb_streams.specs.Writing.{Puts}
 use Rattle.lb_streams.specs.declared.connection.Connection.{Connection}
-
--- the connection of a number was x and is y, and no other changed
-pub record Swaps (n : ℕ) (a b : Table) (x y : Connection) : Type 0 where
-  pub was : at n a ≡ Some x
-  pub is : at n b ≡ Some y
-  pub others : (c : ℕ) → c ≢ n → at c b ≡ at c a
-  pub next : b.next ≡ a.next
-  pub refusals : b.refusals ≡ a.refusals
-  pub clients : clients b ≡ clients a
 
 -- the connection of a number was x and is closed, and no other changed
 pub record Drops (n : ℕ) (a b : Table) (x : Connection) : Type 0 where
@@ -39,9 +31,6 @@ pub record Drops (n : ℕ) (a b : Table) (x : Connection) : Type 0 where
   pub next : b.next ≡ a.next
   pub refusals : a.refusals ≤ b.refusals
   pub clients : clients b ≤ clients a
-
-count_as : (x y : Connection) → y.peer ≡ x.peer → client_count y ≡ client_count x
-count_as x y e = ap (λ p. if is_client p then 1 else 0) e
 
 pub swaps : (n : ℕ) (a mid b : Table) (x y : Connection)
     → at n a ≡ Some x → x.number ≡ n → ((c : ℕ) → c ≢ n → at c mid ≡ at c a) → clients mid + client_count x ≡ clients a → mid.next ≡ a.next → mid.refusals ≡ a.refusals
@@ -78,6 +67,27 @@ drops n a b x was lt none_here others few next refusals = record {
   refusals = omega (arith, refusals);
   clients = omega (arith, few);
 }
+
+-- the same, where it is known what was taken out
+pub drops_taken : (n : ℕ) (a b : Table) (taken : Option Connection) (x : Connection) → at n a ≡ Some x → at n a ≡ taken → IfSome taken (λ y. (y.number ≡ n) × (n < b.next)) → at n b ≡ None → ((c : ℕ) → c ≢ n → at c b ≡ at c a)
+    → IfSome taken (λ y. clients b + client_count y ≡ clients a) → b.next ≡ a.next → b.refusals ≡ a.refusals → Drops n a b x
+drops_taken n a b taken x was is given none_here others few next refusals =
+    let one : taken ≡ Some x = sym is ∙ was in
+    drops n a b x was (subst (λ (o : Option Connection). IfSome o (λ y. (y.number ≡ n) × (n < b.next))) one given).1 none_here others (subst (λ (o : Option Connection). IfSome o (λ y. clients b + client_count y ≡ clients a)) one few) next refusals
+
+-- the same, where it was changed before
+pub drops_swapped : (n : ℕ) (a mid b : Table) (x y : Connection) → Swaps n a mid x y → Drops n mid b y → Drops n a b x
+drops_swapped n a mid b x y swap drop =
+    let refusals = swap.refusals in let fewer = drop.refusals in let same = swap.clients in let few = drop.clients in
+    record {
+      was = swap.was;
+      is = drop.is;
+      given = drop.given;
+      others = λ c apart. drop.others c apart ∙ swap.others c apart;
+      next = drop.next ∙ swap.next;
+      refusals = omega (arith, refusals, fewer);
+      clients = omega (arith, same, few);
+    }
 
 pub drops_wanting : (n : ℕ) (a mid b : Table) (x : Connection) → Drops n a mid x → b ≡ record mid { refusals = b.refusals } → mid.refusals ≤ b.refusals → Drops n a b x
 drops_wanting n a mid b x d e le =
@@ -275,7 +285,7 @@ goes_written n k old new x y table told device peer incoming outgoing ended =
     })
 
 -- a message was put behind what it is to write
-pub goes_promised : (n : ℕ) (old new : Net) (x y : Connection) (message : List ℕ) → Swaps n old.table new.table x y → new.told ≡ old.told → new.device ≡ old.device
+goes_promised : (n : ℕ) (old new : Net) (x y : Connection) (message : List ℕ) → Swaps n old.table new.table x y → new.told ≡ old.told → new.device ≡ old.device
     → y.peer ≡ x.peer → y.incoming ≡ x.incoming → y.outgoing ≡ x.outgoing ++ framed message → y.is_ended ≡ x.is_ended → Goes old new none (just n message)
 goes_promised n old new x y message table told device peer incoming outgoing ended =
     let gone_same : count_by (λ (k : ℕ). k == n) new.told.ended ≡ count_by (λ (k : ℕ). k == n) old.told.ended = ap (λ (t : Traffic). count_by (λ (k : ℕ). k == n) t.ended) told in
@@ -298,8 +308,12 @@ goes_promised n old new x y message table told device peer incoming outgoing end
       put = outgoing ∙ ap (λ zs. x.outgoing ++ zs) (sym (one_frame message)) ∙ ap (λ ms. x.outgoing ++ frames ms) (sym (just_here n message));
     })
 
+pub goes_put : (n : ℕ) (old new : Net) (message : List ℕ) → Puts n message old.table new.table → new.told ≡ old.told → new.device ≡ old.device → Goes old new none (just n message)
+goes_put n old new message put told device = goes_promised n old new put.x put.y message put.swaps told device (ap (λ (z : Connection). z.peer) put.same) (ap (λ (z : Connection). z.incoming) put.same)
+    (ap (λ (z : Connection). z.outgoing) put.same) (ap (λ (z : Connection). z.is_ended) put.same)
+
 -- a message was taken of what came
-pub goes_taken : (n : ℕ) (old new : Net) (x y : Connection) (message : List ℕ) → Swaps n old.table new.table x y → new.told ≡ old.told → new.device ≡ old.device
+goes_taken : (n : ℕ) (old new : Net) (x y : Connection) (message : List ℕ) → Swaps n old.table new.table x y → new.told ≡ old.told → new.device ≡ old.device
     → y.peer ≡ x.peer → length message < 65536 → x.incoming ≡ framed message ++ y.incoming → y.outgoing ≡ x.outgoing → y.is_ended ≡ x.is_ended → Goes old new (just n message) none
 goes_taken n old new x y message table told device peer fits incoming outgoing ended =
     let gone_same : count_by (λ (k : ℕ). k == n) new.told.ended ≡ count_by (λ (k : ℕ). k == n) old.told.ended = ap (λ (t : Traffic). count_by (λ (k : ℕ). k == n) t.ended) told in
@@ -321,6 +335,10 @@ goes_taken n old new x y message table told device peer fits incoming outgoing e
       taken = ap (λ (t : Traffic). octets_of n t.taken) told ∙ sym (append-nil (octets_of n old.told.taken));
       put = outgoing ∙ sym (append-nil x.outgoing);
     })
+
+pub goes_took : (n : ℕ) (old new : Net) (message : List ℕ) → Takes n message old.table new.table → new.told ≡ old.told → new.device ≡ old.device → Goes old new (just n message) none
+goes_took n old new message taken told device = goes_taken n old new taken.x taken.y message taken.swaps told device (ap (λ (z : Connection). z.peer) taken.same) taken.fits taken.front
+    (ap (λ (z : Connection). z.outgoing) taken.same) (ap (λ (z : Connection). z.is_ended) taken.same)
 
 -- Why one is closed.
 

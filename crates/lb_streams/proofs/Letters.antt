@@ -1,29 +1,25 @@
 -- Letters, and what came of their sends.
-use Rattle.std.proofs.Common.{◌≡◌, ℕ, ◌+◌, ◌<◌, ◌≤◌, ◌⊎◌, inl, inr, Bool, true, false, true≢false, IsTrue, List, [], ◌∷◌, ◌++◌, Option, Some, None, Result, Ok, Err, if◌then◌else◌, refl, sym, ap, ◌∙◌, subst, arith}
+use Rattle.std.proofs.Common.{◌≡◌, ℕ, ◌<◌, inl, inr, Bool, true, false, true≢false, IsTrue, List, [], ◌∷◌, ◌++◌, Option, Some, None, Result, Ok, Err, if◌then◌else◌, refl, sym, ap, ◌∙◌, subst, arith}
 use Rattle.std.specs.Prelude.{IfErr, nat_lt, slice_get}
 use Rattle.std.proofs.lemmas.Bool.Decides.{nat_tests}
 use Rattle.std.proofs.lemmas.List.{append-nil}
 use Rattle.lb_lines.specs.Counts.{Rose}
 use Rattle.lb_lines.specs.Lines.{is_by_device}
 use Rattle.lb_lines.specs.Roster.{end_of}
-use Rattle.lb_lines.specs.Ways.{message_in}
 use Rattle.lb_lines.specs.declared.endpoint.Endpoint.{Endpoint}
 use Rattle.lb_lines.specs.declared.letter.End.TheVariants.{Client, Server}
-use Rattle.lb_lines.specs.declared.report.Sending.{Sending}
 use Rattle.lb_lines.specs.declared.report.Sending.TheVariants.{Done, Failed, Nothing}
 use Rattle.lb_lines.specs.declared.report.Way.TheVariants as ways
 use Rattle.lb_lines.specs.declared.report.Why.{Why}
 use Rattle.lb_lines.specs.declared.report.Why.TheVariants as whys
 use Rattle.lb_lines.specs.declared.roster.Listed.{Listed}
-use Rattle.lb_lines.specs.declared.traffic.Peer.{Peer}
-use Rattle.lb_lines.specs.declared.traffic.Peer.TheVariants as peers
 use Rattle.lb_streams.proofs.Lifting.{server_before}
 use Rattle.lb_streams.proofs.Opening.{goes_nothing}
 use Rattle.lb_streams.proofs.Steps.{lives_at}
 use Rattle.lb_streams.proofs.Then.{closed_before, full_before, servers_later}
-use Rattle.lb_streams.specs.Connection.{Net, link, shut}
-use Rattle.lb_streams.specs.Goes.{Goes, IsFull, IsOver, Lacks, Misses, just, none}
-use Rattle.lb_streams.specs.Lines.{ComesClient, ComesPost, FitsConnection, FitsPost, FitsServer, IsClosed, IsServers, by_front, is_http}
+use Rattle.lb_streams.specs.Connection.{Net, link}
+use Rattle.lb_streams.specs.Goes.{Goes, IsOver, Lacks, Misses, just, none}
+use Rattle.lb_streams.specs.Lines.{ComesClient, ComesPost, FitsConnection, FitsServer, IsClosed, IsServers, by_front, is_http}
 use Rattle.lb_streams.specs.Table.{IsTo, Table, at, at_place}
 use Rattle.lb_streams.specs.Turn.{Sends}
 use Rattle.lb_streams.specs.World.{World}

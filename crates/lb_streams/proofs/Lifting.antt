@@ -1,8 +1,7 @@
 -- What lines say of a time stays true of a longer one.
-use Rattle.std.proofs.Common.{◌≡◌, ℕ, ◌+◌, ◌≤◌, ◌⊎◌, ⊎_elim, inl, inr, Bool, true, false, List, [], ◌∷◌, ◌++◌, Option, Some, None, if◌then◌else◌, refl, sym, ap, ◌∙◌, subst, append_assoc}
+use Rattle.std.proofs.Common.{◌≡◌, ℕ, ◌⊎◌, inl, inr, Bool, true, false, List, [], ◌∷◌, ◌++◌, Option, Some, None, sym, ap, ◌∙◌, subst, append_assoc}
 use Rattle.std.specs.Prelude.{slice_get}
 use Rattle.std.proofs.lemmas.List.{append-nil}
-use Rattle.lb_core.specs.declared.event.Event.{Event}
 use Rattle.lb_lines.specs.Letter.{Letter, job_letter, outcome_letter}
 use Rattle.lb_lines.specs.Roster.{end_of}
 use Rattle.lb_lines.specs.Ways.{letter_of, message_in, sending_of}
@@ -20,7 +19,7 @@ use Rattle.lb_streams.proofs.Faring.{rose_earlier, rose_later}
 use Rattle.lb_streams.proofs.Then.{closed_before, closed_later, full_before, full_later, number_before, number_later, over_before, over_later, peer_before, peer_later, servers_later}
 use Rattle.lb_streams.specs.Connection.{Net}
 use Rattle.lb_streams.specs.Goes.{Goes, IsFull, NoNumber, both, none}
-use Rattle.lb_streams.specs.Lines.{AreLines, Comes, ComesClient, ComesPost, ComesServer, ComesTo, FitsConnection, FitsServer, IsClosed, IsFrom, IsLine, by_front, is_http, sends_to}
+use Rattle.lb_streams.specs.Lines.{AreLines, Comes, ComesClient, ComesPost, ComesServer, ComesTo, FitsConnection, FitsServer, IsClosed, IsLine, by_front, is_http, sends_to}
 use Rattle.lb_wire.specs.declared.ids.ServerId.{ServerId}
 use Rattle.lb_wire.specs.declared.transport.Lane.{Lane}
 

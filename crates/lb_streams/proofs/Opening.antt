@@ -1,5 +1,5 @@
 -- Numbers are passed over, clients are turned away, and connections are opened.
-use Rattle.std.proofs.Common.{◌≡◌, ◌≢◌, ℕ, ◌+◌, ◌<◌, ◌≤◌, ◌^◌, ◌⊎◌, ⊎_elim, inl, inr, Bool, true, false, true≢false, List, [], ◌∷◌, ◌++◌, length, Option, Some, None, Result, Ok, Err, if◌then◌else◌, ◌==◌, refl, sym, ap, ◌∙◌, arith, rules, subst, append_assoc}
+use Rattle.std.proofs.Common.{◌≡◌, ◌≢◌, ℕ, ◌+◌, ◌≤◌, ◌^◌, ◌⊎◌, ⊎_elim, inl, inr, Bool, true, false, true≢false, List, [], ◌∷◌, ◌++◌, length, Option, Some, None, Err, if◌then◌else◌, ◌==◌, refl, sym, ap, ◌∙◌, arith, rules, subst}
 use Rattle.std.specs.Prelude.{nat_lt, ◌&&◌}
 use Rattle.std.specs.List.{Contains, count_by}
 use Rattle.std.proofs.lemmas.Bool.{cases_eq}
@@ -9,7 +9,6 @@ use Rattle.lb_lines.specs.Counts.{Fails, Rose}
 use Rattle.lb_lines.specs.Moves.{Client, Dialed, Faulty, Traffic, TurnedAway, octets_of}
 use Rattle.lb_lines.specs.declared.endpoint.Endpoint.{Endpoint}
 use Rattle.lb_lines.specs.declared.report.DeviceFault.{DeviceFault}
-use Rattle.lb_lines.specs.declared.report.DeviceFault.TheVariants as devices
 use Rattle.lb_lines.specs.declared.report.Why.{Why}
 use Rattle.lb_lines.specs.declared.report.Why.TheVariants as whys
 use Rattle.lb_lines.specs.declared.traffic.Accepted.{Accepted}
@@ -17,12 +16,12 @@ use Rattle.lb_lines.specs.declared.traffic.Accepted.TheVariants as accepted
 use Rattle.lb_lines.specs.declared.traffic.Peer.{Peer}
 use Rattle.lb_lines.specs.declared.traffic.Peer.TheVariants as peers
 use Rattle.lb_streams.proofs.Apart.{Apart, apart_dialed, number_here, number_other}
-use Rattle.lb_streams.proofs.AtPlaces.{is_other, is_same, lt_more, lt_other, lt_self}
+use Rattle.lb_streams.proofs.AtPlaces.{lt_more, lt_other, lt_self}
 use Rattle.lb_streams.proofs.Faring.{all_on}
 use Rattle.lb_streams.proofs.Going.{faulty_noted, same_noted}
 use Rattle.lb_streams.proofs.Steps.{and_false, fares_same, goes_step}
-use Rattle.lb_streams.specs.Connection.{Fares, HasBeen, Heard, Link, Net, NewPeer, Opened, Own, Same, Wants, held, link, of_number, shut, unwritten, wants}
-use Rattle.lb_streams.specs.Goes.{Goes, Lacks, NoNumber, Notes, TurnsAway, TurnsOneAway, none, noted, noted_by}
+use Rattle.lb_streams.specs.Connection.{Fares, HasBeen, Link, Net, NewPeer, Same, Wants, held, link, of_number, shut, unwritten, wants}
+use Rattle.lb_streams.specs.Goes.{Goes, Lacks, Notes, TurnsAway, TurnsOneAway, none, noted, noted_by}
 use Rattle.lb_streams.specs.Table.{Narrows, Table, at, at_place, client_count, clients, is_client, is_none}
 use Rattle.lb_streams.specs.declared.connection.Connection.{Connection}
 use Rattle.lb_wire.specs.declared.ids.ServerId.{ServerId}

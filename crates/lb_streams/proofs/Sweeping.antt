@@ -1,9 +1,8 @@
 -- Connections whose time is over, closed one after the other.
-use Rattle.std.proofs.Common.{◌≡◌, ◌≢◌, ℕ, ◌+◌, ◌≤◌, ◌⊎◌, ⊎_elim, inl, inr, Option, Some, None, refl, sym, ap, ◌∙◌, subst, arith}
+use Rattle.std.proofs.Common.{◌≡◌, ◌≢◌, ℕ, ◌+◌, ◌⊎◌, ⊎_elim, inl, inr, Some, None, refl, sym, ap, ◌∙◌, arith}
 use Rattle.std.proofs.lemmas.Bool.{cases_eq}
-use Rattle.lb_streams.proofs.Going.{Swaps}
 use Rattle.lb_streams.specs.Connection.{Net}
-use Rattle.lb_streams.specs.Table.{IsOverdue, Table, at, client_count, clients}
+use Rattle.lb_streams.specs.Table.{IsOverdue, Swaps, Table, at, client_count, clients}
 use Rattle.lb_streams.specs.Turn.{Sweeps}
 use Rattle.lb_streams.specs.declared.connection.Connection.{Connection}
 

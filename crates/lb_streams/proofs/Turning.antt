@@ -1,5 +1,5 @@
 -- Rounds of a turn, one after the other.
-use Rattle.std.proofs.Common.{◌≡◌, ℕ, ◌+◌, ◌<◌, ◌≤◌, ◌⊎◌, inl, inr, Bool, true, false, true≢false, IsTrue, List, [], ◌∷◌, ◌++◌, length, flat_map, Option, Some, None, if◌then◌else◌, ◌==◌, refl, sym, ap, ◌∙◌, subst, arith, rules, tests, append_assoc}
+use Rattle.std.proofs.Common.{◌≡◌, ℕ, ◌+◌, ◌≤◌, inl, Bool, true, false, true≢false, IsTrue, List, [], ◌∷◌, ◌++◌, length, Option, Some, None, if◌then◌else◌, ◌==◌, refl, sym, ap, ◌∙◌, subst, arith, append_assoc}
 use Rattle.std.specs.Prelude.{◌||◌}
 use Rattle.std.proofs.lemmas.Grind.{flat_map-append}
 use Rattle.std.proofs.lemmas.List.{append-nil, length-append}
@@ -8,8 +8,8 @@ use Rattle.lb_lines.specs.Counts.{Fails, Grows, Rose}
 use Rattle.lb_lines.specs.Letter.{IsOutcome, Letter, job_letter, outcome_letter}
 use Rattle.lb_lines.specs.Lines.{FirstFault, answered_as, any_by_device, event_in, events_in, is_by_device, jobs_received, pair_in, pairs, received_in}
 use Rattle.lb_lines.specs.Moves.{Traffic}
-use Rattle.lb_lines.specs.Stamps.{Bears, Stamp, Stamped}
-use Rattle.lb_lines.specs.Ways.{letter_of, message_in, post_in, posts, sending_of}
+use Rattle.lb_lines.specs.Stamps.{Bears, Stamp}
+use Rattle.lb_lines.specs.Ways.{letter_of, message_in, post_in, sending_of}
 use Rattle.lb_lines.specs.declared.report.DeviceFault.{DeviceFault}
 use Rattle.lb_lines.specs.declared.report.DeviceFault.TheVariants as devices
 use Rattle.lb_lines.specs.declared.report.Line.{Line}
@@ -25,19 +25,18 @@ use Rattle.lb_outbox.specs.Outbox.{Receiving}
 use Rattle.lb_outbox.specs.Rule.{delivery}
 use Rattle.lb_outbox.specs.declared.job.Job.{Job}
 use Rattle.lb_outbox.specs.declared.rule.SenderId.{SenderId}
-use Rattle.lb_streams.proofs.Counting.{failed_on, grown_by, grows_on, received_none, received_on, stamps_none, stamps_on}
+use Rattle.lb_streams.proofs.Counting.{failed_on, grown_by, grows_on, received_none, received_on, stamps_on}
 use Rattle.lb_streams.proofs.Faring.{all_on, rose_earlier, rose_later}
 use Rattle.lb_streams.proofs.Lifting.{are_on, comes_before, comes_later}
 use Rattle.lb_streams.proofs.Opening.{goes_nothing}
-use Rattle.lb_streams.proofs.Then.{goes_after, goes_as, goes_then, peer_later}
-use Rattle.lb_streams.specs.Connection.{IsPeer, Net, link}
+use Rattle.lb_streams.proofs.Then.{goes_after, goes_as, goes_then}
+use Rattle.lb_streams.specs.Connection.{Net}
 use Rattle.lb_streams.specs.Ends.{first_device}
 use Rattle.lb_streams.specs.Goes.{Goes, Notes, both, just, none}
-use Rattle.lb_streams.specs.Lines.{AreLines, Comes, IsFrom, IsLine, event_by, message_by, messages_by, octets_in, sends_to}
-use Rattle.lb_streams.specs.Table.{IsFirst, at}
+use Rattle.lb_streams.specs.Lines.{AreLines, Comes, event_by, message_by, messages_by, octets_in, sends_to}
+use Rattle.lb_streams.specs.Table.{IsFirst}
 use Rattle.lb_streams.specs.Turn.{Fared, Receives, Sends, Stamps, Sweeps, Turns, Went}
 use Rattle.lb_streams.specs.World.{World}
-use Rattle.lb_streams.specs.declared.connection.Connection.{Connection}
 
 fared_on : (blind : Bool) (a b c : ℕ) → b ≡ a → Fared blind b c → Fared blind a c
 fared_on blind a b c e is = subst (λ (k : ℕ). Fared blind k c) e is

@@ -7,3 +7,5 @@ pub mod Lines
 pub mod Turn
 pub mod Steps
 pub mod Ends
+pub mod Taking
+pub mod Writing

@@ -1,5 +1,5 @@
 -- The lines of a turn of streams.
-use Rattle.std.specs.Prelude.{◌≡◌, ℕ, ◌+◌, ◌≤◌, ◌⊎◌, Bool, true, false, List, [], ◌∷◌, ◌++◌, Option, Some, None, flat_map, slice_get, if◌then◌else◌, ◌==◌}
+use Rattle.std.specs.Prelude.{◌≡◌, ℕ, ◌⊎◌, Bool, true, false, List, [], ◌∷◌, Option, Some, None, flat_map, slice_get, if◌then◌else◌, ◌==◌}
 use Rattle.lb_core.specs.declared.event.Event.{Event}
 use Rattle.lb_core.specs.declared.event.Event.TheVariants.{Query, Reply}
 use Rattle.lb_lines.specs.Counts.{Rose}
@@ -13,7 +13,6 @@ use Rattle.lb_lines.specs.declared.report.Line.TheVariants as lines
 use Rattle.lb_lines.specs.declared.report.Sending.{Sending}
 use Rattle.lb_lines.specs.declared.report.Sending.TheVariants.{Done, Failed, Nothing}
 use Rattle.lb_lines.specs.declared.report.Source.TheVariants as sources
-use Rattle.lb_lines.specs.declared.report.Way.{Way}
 use Rattle.lb_lines.specs.declared.report.Way.TheVariants as ways
 use Rattle.lb_lines.specs.declared.report.Why.{Why}
 use Rattle.lb_lines.specs.declared.report.Why.TheVariants as whys
@@ -23,10 +22,9 @@ use Rattle.lb_lines.specs.declared.traffic.Front.TheVariants as fronts
 use Rattle.lb_lines.specs.declared.traffic.Peer.{Peer}
 use Rattle.lb_lines.specs.declared.traffic.Peer.TheVariants as peers
 use Rattle.lb_streams.specs.Connection.{IsPeer, Net, link, shut}
-use Rattle.lb_streams.specs.Goes.{IsFull, IsOver, NoNumber, both, none}
+use Rattle.lb_streams.specs.Goes.{IsFull, IsOver, NoNumber, both}
 use Rattle.lb_streams.specs.Table.{at}
 use Rattle.lb_streams.specs.declared.connection.Connection.{Connection}
-use Rattle.lb_wire.specs.declared.addr.Origin.{Origin}
 use Rattle.lb_wire.specs.declared.ids.ServerId.{ServerId}
 use Rattle.lb_wire.specs.declared.transport.Kind.{Kind}
 use Rattle.lb_wire.specs.declared.transport.Kind.TheVariants as kinds

@@ -1,5 +1,5 @@
 -- Connections by their numbers.
-use Rattle.std.specs.Prelude.{◌≡◌, ℕ, ◌≤◌, ◌%◌, nat_le, nat_lt, Bool, true, false, List, length, ◌++◌, ◌<◌, ◌^◌, if◌then◌else◌, ◌==◌, Option, Some, None, get_or}
+use Rattle.std.specs.Prelude.{◌≡◌, ◌≢◌, ℕ, ◌≤◌, ◌%◌, nat_le, nat_lt, Bool, true, false, List, length, ◌++◌, ◌<◌, ◌^◌, if◌then◌else◌, ◌==◌, Option, Some, None, get_or}
 use Rattle.std.specs.List.{count_by}
 use Rattle.lb_frames.specs.Frames.{framed}
 use Rattle.lb_lines.specs.declared.endpoint.Endpoint.{Endpoint}
@@ -61,6 +61,15 @@ clients t = clients_in t.slots
 -- one for a client's connection, none for a server's
 abbrev pub client_count : Connection → ℕ
 client_count x = if is_client x.peer then 1 else 0
+
+-- the connection of a number was x and is y, and no other changed
+pub record Swaps (n : ℕ) (a b : Table) (x y : Connection) : Type 0 where
+  pub was : at n a ≡ Some x
+  pub is : at n b ≡ Some y
+  pub others : (c : ℕ) → c ≢ n → at c b ≡ at c a
+  pub next : b.next ≡ a.next
+  pub refusals : b.refusals ≡ a.refusals
+  pub clients : clients b ≡ clients a
 
 -- no connection is open, and the first number is 1
 pub record IsNew (t : Table) : Type 0 where

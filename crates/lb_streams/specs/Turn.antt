@@ -10,7 +10,6 @@ use Rattle.lb_lines.specs.declared.report.Line.{Line}
 use Rattle.lb_lines.specs.declared.report.Sending.{Sending}
 use Rattle.lb_lines.specs.declared.roster.Listed.{Listed}
 use Rattle.lb_outbox.specs.Outbox.{Receiving}
-use Rattle.lb_outbox.specs.Rule.{delivery}
 use Rattle.lb_outbox.specs.declared.job.Job.{Job}
 use Rattle.lb_outbox.specs.declared.rule.Delivery.{Delivery}
 use Rattle.lb_streams.specs.Connection.{Net}

@@ -1,6 +1,6 @@
 //! One connection.
 
-ghost use Rattle.std.specs.Prelude.{[], IsTrue, None, OnErr, OnOk, drop, false, length, true, ◌++◌, ◌+◌, ◌<◌, ◌≡◌, ◌≤◌};
+ghost use Rattle.std.specs.Prelude.{[], IfSome, IsTrue, List, None, OnErr, OnOk, Some, drop, false, length, true, ℕ, ◌++◌, ◌+◌, ◌<◌, ◌^◌, ◌≡◌, ◌≤◌};
 ghost use Rattle.lb_frames.specs.Frames.{NoneWhole, framed};
 ghost use Rattle.lb_streams.specs.Table.{IsOverdue};
 ghost use Rattle.lb_wire.specs.Octets.{max_message};
@@ -9,6 +9,7 @@ use lb_frames::{Incoming, Outgoing};
 use lb_lines::{Peer, Roster};
 use lb_wire::Octets;
 use std::alloc::{AllocError, Global};
+use std::collections::VecDeque;
 
 /// The most octets that may wait to be written to a connection.
 const MOST_WAITING: usize = 1_048_576;
@@ -69,6 +70,14 @@ impl Connection {
         }
     }
 
+    /// Whether a whole message of it waits.
+    pub(crate) fn has_message(&self) -> bool
+        ensures whole { IsTrue result → (message : List ℕ) × (rest : List ℕ) × (length message < 2 ^ 16) × (self.now.incoming ≡ framed message ++ rest) }
+        ensures none { result ≡ false → NoneWhole self.now.incoming }
+    {
+        self.incoming.has_message()
+    }
+
     /// Whether it may be read: no whole message of it waits, and not too much is to be written to it.
     pub(crate) fn may_be_read(&self) -> bool {
         !self.incoming.has_message() && self.outgoing.len() <= MANY_WAITING
@@ -81,7 +90,8 @@ impl Connection {
 
     /// Whether with this message more octets would wait than may.
     pub(crate) fn is_over(&self, message: &Octets) -> bool
-        ensures { IsTrue result → 1048576 < length self.now.outgoing + length (framed message.now) }
+        ensures over { IsTrue result → 1048576 < length self.now.outgoing + length (framed message.now) }
+        ensures within { result ≡ false → length self.now.outgoing + length (framed message.now) ≤ 1048576 }
     {
         self.outgoing.len() > MOST_WAITING - LENGTH - message.as_slice().len()
     }
@@ -98,14 +108,48 @@ impl Connection {
     /// Puts a message behind what is to be written. The one error is want of memory, and then nothing has changed.
     pub(crate) fn promise(&mut self, message: &Octets) -> Result<(), AllocError>
         ensures promised { OnOk result (self.new.outgoing ≡ self.old.outgoing ++ framed message.now) }
-        ensures same { OnErr result (self.new.outgoing ≡ self.old.outgoing) }
-        ensures rest { (self.new.number ≡ self.old.number) × (self.new.peer ≡ self.old.peer) × (self.new.incoming ≡ self.old.incoming) × (self.new.is_ended ≡ self.old.is_ended) }
+        ensures same { OnErr result (self.new ≡ self.old) }
+        ensures rest { self.new ≡ record self.old { outgoing = self.new.outgoing } }
     {
         self.outgoing.push_framed(message.as_slice())
     }
 
+    /// Notes its number among those that are to be written at the end of the turn, where there is memory for that.
+    pub(crate) fn touch(&mut self, touched: &mut Vec<u64>)
+        ensures { self.new ≡ record self.old { is_touched = self.new.is_touched } }
+    {
+        if !self.is_touched {
+            self.is_touched = touched.push(self.number).is_ok();
+        }
+    }
+
+    /// Takes the whole message off the front of what came. It has had its turn in the queue.
+    pub(crate) fn drop_first(&mut self)
+        requires { (message : List ℕ) × (rest : List ℕ) × (length message < 2 ^ 16) × (self.old.incoming ≡ framed message ++ rest) }
+        ensures taken { (message : List ℕ) → (rest : List ℕ) → length message < 2 ^ 16 → self.old.incoming ≡ framed message ++ rest → self.new.incoming ≡ rest }
+        ensures rest { self.new ≡ record self.old { incoming = self.new.incoming; is_queued = false } }
+    {
+        self.incoming.drop_first();
+        self.is_queued = false;
+    }
+
+    /// Puts its number behind those that wait for their turn, where it has a whole message and does not stand there yet. The one error is
+    /// want of memory.
+    pub(crate) fn enqueue(&mut self, queue: &mut VecDeque<u64>) -> Result<(), AllocError>
+        ensures { self.new ≡ record self.old { is_queued = self.new.is_queued } }
+    {
+        if self.is_queued || !self.incoming.has_message() {
+            return Ok(());
+        }
+        queue.push_back(self.number)?;
+        self.is_queued = true;
+        Ok(())
+    }
+
     /// Its peer has closed its side, at this moment. Tells the moment at which it is closed at the latest.
     pub(crate) fn end(&mut self, now: u64) -> u64
+        ensures ended { self.new.is_ended ≡ true }
+        ensures until { (self.new.until ≡ Some result) × (now ≤ result) }
         ensures rest { (self.new.number ≡ self.old.number) × (self.new.peer ≡ self.old.peer) × (self.new.incoming ≡ self.old.incoming) × (self.new.outgoing ≡ self.old.outgoing) }
     {
         let until = now.saturating_add(KEPT);
@@ -137,7 +181,8 @@ impl Connection {
 
     /// Whether its time is over at this moment.
     pub(crate) fn is_overdue(&self, now: u64) -> bool
-        ensures { IsTrue result → IsOverdue now self.now }
+        ensures over { IsTrue result → IsOverdue now self.now }
+        ensures kept { result ≡ false → IfSome self.now.until (λ until. now < until) }
     {
         match self.until {
             Some(until) => until <= now,

@@ -135,5 +135,5 @@ fn hear(
     ensures same { table.new ≡ table.old }
 {
     connection.incoming.push(octets.as_slice())?;
-    table.enqueue(connection)
+    connection.enqueue(&mut table.queue)
 }

@@ -235,7 +235,8 @@ impl Connections {
 
     /// Whether as many clients are connected as may be.
     pub(crate) fn is_full(&self) -> bool
-        ensures { IsTrue result → 1024 ≤ clients self.now }
+        ensures full { IsTrue result → 1024 ≤ clients self.now }
+        ensures room { result ≡ false → clients self.now < 1024 }
     {
         self.clients >= MOST_CLIENTS
     }
@@ -269,20 +270,6 @@ impl Connections {
         }
     }
 
-    /// Puts a connection that has a whole message behind those that wait for their turn, where it does not stand there yet. The one error
-    /// is want of memory.
-    pub(crate) fn enqueue(&mut self, connection: &mut Connection) -> Result<(), AllocError>
-        ensures same { self.new ≡ self.old }
-        ensures rest { (connection.new.number ≡ connection.old.number) × (connection.new.peer ≡ connection.old.peer) × (connection.new.incoming ≡ connection.old.incoming) × (connection.new.outgoing ≡ connection.old.outgoing) × (connection.new.is_ended ≡ connection.old.is_ended) }
-    {
-        if connection.is_queued || !connection.incoming.has_message() {
-            return Ok(());
-        }
-        self.queue.push_back(connection.number)?;
-        connection.is_queued = true;
-        Ok(())
-    }
-
     /// The connection whose turn it is.
     pub(crate) fn first_queued(&self) -> Option<u64> {
         self.queue.front().copied()
@@ -293,16 +280,6 @@ impl Connections {
         ensures same { self.new ≡ self.old }
     {
         let _ = self.queue.pop_front();
-    }
-
-    /// Notes that a connection is to be written at the end of the turn, where there is memory for that.
-    pub(crate) fn touch(&mut self, connection: &mut Connection)
-        ensures same { self.new ≡ self.old }
-        ensures rest { (connection.new.number ≡ connection.old.number) × (connection.new.peer ≡ connection.old.peer) × (connection.new.incoming ≡ connection.old.incoming) × (connection.new.outgoing ≡ connection.old.outgoing) × (connection.new.is_ended ≡ connection.old.is_ended) }
-    {
-        if !connection.is_touched {
-            connection.is_touched = self.touched.push(connection.number).is_ok();
-        }
     }
 
     /// A connection that is to be written at the end of the turn.

@@ -4,6 +4,7 @@ ghost use Rattle.std.specs.Prelude.{IfOk, IfSome, List, Some, length, ℕ, ◌++
 ghost use Rattle.lb_frames.specs.Frames.{framed};
 ghost use Rattle.lb_streams.specs.Goes.{Goes, just, none};
 ghost use Rattle.lb_streams.specs.Table.{IsFirst, at};
+ghost use Rattle.lb_streams.specs.Taking.{Takes};
 ghost use Rattle.lb_streams.specs.declared.connection.Connection.{Connection};
 
 use crate::links::Links;
@@ -44,6 +45,28 @@ impl Connections {
             copy,
         }))
     }
+
+    /// Takes the first message of a connection, which stands first in the queue, off what came of it, where it stands. With a further one
+    /// it waits for its turn again. The one error is want of memory for that; the message is taken all the same.
+    fn drop_first(&mut self, number: u64) -> Result<(), AllocError>
+        ensures { (peer : Peer) (message : List ℕ) → IsFirst number peer message self.old → Takes number message self.old self.new }
+    {
+        if number > self.last {
+            return Ok(());
+        }
+        let Some(connection) = &mut self.slots[place_of(number)] else {
+            return Ok(());
+        };
+        if connection.number != number {
+            return Ok(());
+        }
+        if !connection.has_message() {
+            return Ok(());
+        }
+        connection.drop_first();
+        let _ = self.queue.pop_front();
+        connection.enqueue(&mut self.queue)
+    }
 }
 
 impl<S: Streams> Links<S> {
@@ -52,22 +75,10 @@ impl<S: Streams> Links<S> {
     pub(crate) fn drop_first(&mut self, number: u64)
         ensures { (peer : Peer) (message : List ℕ) → IsFirst number peer message self.old.table → Goes self.old self.new (just number message) none }
     {
-        let Some(mut connection) = self.table.take(number) else {
-            return;
-        };
-        if !connection.incoming.has_message() {
-            self.table.put(connection);
-            return;
-        }
-        connection.incoming.drop_first();
-        connection.is_queued = false;
-        self.table.drop_queued();
-        match self.table.enqueue(&mut connection) {
-            Ok(()) => self.table.put(connection),
-            Err(refused) => {
-                self.sockets.close(number);
-                self.table.lacks(refused);
-            }
+        if let Err(refused) = self.table.drop_first(number) {
+            let _ = self.table.take(number);
+            self.sockets.close(number);
+            self.table.lacks(refused);
         }
     }
 }

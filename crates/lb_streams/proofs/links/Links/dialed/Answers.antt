@@ -1,13 +1,8 @@
-use Rattle.std.proofs.Common.{rules, tests, ◌≡◌, ◌+◌, ℕ, List, [], ◌∷◌, ◌++◌, Some, None, true, false, refl, sym, ap, ◌∙◌, subst, arith}
-use Rattle.lb_lines.specs.Moves.{Came, Faulty, Traffic}
-use Rattle.lb_lines.specs.declared.traffic.Accepted.TheVariants as accepted
-use Rattle.lb_lines.specs.declared.traffic.Peer.{Peer}
-use Rattle.lb_lines.specs.declared.traffic.Read.TheVariants as reads
-use Rattle.lb_streams.proofs.Going.{goes_kept}
-use Rattle.lb_streams.proofs.Opening.{Adds, adds, goes_begun, goes_came, goes_undialed, undialed_lacks}
+use Rattle.std.proofs.Common.{◌≡◌, ℕ, refl, sym, ap, ◌∙◌, subst}
+use Rattle.lb_streams.proofs.Opening.{Adds, adds, goes_begun, goes_undialed, undialed_lacks}
 use Rattle.lb_streams.specs.Connection.{Net}
-use Rattle.lb_streams.specs.Goes.{Goes, Lacks, just, none}
-use Rattle.lb_streams.specs.Table.{Narrows, Table, at, clients, client_count}
+use Rattle.lb_streams.specs.Goes.{Goes, Lacks, none}
+use Rattle.lb_streams.specs.Table.{Narrows, Table}
 use Rattle.lb_streams.specs.declared.connection.Connection.{Connection}
 use Rattle.lb_streams.proofs.links.Links.dialed.Goals as goal
 

@@ -1,13 +1,8 @@
-use Rattle.std.proofs.Common.{rules, tests, ◌≡◌, ◌+◌, ℕ, List, [], ◌∷◌, ◌++◌, Some, None, true, false, refl, sym, ap, ◌∙◌, subst, arith}
-use Rattle.lb_lines.specs.Moves.{Came, Faulty, Traffic}
-use Rattle.lb_lines.specs.declared.traffic.Accepted.TheVariants as accepted
-use Rattle.lb_lines.specs.declared.traffic.Peer.{Peer}
-use Rattle.lb_lines.specs.declared.traffic.Read.TheVariants as reads
+use Rattle.std.proofs.Common.{rules, ◌≡◌, false, refl, sym, ap, ◌∙◌, subst}
 use Rattle.lb_streams.proofs.Going.{Drops, drops, goes_kept, goes_refused, goes_written, swaps}
-use Rattle.lb_streams.proofs.Opening.{Adds, adds, goes_begun, goes_came, goes_undialed, undialed_lacks}
 use Rattle.lb_streams.specs.Connection.{Net}
-use Rattle.lb_streams.specs.Goes.{Goes, Lacks, just, none}
-use Rattle.lb_streams.specs.Table.{IsFirst, Table, at, clients, client_count}
+use Rattle.lb_streams.specs.Goes.{Goes, none}
+use Rattle.lb_streams.specs.Table.{Table}
 use Rattle.lb_streams.specs.declared.connection.Connection.{Connection}
 use Rattle.lb_streams.proofs.links.Links.flush.Goals as goal
 

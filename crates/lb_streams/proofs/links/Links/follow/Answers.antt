@@ -1,8 +1,5 @@
-use Rattle.std.proofs.Common.{refl, sym, ap, ◌∙◌, subst}
-use Rattle.lb_streams.proofs.Letters.{lacks_fits, missed_fits, servers_after}
-use Rattle.lb_streams.proofs.Opening.{goes_nothing}
-use Rattle.lb_streams.proofs.Then.{goes_after, goes_before, misses_before}
-use Rattle.lb_streams.specs.Goes.{just, none}
+use Rattle.lb_streams.proofs.Then.{goes_before}
+use Rattle.lb_streams.specs.Goes.{none}
 use Rattle.lb_streams.proofs.links.Links.follow.Goals as goal
 
 pub loop-place-preserved : goal.loop-place-preserved

@@ -1,4 +1,4 @@
-use Rattle.std.proofs.Common.{rules, tests, ◌≡◌, Some, None, refl, sym, ap, ◌∙◌, subst, arith}
+use Rattle.std.proofs.Common.{refl, subst}
 use Rattle.lb_streams.proofs.Going.{goes_kept, swaps}
 use Rattle.lb_streams.specs.Connection.{Net}
 use Rattle.lb_streams.specs.Goes.{Goes, none}

@@ -1,9 +1,7 @@
-use Rattle.std.proofs.Common.{rules, tests, ◌≡◌, ◌+◌, ℕ, [], Some, None, true, false, refl, sym, ap, ◌∙◌, subst, arith}
-use Rattle.lb_lines.specs.Moves.{Faulty, Traffic}
+use Rattle.std.proofs.Common.{refl, subst}
 use Rattle.lb_streams.proofs.Going.{goes_kept, swaps}
 use Rattle.lb_streams.specs.Connection.{Net}
-use Rattle.lb_streams.specs.Goes.{Goes, just, none}
-use Rattle.lb_streams.specs.Table.{Table, at, clients, client_count}
+use Rattle.lb_streams.specs.Goes.{Goes, none}
 use Rattle.lb_streams.specs.declared.connection.Connection.{Connection}
 use Rattle.lb_streams.proofs.links.Links.pay.Goals as goal
 

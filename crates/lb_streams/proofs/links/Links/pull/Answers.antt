@@ -1,13 +1,10 @@
-use Rattle.std.proofs.Common.{rules, tests, ◌≡◌, ◌+◌, ℕ, List, [], ◌∷◌, ◌++◌, Some, None, true, false, refl, sym, ap, ◌∙◌, subst, arith}
-use Rattle.lb_lines.specs.Moves.{Came, Faulty, Traffic}
-use Rattle.lb_lines.specs.declared.traffic.Accepted.TheVariants as accepted
+use Rattle.std.proofs.Common.{◌≡◌, true, refl, sym, ap, ◌∙◌, subst}
+use Rattle.lb_lines.specs.Moves.{Faulty, Traffic}
 use Rattle.lb_lines.specs.declared.traffic.Peer.{Peer}
-use Rattle.lb_lines.specs.declared.traffic.Read.TheVariants as reads
 use Rattle.lb_streams.proofs.Going.{Drops, drops, drops_wanting, goes_asked, goes_failed, goes_heard, goes_kept, goes_left, goes_wanting, goes_wanting_read, rose_wanting, swaps, swaps_by}
-use Rattle.lb_streams.proofs.Opening.{Adds, adds, goes_begun, goes_came, goes_undialed, undialed_lacks}
 use Rattle.lb_streams.specs.Connection.{Net}
-use Rattle.lb_streams.specs.Goes.{Goes, Lacks, just, none}
-use Rattle.lb_streams.specs.Table.{Table, at, clients, client_count, is_client}
+use Rattle.lb_streams.specs.Goes.{Goes, none}
+use Rattle.lb_streams.specs.Table.{Table, is_client}
 use Rattle.lb_streams.specs.declared.connection.Connection.{Connection}
 use Rattle.lb_streams.proofs.links.Links.pull.Goals as goal
 

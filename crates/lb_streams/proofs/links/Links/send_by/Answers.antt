@@ -1,4 +1,3 @@
-use Rattle.std.proofs.Common.{refl}
 use Rattle.lb_streams.proofs.Letters.{fits_all, lacks_fits}
 use Rattle.lb_streams.proofs.Then.{goes_before}
 use Rattle.lb_streams.specs.Goes.{none, sent_by}

@@ -1,4 +1,3 @@
-use Rattle.std.proofs.Common.{refl}
 use Rattle.lb_streams.proofs.Then.{goes_before}
 use Rattle.lb_streams.specs.Goes.{none}
 use Rattle.lb_streams.proofs.links.Links.write.Goals as goal
