@@ -54,7 +54,14 @@ pub fn choose(words: &[String]) -> Option<Mode<'_>>
 /// words ask for nothing that there is, as they do where one is not UTF-8 (`InvalidData`); and 3 where they, or the file to check, can't
 /// be read.
 pub fn start<
-    T: Files + Threads + Wait + Net<Listener = TcpListener, Stream = TcpStream> + Clock + RandomSource + AllocGlobal + Sync,
+    T: Files
+        + Threads
+        + Wait
+        + Net<Listener = TcpListener, Stream = TcpStream>
+        + Clock
+        + RandomSource
+        + AllocGlobal
+        + Sync,
     R: Read + Drop,
     W: Write,
     F: Write,
@@ -82,7 +89,14 @@ fn without_words<F: Write>(error: io::Error, faults: &mut F) -> Ended
 
 /// Does what the words behind the program's name ask for.
 fn run<
-    T: Files + Threads + Wait + Net<Listener = TcpListener, Stream = TcpStream> + Clock + RandomSource + AllocGlobal + Sync,
+    T: Files
+        + Threads
+        + Wait
+        + Net<Listener = TcpListener, Stream = TcpStream>
+        + Clock
+        + RandomSource
+        + AllocGlobal
+        + Sync,
     R: Read + Drop,
     W: Write,
     F: Write,
@@ -125,7 +139,14 @@ fn check_file<T: Files + AllocGlobal, W: Write, F: Write>(
 
 /// Serves by a setup file, which is read whole first.
 fn serve_file<
-    T: Files + Threads + Wait + Net<Listener = TcpListener, Stream = TcpStream> + Clock + RandomSource + AllocGlobal + Sync,
+    T: Files
+        + Threads
+        + Wait
+        + Net<Listener = TcpListener, Stream = TcpStream>
+        + Clock
+        + RandomSource
+        + AllocGlobal
+        + Sync,
     W: Write,
     F: Write,
 >(rt: &T, file: &str, output: &mut W, faults: &mut F) -> Ended {
