@@ -149,7 +149,9 @@ fn serve_file<
         + Sync,
     W: Write,
     F: Write,
->(rt: &T, file: &str, output: &mut W, faults: &mut F) -> Ended {
+>(rt: &T, file: &str, output: &mut W, faults: &mut F) -> Ended
+    ensures { ServesFile (W.contents output.old) (W.contents output.new) (F.contents faults.old) (F.contents faults.new) result.status result.told }
+{
     match read_whole(rt, rt.alloc(), file) {
         Ok(text) => serve_told(rt, rt.alloc(), text.as_str(), output, faults),
         Err(error) => tell_unreadable(rt.alloc(), file, error, faults),
