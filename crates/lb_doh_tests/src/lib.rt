@@ -1,0 +1,10 @@
+//! The tests of lb_http, which call what is public there: in a crate of their own, so that it is proved once and not a second time with
+//! them. There is nothing else here.
+#![tactic(auto)]
+
+#[cfg(test)]
+mod requests;
+#[cfg(test)]
+mod responses;
+#[cfg(test)]
+mod rows;
