@@ -1,5 +1,5 @@
 -- Ranks that are filed under keys: pairs, and their order.
-use Rattle.std.specs.Prelude.{◌≡◌, ◌⊎◌, ℕ, List, ◌∷◌, ◌++◌, Bool, true, false, Contains, ◌↔◌, Option, None, Some}
+use Rattle.std.specs.Prelude.{◌≡◌, ◌⊎◌, ℕ, List, ◌++◌, Bool, true, false, Contains, ◌↔◌, Option, None, Some}
 use Rattle.std.specs.Ordering.{nat_cmp, ordering_then, is_lt}
 use Rattle.std.specs.Cmp.Lexicographic.{slice_cmp}
 use Rattle.std.specs.declared.cmp.Ordering.{Ordering}
@@ -46,13 +46,12 @@ pub record IsFrom (at : Filed) (items rest : List Filed) : Type 0 where
   pub whole : items ≡ front ++ rest
   pub cut : IsCut at front rest
 
--- the first pair whose key stands at or after the one and before the other, what stands around it, and its rank
-pub record IsFirstWithin (low high : List ℕ) (items : List Filed) (rank : ℕ) (front back : List Filed) : Type 0 where
-  pub filed : Filed
-  pub whole : items ≡ front ++ filed ∷ back
-  pub cut : IsCut (filed_at low 0) front (filed ∷ back)
+-- the first pair whose key stands at or after the one and before the other
+pub record IsFirstWithin (low high : List ℕ) (items : List Filed) (filed : Filed) : Type 0 where
+  pub has : Contains items filed
+  pub from : is_before (filed_at low 0) filed ≡ false
   pub below : is_before (filed_at high 0) filed ≡ true
-  pub is : rank ≡ filed.rank
+  pub first : (f : Filed) → Contains items f → is_before (filed_at low 0) f ≡ false → is_before filed f ≡ false
 
 -- no key stands at or after the one and before the other
 abbrev pub IsNoneWithin : List ℕ → List ℕ → List Filed → Type 0
@@ -61,4 +60,4 @@ IsNoneWithin low high items = (f : Filed) → Contains items f → is_before (fi
 -- the first pair with a key within is taken out and its rank is told, and where there is none nothing changes
 abbrev pub TakesFirst : List ℕ → List ℕ → List Filed → Option ℕ → List Filed → Type 0
 TakesFirst low high old None new = IsNoneWithin low high old × (new ≡ old)
-TakesFirst low high old (Some rank) new = (front back : List Filed) × IsFirstWithin low high old rank front back × (new ≡ front ++ back)
+TakesFirst low high old (Some rank) new = (filed : Filed) × IsFirstWithin low high old filed × (rank ≡ filed.rank) × HasBut old filed new

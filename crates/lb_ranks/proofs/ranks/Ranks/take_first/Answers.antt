@@ -24,4 +24,4 @@ returns c =
     let p = c.in_ok-spot.spot.place in
     let first : IsFirstAt low high cs k p = subst (λ (xs : List (List Filed)). IsFirstAt low high xs k p) c.as_slice.ensures.value c.in_ok-spot.ensures.some in
     subst (λ (xs : List Filed). TakesFirst low high xs (Some c.take_at.result) (all_of c.take_at.new.chunks.items)) c.self.view_is
-    (takes low high cs k p c.take_at.result (all_of c.take_at.new.chunks.items) first c.take_at.ensures.rank c.take_at.ensures.pairs)
+    (takes low high cs k p c.take_at.result (all_of c.take_at.new.chunks.items) c.self.invariant.0 first c.take_at.ensures.rank c.take_at.ensures.pairs)
