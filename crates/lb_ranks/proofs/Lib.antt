@@ -1,0 +1,6 @@
+pub mod Order
+pub mod Cuts
+pub mod Chunks
+pub mod Spots
+pub mod Taking
+pub mod Putting

@@ -1,0 +1,66 @@
+-- Pairs in chunks.
+use Rattle.std.specs.Prelude.{◌≡◌, ℕ, zero, suc, ◌-◌, ◌<◌, ◌≤◌, List, [], ◌∷◌, ◌++◌, Bool, true, Some, option_map, length, take, drop, slice_get, slice_index_or}
+use Rattle.std.specs.List.{flat_map}
+use Rattle.lb_ranks.specs.declared.filed.Filed.{Filed}
+use Rattle.lb_ranks.specs.Filed.{filed_at, is_before, IsCut}
+
+-- how many pairs a chunk may have
+abbrev pub max_pairs : ℕ
+max_pairs = 128
+
+-- no chunk is empty
+abbrev pub IsFilled : List Filed → Type 0
+IsFilled items = 0 < length items
+
+-- whether the last pair of a chunk stands before this one
+abbrev pub ends_before : Filed → List Filed → Bool
+ends_before at items = is_before at (slice_index_or items (length items - 1) at)
+
+-- the pairs of all chunks
+abbrev pub all_of : List (List Filed) → List Filed
+all_of chunks = flat_map (λ c. c) chunks
+
+abbrev pub chunk_at : List (List Filed) → ℕ → List Filed
+chunk_at chunks k = slice_index_or chunks k []
+
+-- the pairs of the chunks behind one
+abbrev pub behind : List (List Filed) → ℕ → List Filed
+behind [] k = []
+behind (c ∷ cs) zero = all_of cs
+behind (c ∷ cs) (suc k) = behind cs k
+
+-- the pairs before a place of a chunk
+abbrev pub front_of : List (List Filed) → ℕ → ℕ → List Filed
+front_of [] k place = []
+front_of (c ∷ cs) zero place = take place c
+front_of (c ∷ cs) (suc k) place = c ++ front_of cs k place
+
+-- the pairs from a place of a chunk on
+abbrev pub back_of : List (List Filed) → ℕ → ℕ → List Filed
+back_of [] k place = []
+back_of (c ∷ cs) zero place = drop place c ++ all_of cs
+back_of (c ∷ cs) (suc k) place = back_of cs k place
+
+-- the pairs behind that at a place of a chunk
+abbrev pub rest_of : List (List Filed) → ℕ → ℕ → List Filed
+rest_of [] k place = []
+rest_of (c ∷ cs) zero place = drop (suc place) c ++ all_of cs
+rest_of (c ∷ cs) (suc k) place = rest_of cs k place
+
+-- where a pair may stand: in a chunk that is there, and at its end only in the last
+pub record IsPlace (chunks : List (List Filed)) (k place : ℕ) : Type 0 where
+  pub upto : k ≤ length chunks
+  pub there : 0 < length chunks → k < length chunks
+  pub within : place ≤ length (chunk_at chunks k)
+  pub last : length (chunk_at chunks k) ≤ place → behind chunks k ≡ []
+
+-- the place of a chunk is that of a pair
+pub record IsTaken (chunks : List (List Filed)) (k place : ℕ) : Type 0 where
+  pub there : k < length chunks
+  pub within : place < length (chunk_at chunks k)
+
+-- at the place stands the first pair whose key is at or after the one and before the other
+pub record IsFirstAt (low high : List ℕ) (chunks : List (List Filed)) (k place : ℕ) : Type 0 where
+  pub taken : IsTaken chunks k place
+  pub cut : IsCut (filed_at low 0) (front_of chunks k place) (back_of chunks k place)
+  pub below : option_map (is_before (filed_at high 0)) (slice_get (back_of chunks k place) 0) ≡ Some true

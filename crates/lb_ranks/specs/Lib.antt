@@ -1,0 +1,4 @@
+pub mod Least
+pub mod Filed
+pub mod Chunk
+pub mod Cursor

@@ -1,0 +1,121 @@
+//! Some pairs in order.
+
+ghost use Rattle.std.specs.Prelude.{◌≡◌, ◌<◌, ◌≤◌, true, false, List, [], ◌∷◌, ◌++◌, IfOk, OnOk, OnErr, length, slice_get, slice_index_or, option_copied, IsTrue, ◌↔◌};
+ghost use Rattle.std.specs.List.{insert, remove};
+ghost use Rattle.std.specs.List.Sorted.{IsPartitionPoint};
+ghost use Rattle.lb_ranks.specs.Chunk.{ends_before as ends_before_of, max_pairs, IsFilled};
+ghost use Rattle.lb_ranks.specs.Filed.{filed_at, is_before as is_before_of, AreInOrder};
+
+use crate::filed::Filed;
+use std::alloc::{AllocError, Global};
+use std::marker::Model;
+
+/// The most pairs of a chunk.
+const MAX_PAIRS: usize = 128;
+
+/// How many pairs stay in a chunk that is divided.
+const HALF: usize = MAX_PAIRS / 2;
+
+/// Some pairs in order. A contract sees them as their list.
+#[derive(Debug, Drop)]
+pub(crate) struct Chunk {
+    items: Vec<Filed>,
+}
+
+impl Model for Chunk {
+    ghost use Rattle.std.specs.Prelude.{List};
+    ghost use Rattle.lb_ranks.specs.declared.filed.Filed.{Filed};
+
+    ghost Value = { List Filed };
+
+    ghost view = { λ c. c.items.items };
+}
+
+impl Chunk {
+    /// A chunk of one pair.
+    pub(crate) fn one(alloc: Global, filed: Filed) -> Result<Chunk, AllocError>
+        ensures { IfOk result (λ chunk. chunk ≡ filed ∷ []) }
+    {
+        let mut items = Vec::new(alloc);
+        items.push(filed)?;
+        Ok(Chunk { items })
+    }
+
+    /// How many pairs it has.
+    pub(crate) fn len(&self) -> usize
+        ensures { result ≡ length self.now }
+    {
+        self.items.len()
+    }
+
+    /// Whether it has as many pairs as it may have.
+    pub(crate) fn is_full(&self) -> bool
+        ensures { IsTrue result ↔ (max_pairs ≤ length self.now) }
+    {
+        self.items.len() >= MAX_PAIRS
+    }
+
+    /// Whether its last pair stands before the pair of this key and rank.
+    pub(crate) fn ends_before(&self, key: &[u8], rank: u64) -> bool
+        ensures { result ≡ ends_before_of (filed_at key.now rank) self.now }
+    {
+        match self.items.last() {
+            Some(filed) => filed.is_before(key, rank),
+            None => false,
+        }
+    }
+
+    /// Where the pair of this key and rank stands, or would stand.
+    pub(crate) fn place_of(&self, key: &[u8], rank: u64) -> usize
+        requires { AreInOrder self.now }
+        ensures place { IsPartitionPoint (λ f. is_before_of (filed_at key.now rank) f ≡ true) (λ f. is_before_of (filed_at key.now rank) f ≡ false) self.now result }
+        ensures within { result ≤ length self.now }
+    {
+        self.items
+            .partition_point(|filed| filed.is_before(key, rank))
+    }
+
+    /// The pair at a place.
+    pub(crate) fn get(&self, place: usize) -> Option<&Filed>
+        ensures { option_copied result ≡ slice_get self.now place }
+    {
+        self.items.get(place)
+    }
+
+    /// Puts a pair at a place.
+    pub(crate) fn put(&mut self, place: usize, filed: Filed) -> Result<(), AllocError>
+        requires { place ≤ length self.old }
+        ensures ok { OnOk result (self.new ≡ insert self.old place filed) }
+        ensures err { OnErr result (self.new ≡ self.old) }
+    {
+        self.items.insert(place, filed)?;
+        Ok(())
+    }
+
+    /// Takes the pair at a place out.
+    pub(crate) fn take(&mut self, place: usize) -> Filed
+        requires { place < length self.old }
+        ensures value { result ≡ slice_index_or self.old place result }
+        ensures items { self.new ≡ remove self.old place }
+    {
+        self.items.remove(place)
+    }
+
+    /// Divides it: the pairs from the middle on become a chunk of their own.
+    pub(crate) fn divide(&mut self) -> Result<Chunk, AllocError>
+        requires { max_pairs ≤ length self.old }
+        ensures ok { OnOk result (IsFilled self.new) }
+        ensures upper { IfOk result (λ upper. IsFilled upper × (self.old ≡ self.new ++ upper)) }
+        ensures err { OnErr result (self.new ≡ self.old) }
+    {
+        let mut upper = Vec::with_capacity(*self.items.allocator(), self.items.len())?;
+        'pairs: while self.items.len() > HALF {
+            match self.items.pop() {
+                Some(filed) => upper.push_reserved(filed),
+                None => unreachable!(),
+            }
+        }
+        upper.reverse();
+        Ok(Chunk { items: upper })
+    }
+}

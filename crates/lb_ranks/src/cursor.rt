@@ -1,0 +1,84 @@
+//! A walk over pairs in their order.
+
+ghost use Rattle.std.specs.Prelude.{◌≡◌, ◌≤◌, drop, length, option_copied, slice_get};
+ghost use Rattle.std.specs.List.{All};
+ghost use Rattle.lb_ranks.specs.Cursor.{left_below, next_below as next_below_of};
+ghost use Rattle.lb_ranks.specs.Chunk.{back_of, IsFilled, IsPlace};
+
+use crate::chunk::Chunk;
+use crate::filed::Filed;
+use crate::spot::{Spot, pair_at};
+use std::marker::Model;
+
+/// A walk over pairs in their order. A contract sees those that it has not passed as a list. It takes no memory.
+#[derive(Debug, Drop)]
+pub struct Cursor<'a> {
+    chunks: &'a [Chunk],
+    place: usize,
+}
+
+impl<'a> Model for Cursor<'a> {
+    ghost use Rattle.std.specs.Prelude.{List};
+    ghost use Rattle.std.specs.List.{All};
+    ghost use Rattle.lb_ranks.specs.declared.filed.Filed.{Filed};
+    ghost use Rattle.lb_ranks.specs.Chunk.{back_of, IsFilled, IsPlace};
+
+    ghost Value = { List Filed };
+
+    ghost view = { λ c. back_of c.chunks.now 0 c.place };
+
+    ghost invariant = { λ c. All IsFilled c.chunks.now × IsPlace c.chunks.now 0 c.place };
+}
+
+impl<'a> Cursor<'a> {
+    /// A walk from a place of a chunk on.
+    pub(crate) fn new(chunks: &'a [Chunk], chunk: usize, place: usize) -> Cursor<'a>
+        requires filled { All IsFilled chunks.now }
+        requires place { IsPlace chunks.now chunk place }
+        requires within { chunk ≤ length chunks.now }
+        ensures { result ≡ back_of chunks.now chunk place }
+    {
+        let (_, chunks) = chunks.split_at(chunk);
+        Cursor { chunks, place }
+    }
+
+    /// The next pair.
+    fn head(&self) -> Option<&Filed>
+        ensures { option_copied result ≡ slice_get self.now 0 }
+    {
+        let spot = Spot {
+            chunk: 0,
+            place: self.place,
+        };
+        pair_at(self.chunks, spot)
+    }
+
+    /// Passes the next pair, where there is one.
+    fn pass(&mut self)
+        ensures { self.new ≡ drop 1 self.old }
+    {
+        let Some((chunk, rest)) = self.chunks.split_first() else {
+            return;
+        };
+        if chunk.len() - self.place > 1 {
+            self.place += 1;
+        } else {
+            self.chunks = rest;
+            self.place = 0;
+        }
+    }
+
+    /// Passes the next pair and gives its rank, where its key stands before this one.
+    pub fn next_below(&mut self, high: &[u8]) -> Option<u64>
+        ensures rank { result ≡ next_below_of high.now self.old }
+        ensures left { self.new ≡ left_below high.now self.old }
+    {
+        let filed = self.head()?;
+        if !filed.is_before(high, 0) {
+            return None;
+        }
+        let rank = filed.rank();
+        self.pass();
+        Some(rank)
+    }
+}

@@ -1,0 +1,13 @@
+//! Ranks that are filed under keys, in the order of the keys.
+#![tactic(auto)]
+
+mod chunk;
+mod cursor;
+mod filed;
+mod least;
+mod ranks;
+mod spot;
+
+pub use cursor::Cursor;
+pub use least::lesser;
+pub use ranks::Ranks;

@@ -1,0 +1,179 @@
+//! Ranks that are filed under keys.
+
+ghost use Rattle.std.specs.Prelude.{◌≡◌, ◌<◌, ◌≤◌, ◌^◌, [], ◌∷◌, ◌++◌, length, slice_get, option_copied, option_map, IsSome, Some, IsTrue, ◌↔◌, OnOk, OnErr};
+ghost use Rattle.std.specs.List.{All};
+ghost use Rattle.lb_ranks.specs.Chunk.{all_of, back_of, chunk_at, front_of, IsFilled, IsPlace, IsTaken, max_pairs, rest_of};
+ghost use Rattle.lb_ranks.specs.Filed.{filed_at, AreInOrder, HasBesides, HasBut, IsCut, IsFiledAt, IsFrom, TakesFirst};
+ghost use Rattle.lb_ranks.specs.Least.{IsLeastFrom};
+
+use crate::chunk::Chunk;
+use crate::cursor::Cursor;
+use crate::filed::Filed;
+use crate::spot::{Spot, find, find_within, pair_at, spot_of, stands_at};
+use std::alloc::{AllocError, Global};
+use std::marker::Model;
+
+/// Ranks, each filed under a key. A contract sees them as the list of their pairs, by key and then by rank.
+#[derive(Debug, Drop)]
+pub struct Ranks {
+    chunks: Vec<Chunk>,
+}
+
+impl Model for Ranks {
+    ghost use Rattle.std.specs.Prelude.{List};
+    ghost use Rattle.std.specs.List.{All};
+    ghost use Rattle.lb_ranks.specs.declared.filed.Filed.{Filed};
+    ghost use Rattle.lb_ranks.specs.Filed.{AreInOrder};
+    ghost use Rattle.lb_ranks.specs.Chunk.{all_of, IsFilled};
+
+    ghost Value = { List Filed };
+
+    ghost view = { λ r. all_of r.chunks.items };
+
+    ghost invariant = { λ r. AreInOrder (all_of r.chunks.items) × All IsFilled r.chunks.items };
+}
+
+/// Divides a full chunk. The pairs stay.
+fn divide(chunks: &mut Vec<Chunk>, at: usize) -> Result<(), AllocError>
+    requires within { at < length chunks.old.items }
+    requires full { max_pairs ≤ length (chunk_at chunks.old.items at) }
+    requires filled { All IsFilled chunks.old.items }
+    ensures pairs { all_of chunks.new.items ≡ all_of chunks.old.items }
+    ensures filled { All IsFilled chunks.new.items }
+{
+    chunks.reserve(1)?;
+    let upper = chunks[at].divide()?;
+    match chunks.insert(at + 1, upper) {
+        Ok(()) => Ok(()),
+        Err(_) => unreachable!(),
+    }
+}
+
+/// Divides a chunk where it is full. The pairs stay.
+fn make_room(chunks: &mut Vec<Chunk>, at: usize) -> Result<(), AllocError>
+    requires { All IsFilled chunks.old.items }
+    ensures pairs { all_of chunks.new.items ≡ all_of chunks.old.items }
+    ensures filled { All IsFilled chunks.new.items }
+{
+    let full = match chunks.get(at) {
+        Some(chunk) => chunk.is_full(),
+        None => false,
+    };
+    if full { divide(chunks, at) } else { Ok(()) }
+}
+
+/// Puts a pair at a spot.
+fn put_at(chunks: &mut Vec<Chunk>, spot: Spot, filed: Filed) -> Result<(), AllocError>
+    requires place { IsPlace chunks.old.items spot.chunk spot.place }
+    requires filled { All IsFilled chunks.old.items }
+    ensures ok { OnOk result (all_of chunks.new.items ≡ front_of chunks.old.items spot.chunk spot.place ++ filed ∷ back_of chunks.old.items spot.chunk spot.place) }
+    ensures err { OnErr result (all_of chunks.new.items ≡ all_of chunks.old.items) }
+    ensures filled { All IsFilled chunks.new.items }
+{
+    if chunks.is_empty() {
+        let chunk = Chunk::one(*chunks.allocator(), filed)?;
+        chunks.push(chunk)?;
+        return Ok(());
+    }
+    chunks[spot.chunk].put(spot.place, filed)
+}
+
+/// Takes the pair at a spot out, and its chunk with it where no pair is left in that, and gives its rank.
+fn take_at(chunks: &mut Vec<Chunk>, spot: Spot) -> u64
+    requires taken { IsTaken chunks.old.items spot.chunk spot.place }
+    requires filled { All IsFilled chunks.old.items }
+    ensures rank { option_map (λ f. f.rank) (slice_get (back_of chunks.old.items spot.chunk spot.place) 0) ≡ Some result }
+    ensures pairs { all_of chunks.new.items ≡ front_of chunks.old.items spot.chunk spot.place ++ rest_of chunks.old.items spot.chunk spot.place }
+    ensures filled { All IsFilled chunks.new.items }
+{
+    let filed = chunks[spot.chunk].take(spot.place);
+    if chunks[spot.chunk].len() == 0 {
+        let _empty = chunks.remove(spot.chunk);
+    }
+    filed.rank()
+}
+
+impl Ranks {
+    /// No ranks. It takes no memory.
+    pub fn new(alloc: Global) -> Ranks
+        ensures { result ≡ [] }
+    {
+        Ranks {
+            chunks: Vec::new(alloc),
+        }
+    }
+
+    /// Files a rank under a key, where it is not filed there already. The one error is want of memory; it leaves all as
+    /// it was.
+    pub fn file(&mut self, key: &[u8], rank: u64) -> Result<(), AllocError>
+        ensures ok { OnOk result (HasBesides self.old (filed_at key.now rank) self.new) }
+        ensures err { OnErr result (self.new ≡ self.old) }
+    {
+        let spot = spot_of(self.chunks.as_slice(), key, rank);
+        if stands_at(self.chunks.as_slice(), spot, key, rank) {
+            return Ok(());
+        }
+        let filed = Filed::new(*self.chunks.allocator(), key, rank)?;
+        make_room(&mut self.chunks, spot.chunk)?;
+        let spot = spot_of(self.chunks.as_slice(), key, rank);
+        put_at(&mut self.chunks, spot, filed)
+    }
+
+    /// Takes a rank from a key, where it is filed there. It takes no memory.
+    pub fn unfile(&mut self, key: &[u8], rank: u64)
+        ensures { HasBut self.old (filed_at key.now rank) self.new }
+    {
+        if let Some(spot) = find(self.chunks.as_slice(), key, rank) {
+            let _rank = take_at(&mut self.chunks, spot);
+        }
+    }
+
+    /// The least rank at or after a rank that is filed under the key. It takes no memory.
+    pub fn next_at(&self, key: &[u8], from: u64) -> Option<u64>
+        ensures { IsLeastFrom (IsFiledAt self.now key.now) from result }
+    {
+        let chunks = self.chunks.as_slice();
+        let filed = pair_at(chunks, spot_of(chunks, key, from))?;
+        if filed.has_key(key) {
+            Some(filed.rank())
+        } else {
+            None
+        }
+    }
+
+    /// A walk over the pairs from a key on. It takes no memory.
+    pub fn walk_from(&self, low: &[u8]) -> Cursor<'_>
+        ensures { IsFrom (filed_at low.now 0) self.now result }
+    {
+        let chunks = self.chunks.as_slice();
+        let spot = spot_of(chunks, low, 0);
+        Cursor::new(chunks, spot.chunk, spot.place)
+    }
+
+    /// Takes the first pair out whose key stands at or after the one key and before the other, and gives its rank; none
+    /// where no pair has such a key. It takes no memory.
+    pub fn take_first(&mut self, low: &[u8], high: &[u8]) -> Option<u64>
+        ensures { TakesFirst low.now high.now self.old result self.new }
+    {
+        let spot = find_within(self.chunks.as_slice(), low, high)?;
+        Some(take_at(&mut self.chunks, spot))
+    }
+
+    /// How many pairs there are, where that can be said in 64 bits. It counts them by chunks.
+    pub fn len(&self) -> usize
+        ensures { length self.now < 2 ^ 64 → result ≡ length self.now }
+    {
+        let mut len = 0usize;
+        'chunks: for chunk in self.chunks.as_slice() {
+            len = len.saturating_add(chunk.len());
+        }
+        len
+    }
+
+    /// The pairs stand in order, each before those after it. It is a law, and does nothing.
+    pub fn stand_in_order(&self)
+        ensures { AreInOrder self.now }
+    {
+        let _chunks = &self.chunks;
+    }
+}

@@ -1,0 +1,89 @@
+//! Where a pair stands among chunks.
+
+ghost use Rattle.std.specs.Prelude.{◌≡◌, slice_get, option_copied, IfSome, IsSome, Some, IsTrue, ◌↔◌, Contains};
+ghost use Rattle.std.specs.List.{All};
+ghost use Rattle.std.specs.Option.{IfNone};
+ghost use Rattle.lb_ranks.specs.Chunk.{all_of, back_of, front_of, IsFilled, IsFirstAt, IsPlace, IsTaken};
+ghost use Rattle.lb_ranks.specs.Filed.{filed_at, AreInOrder, IsCut, IsNoneWithin};
+
+use crate::chunk::Chunk;
+use crate::filed::Filed;
+
+/// A place of a chunk.
+#[derive(Clone, Copy, Debug)]
+pub(crate) struct Spot {
+    pub(crate) chunk: usize,
+    pub(crate) place: usize,
+}
+
+/// Where the pair of this key and rank stands, or would stand.
+pub(crate) fn spot_of(chunks: &[Chunk], key: &[u8], rank: u64) -> Spot
+    requires order { AreInOrder (all_of chunks.now) }
+    requires filled { All IsFilled chunks.now }
+    ensures place { IsPlace chunks.now result.chunk result.place }
+    ensures cut { IsCut (filed_at key.now rank) (front_of chunks.now result.chunk result.place) (back_of chunks.now result.chunk result.place) }
+{
+    let Some((_, others)) = chunks.split_last() else {
+        return Spot { chunk: 0, place: 0 };
+    };
+    let chunk = others.partition_point(|chunk| chunk.ends_before(key, rank));
+    let Some(here) = chunks.get(chunk) else {
+        unreachable!();
+    };
+    Spot {
+        chunk,
+        place: here.place_of(key, rank),
+    }
+}
+
+/// The pair at a spot.
+pub(crate) fn pair_at(chunks: &[Chunk], spot: Spot) -> Option<&Filed>
+    requires { IsPlace chunks.now spot.chunk spot.place }
+    ensures pair { option_copied result ≡ slice_get (back_of chunks.now spot.chunk spot.place) 0 }
+    ensures taken { IsSome result → IsTaken chunks.now spot.chunk spot.place }
+{
+    chunks.get(spot.chunk)?.get(spot.place)
+}
+
+/// Whether the pair of this key and rank stands at the spot.
+pub(crate) fn stands_at(chunks: &[Chunk], spot: Spot, key: &[u8], rank: u64) -> bool
+    requires { IsPlace chunks.now spot.chunk spot.place }
+    ensures pair { IsTrue result ↔ (slice_get (back_of chunks.now spot.chunk spot.place) 0 ≡ Some (filed_at key.now rank)) }
+    ensures taken { IsTrue result → IsTaken chunks.now spot.chunk spot.place }
+{
+    match pair_at(chunks, spot) {
+        Some(filed) => filed.is(key, rank),
+        None => false,
+    }
+}
+
+/// Where the pair of this key and rank stands, if it is there.
+pub(crate) fn find(chunks: &[Chunk], key: &[u8], rank: u64) -> Option<Spot>
+    requires order { AreInOrder (all_of chunks.now) }
+    requires filled { All IsFilled chunks.now }
+    ensures some { IfSome result (λ spot. IsTaken chunks.now spot.chunk spot.place × (slice_get (back_of chunks.now spot.chunk spot.place) 0 ≡ Some (filed_at key.now rank))) }
+    ensures none { IfNone result (Contains (all_of chunks.now) (filed_at key.now rank) → ⊥) }
+{
+    let spot = spot_of(chunks, key, rank);
+    if stands_at(chunks, spot, key, rank) {
+        Some(spot)
+    } else {
+        None
+    }
+}
+
+/// Where the first pair stands whose key is at or after the one and before the other, if there is one.
+pub(crate) fn find_within(chunks: &[Chunk], low: &[u8], high: &[u8]) -> Option<Spot>
+    requires order { AreInOrder (all_of chunks.now) }
+    requires filled { All IsFilled chunks.now }
+    ensures some { IfSome result (λ spot. IsFirstAt low.now high.now chunks.now spot.chunk spot.place) }
+    ensures none { IfNone result (IsNoneWithin low.now high.now (all_of chunks.now)) }
+{
+    let spot = spot_of(chunks, low, 0);
+    let filed = pair_at(chunks, spot)?;
+    if filed.is_before(high, 0) {
+        Some(spot)
+    } else {
+        None
+    }
+}

@@ -1,0 +1,6 @@
+pub mod Labels
+pub mod Keys
+pub mod Overs
+pub mod Pairs
+pub mod Below
+pub mod Shown

@@ -1,0 +1,4 @@
+pub mod Key
+pub mod Index
+pub mod Over
+pub mod Under
