@@ -4,6 +4,7 @@
 
 mod asking;
 mod fault;
+mod laws;
 mod next;
 mod posts;
 mod ticket;
@@ -11,6 +12,7 @@ mod waiting;
 
 pub use asking::Asker;
 pub use fault::EnterFault;
+pub use laws::posts_cross_threads;
 pub use lb_http::{
     DohBody, DohFault, DohResponse, carrying, one_outcome, read_request, refused, response_of,
     unavailable,

@@ -1,0 +1,2 @@
+mod Builders
+mod Crosses

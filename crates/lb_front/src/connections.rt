@@ -1,0 +1,143 @@
+//! The connections of the listeners.
+
+ghost use Rattle.std.specs.Prelude.{IfSome};
+ghost use Rattle.futures.specs.Task.{Keeps};
+
+use crate::answering::Front;
+use crate::heads::Client;
+use crate::shared::Shared;
+use bytes::Bytes;
+use futures::task::{Context, Poll};
+use futures::{Future, Stream};
+use http_body_util::Full;
+use hyper::rt::TokioTimer;
+use hyper::server::conn::http1;
+use hyper::server::conn::http1::Connection;
+use lb_lines::{Outside, Taker, Waker};
+use std::alloc::Global;
+use std::net::SocketAddr;
+use std::sync::atomic::{AtomicBool, Ordering};
+use std::sync::{Arc, Wait};
+use std::time::Clock;
+use tokio::net::{TcpListener, TcpStream};
+use tokio::sync::{OwnedSemaphorePermit, Semaphore};
+use tokio::time::Interval;
+
+/// What makes the future of a connection.
+pub(crate) trait Make: Drop {
+    type Served: Future<Output = ()>;
+
+    /// The future of a connection of a client, which has one of the places.
+    fn make(&self, socket: TcpStream, client: Client, place: OwnedSemaphorePermit) -> Self::Served
+        ensures { Self.Served.can_poll result };
+}
+
+/// A connection that is served, and its place. Whatever ends it, nobody is told.
+#[derive(Drop)]
+pub(crate) struct Served<F> {
+    connection: F,
+    place: OwnedSemaphorePermit,
+}
+
+impl<F: Future> Future for Served<F>
+where
+    F::Output: Drop,
+{
+    type Output = ();
+
+    ghost can_poll = { λ s. F.can_poll s.connection };
+
+    fn poll(&mut self, cx: &mut Context<'_>) -> Poll<()> {
+        match self.connection.poll(cx) {
+            Poll::Ready(_) => Poll::Ready(()),
+            Poll::Pending => Poll::Pending,
+        }
+    }
+}
+
+/// Makes connections of HTTP/1.1.
+#[derive(Drop)]
+pub(crate) struct Maker<R: Clock + Copy, T: Taker, O: Outside, W: Waker> {
+    pub(crate) rt: R,
+    pub(crate) alloc: Global,
+    pub(crate) shared: Arc<Shared<T, O, W>>,
+    pub(crate) http: http1::Builder<TokioTimer<R>>,
+}
+
+impl<R: Wait + Clock + Copy + Drop, T: Taker, O: Outside, W: Waker> Make for Maker<R, T, O, W> {
+    type Served = Served<Connection<TcpStream, Front<R, T, O, W>, Full<Bytes>, TokioTimer<R>>>;
+
+    fn make(&self, socket: TcpStream, client: Client, place: OwnedSemaphorePermit) -> Self::Served {
+        let front = Front {
+            rt: self.rt,
+            alloc: self.alloc,
+            client,
+            shared: Arc::try_clone(&self.shared).ok(),
+        };
+        Served {
+            connection: self.http.serve_connection(socket, front),
+            place,
+        }
+    }
+}
+
+/// The connections of the listeners, each of which has one of the places while it stands, until the flag is set. A client that finds no place
+/// is closed at once.
+#[derive(Drop)]
+pub(crate) struct Connections<M> {
+    pub(crate) listeners: Vec<(u8, TcpListener)>,
+    pub(crate) maker: M,
+    pub(crate) places: Arc<Semaphore>,
+    pub(crate) stop: Arc<AtomicBool>,
+    /// So often the flag is looked at.
+    pub(crate) looks: Interval,
+}
+
+/// The next client of some listeners, with the place of its listener.
+fn next_client(
+    listeners: &mut Vec<(u8, TcpListener)>,
+    cx: &mut Context<'_>,
+) -> Option<(u8, TcpStream, SocketAddr)>
+    ensures { Keeps cx.old cx.new }
+{
+    for (place, listener) in listeners.iter_mut() {
+        if let Poll::Ready(Ok((socket, end))) = listener.poll_accept(cx) {
+            return Some((*place, socket, end));
+        }
+    }
+    None
+}
+
+impl<M: Make> Connections<M> {
+    /// The future of a connection, where there is a place for it.
+    fn take_in(&self, place: u8, socket: TcpStream, end: SocketAddr) -> Option<M::Served>
+        ensures { IfSome result M.Served.can_poll }
+    {
+        let places = Arc::try_clone(&self.places).ok()?;
+        let permit = Semaphore::try_acquire_owned(places).ok()?;
+        Some(self.maker.make(socket, Client::at(place, end), permit))
+    }
+}
+
+impl<M: Make> Stream for Connections<M> {
+    type Item = M::Served;
+
+    ghost yields = { λ _ _ last. IfSome last M.Served.can_poll };
+
+    fn poll_next(&mut self, cx: &mut Context<'_>) -> Poll<Option<M::Served>> {
+        if self.stop.load(Ordering::SeqCst) {
+            return Poll::Ready(None);
+        }
+        match next_client(&mut self.listeners, cx) {
+            Some((place, socket, end)) => match self.take_in(place, socket, end) {
+                Some(served) => Poll::Ready(Some(served)),
+                None => cx.yield_now(),
+            },
+            None => match self.looks.poll_tick(cx) {
+                Poll::Ready(Ok(_)) => cx.yield_now(),
+                Poll::Ready(Err(_)) => Poll::Ready(None),
+                Poll::Pending => Poll::Pending,
+            },
+        }
+    }
+}

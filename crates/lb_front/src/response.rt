@@ -1,0 +1,63 @@
+//! Responses as hyper sends them.
+
+ghost use Rattle.std.specs.Prelude.{IfOk, None, Some};
+ghost use Rattle.lb_front.specs.Response.{IsBuilt};
+
+use crate::cut::Cut;
+use bytes::Bytes;
+use http::{Response, StatusCode, header};
+use http_body_util::Full;
+use lb_doh::DohResponse;
+use std::alloc::{AllocError, Global};
+
+/// A response, with its octets in one piece or none.
+pub(crate) type HttpResponse = Response<Full<Bytes>>;
+
+/// The response with its header lines. One with a message has its media type and how long it may be kept; another has no body, and that of a
+/// method that is not served says which are.
+pub(crate) fn built(alloc: Global, response: DohResponse) -> Result<HttpResponse, Cut>
+    ensures { IfOk result (IsBuilt response) }
+{
+    let DohResponse {
+        status,
+        max_age,
+        body,
+    } = response;
+    match body {
+        Some(octets) => with_message(alloc, status, max_age, octets.into_vec()),
+        None => without_body(alloc, status),
+    }
+}
+
+/// A response with a message, which may be kept so many seconds (RFC 8484 section 5.1).
+fn with_message(
+    alloc: Global,
+    status: u16,
+    max_age: u32,
+    message: Vec<u8>,
+) -> Result<HttpResponse, Cut>
+    ensures { IfOk result (IsBuilt (record { status = status; max_age = max_age; body = Some message.items })) }
+{
+    let kept = format!(in alloc; "max-age={max_age}")?;
+    let body = match Bytes::from_vec(message) {
+        Ok(body) => body,
+        Err(refused) => return Err(Cut::from(AllocError::from(refused))),
+    };
+    let response = Response::builder(alloc)
+        .status(status)
+        .header(header::CONTENT_TYPE, "application/dns-message")
+        .header(header::CACHE_CONTROL, kept.as_str());
+    Ok(response.body(Full::new(body))?)
+}
+
+/// A response without a body. hyper says that its length is 0.
+fn without_body(alloc: Global, status: u16) -> Result<HttpResponse, Cut>
+    ensures { IfOk result (IsBuilt (record { status = status; max_age = 0; body = None })) }
+{
+    let nothing = Full::new(Bytes::from_static(b""));
+    let response = Response::builder(alloc).status(status);
+    if status == 405 {
+        return Ok(response.header(header::ALLOW, "GET, POST").body(nothing)?);
+    }
+    Ok(response.body(nothing)?)
+}

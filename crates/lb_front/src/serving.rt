@@ -1,0 +1,195 @@
+//! The front, in a thread.
+
+ghost use Rattle.std.specs.Prelude.{Ok, length, ◌≡◌};
+
+use crate::connections::{Connections, Maker};
+use crate::cut::FrontFault;
+use crate::shared::Shared;
+use hyper::rt::TokioTimer;
+use hyper::server::conn::http1;
+use hyper::server::conn::http1::Builder;
+use lb_doh::{Asker, Requests};
+use lb_lines::{Outside, Taker, Waker};
+use lb_outbox::Sender;
+use std::alloc::{AllocError, AllocGlobal, Global};
+use std::hash::RandomState;
+use std::net::Net;
+use std::random::RandomSource;
+use std::sync::atomic::AtomicBool;
+use std::sync::{Arc, Mutex, Wait};
+use std::time::{Clock, Duration};
+use std::{io, net};
+use tokio::net::TcpListener;
+use tokio::reactor::Handle;
+use tokio::runtime::LocalRuntime;
+use tokio::sync::Semaphore;
+use tokio::time;
+
+/// The most octets of a head, and how much of a body hyper holds.
+const HEAD: usize = 65_536;
+
+/// How many seconds a head may take to come, and a connection may be idle.
+const HEAD_SECONDS: u64 = 10;
+
+/// How many connections stand at most.
+const CONNECTIONS: usize = 1_024;
+
+/// How often the flag is looked at, in milliseconds.
+const LOOK: u64 = 100;
+
+/// How long connections may go on once the front is to end, in milliseconds.
+const END: u64 = 300;
+
+/// A socket that listens, with the place of its listen line.
+#[derive(Drop)]
+pub struct Bound {
+    pub place: u8,
+    pub socket: net::TcpListener,
+}
+
+/// What the front is made of.
+#[derive(Drop)]
+pub struct FrontParts<T, O, W> {
+    /// Its listeners, which may be bound by whoever makes them.
+    pub listeners: Vec<Bound>,
+    /// Its event handler.
+    pub taker: T,
+    /// Sender one of the outbox.
+    pub sender: Sender,
+    /// Its source of moments and words.
+    pub outside: O,
+    /// Wakes the loop of streams.
+    pub streams: W,
+    /// The requests that wait.
+    pub requests: Arc<Requests>,
+    /// Set, it ends the front within half a second.
+    pub stop: Arc<AtomicBool>,
+}
+
+/// What the front leaves: its event handler, and its sender.
+#[derive(Drop)]
+pub struct FrontEnded<T> {
+    pub taker: T,
+    pub sender: Sender,
+}
+
+/// Serves DNS on HTTP until the flag is set; then the connections that stand, and the requests that wait, have 300 ms, and end. Where nothing
+/// listens, it ends at once.
+pub fn run_front<
+    R: Wait + Clock + Net + RandomSource + AllocGlobal + Copy + Drop,
+    T: Taker,
+    O: Outside,
+    W: Waker,
+>(rt: R, alloc: Global, parts: FrontParts<T, O, W>) -> Result<FrontEnded<T>, FrontFault>
+    ensures none { length parts.listeners.items ≡ 0 → result ≡ Ok (record { taker = parts.taker; sender = parts.sender }) }
+{
+    let FrontParts {
+        listeners,
+        taker,
+        sender,
+        outside,
+        streams,
+        requests,
+        stop,
+    } = parts;
+    if listeners.is_empty() {
+        return Ok(FrontEnded { taker, sender });
+    }
+    let mut runtime = LocalRuntime::new(&rt)?;
+    runtime.set_shutdown_timeout(Some(Duration::from_millis(END)));
+    let asker = Asker::new(taker, sender, outside, streams);
+    let shared = shared_by(alloc, runtime.handle().time(), asker, requests)?;
+    let listeners = registered(alloc, listeners, runtime.handle().reactor())?;
+    serve(rt, alloc, &mut runtime, listeners, &shared, stop)?;
+    ended(&rt, &shared)
+}
+
+/// What the connections share.
+fn shared_by<T: Taker, O: Outside, W: Waker>(
+    alloc: Global,
+    timers: &time::Handle,
+    asker: Asker<T, O, W>,
+    requests: Arc<Requests>,
+) -> Result<Arc<Shared<T, O, W>>, FrontFault> {
+    let timers = timers.clone()?;
+    Ok(Arc::new(
+        alloc,
+        Shared {
+            asker: Mutex::new(Some(asker)),
+            requests,
+            timers,
+        },
+    )?)
+}
+
+/// Serves the connections of the listeners until the flag is set.
+fn serve<
+    R: Wait + Clock + Net + RandomSource + AllocGlobal + Copy + Drop,
+    T: Taker,
+    O: Outside,
+    W: Waker,
+>(
+    rt: R,
+    alloc: Global,
+    runtime: &mut LocalRuntime,
+    listeners: Vec<(u8, TcpListener)>,
+    shared: &Arc<Shared<T, O, W>>,
+    stop: Arc<AtomicBool>,
+) -> Result<(), FrontFault> {
+    let timers = runtime.handle().time();
+    let connections = Connections {
+        listeners,
+        maker: Maker {
+            rt,
+            alloc,
+            shared: Arc::try_clone(shared)?,
+            http: settings(rt, alloc, timers.clone()?)?,
+        },
+        places: Arc::new(alloc, Semaphore::new(alloc, CONNECTIONS)?)?,
+        stop,
+        looks: timers.interval(&rt, Duration::from_millis(LOOK))?,
+    };
+    Ok(runtime.run_all(&rt, connections)?)
+}
+
+/// What a front leaves whose connections have ended.
+fn ended<R: Wait, T: Taker, O: Outside, W: Waker>(
+    rt: &R,
+    shared: &Shared<T, O, W>,
+) -> Result<FrontEnded<T>, FrontFault> {
+    let asker = shared.asker.lock(rt).take();
+    match asker {
+        Some(asker) => {
+            let (taker, sender) = asker.into_parts();
+            Ok(FrontEnded { taker, sender })
+        }
+        None => Err(FrontFault::Held),
+    }
+}
+
+/// How connections are served.
+fn settings<R: Clock + RandomSource + Copy + Drop>(
+    rt: R,
+    alloc: Global,
+    timers: time::Handle,
+) -> io::Result<Builder<TokioTimer<R>>> {
+    let timer = TokioTimer::new(rt, timers);
+    let mut http = Builder::new(alloc, RandomState::new(&rt)?).timer(timer);
+    http.max_buf_size(HEAD);
+    http.auto_date_header(false);
+    http.header_read_timeout(Some(Duration::from_secs(HEAD_SECONDS)));
+    Ok(http)
+}
+
+/// The listeners, with their reactor.
+fn registered(
+    alloc: Global,
+    listeners: Vec<Bound>,
+    handle: &Handle,
+) -> io::Result<Vec<(u8, TcpListener)>> {
+    let mut registered = Vec::with_capacity(alloc, listeners.len())?;
+    for Bound { place, socket } in listeners {
+        registered.push((place, TcpListener::from_std(socket, handle)?))?;
+    }
+    Ok(registered)
+}
