@@ -1,9 +1,9 @@
 -- Pairs in chunks.
-use Rattle.std.proofs.Common.{◌≡◌, true, false, Bor, option_copied, ℕ, zero, suc, ◌<◌, ◌≤◌, List, [], ◌∷◌, ◌++◌, length, get_or, set, slice_get, take, drop, insert, remove, Option, None, Some, IsSome, refl, sym, ap, subst, ◌∙◌, arith, append_assoc, take-append-drop}
+use Rattle.std.proofs.Common.{◌≡◌, true, false, Bor, option_copied, ℕ, zero, suc, ◌<◌, ◌≤◌, List, [], ◌∷◌, ◌++◌, length, get_or, set, slice_get, take, drop, insert, remove, Option, None, Some, Result, Ok, Err, OnOk, OnErr, IsSome, refl, sym, ap, subst, ◌∙◌, arith, append_assoc, take-append-drop}
 use Rattle.std.specs.List.{All}
-use Rattle.std.proofs.lemmas.List.Elements.{All-append, All-cons, All-drop, All-take}
+use Rattle.std.proofs.lemmas.List.Elements.{All-append, All-cons, All-drop, All-set, All-take}
 use Rattle.lb_ranks.specs.declared.filed.Filed.{Filed}
-use Rattle.lb_ranks.specs.Chunk.{all_of, back_of, behind, chunk_at, front_of, rest_of, IsFilled, IsPlace}
+use Rattle.lb_ranks.specs.Chunk.{all_of, back_of, behind, chunk_at, front_of, rest_of, IsFilled, IsPlace, IsTaken}
 
 -- front and back are all
 pub whole : (cs : List (List Filed)) (k p : ℕ) → all_of cs ≡ front_of cs k p ++ back_of cs k p
@@ -168,6 +168,16 @@ get_back_by (c ∷ cs) (suc k) p last = get_back_by cs k p last
 pub get_back : (cs : List (List Filed)) (k p : ℕ) → IsPlace cs k p → slice_get (chunk_at cs k) p ≡ slice_get (back_of cs k p) 0
 get_back cs k p place = get_back_by cs k p place.last
 
+-- what a chunk has at a place that is taken
+pub get_taken : (cs : List (List Filed)) (k p : ℕ) → IsTaken cs k p → slice_get (chunk_at cs k) p ≡ slice_get (back_of cs k p) 0
+get_taken cs k p taken = get_back_by cs k p (λ le. absurd (omega (arith, le, taken.within)))
+
+-- a chunk that is filled beside others that are
+pub filled_with : (cs : List (List Filed)) (k : ℕ) → All IsFilled (remove cs k) → 0 < length (chunk_at cs k) → All IsFilled cs
+filled_with [] k all some = λ i d lt. absurd (omega (arith, lt))
+filled_with (c ∷ cs) zero all some = All-cons IsFilled c cs some all
+filled_with (c ∷ cs) (suc k) all some = All-cons IsFilled c cs (all 0 c (omega arith)) (filled_with cs k (λ i d lt. all (suc i) d (omega (arith, lt))) some)
+
 pub got_within : {X : Type 0} (xs : List X) (p : ℕ) (r : Option X) → r ≡ slice_get xs p → IsSome r → p < length xs
 got_within [] p None is some = let no : false ≡ true = some in absurd (cc (no))
 got_within [] zero (Some x) is some = absurd (cc)
@@ -187,3 +197,17 @@ set_at (x ∷ cs) (suc k) c lt = set_at cs k c (omega (arith, lt))
 pub no_pair : (c : List Filed) → length c ≡ 0 → c ≡ []
 no_pair [] none = refl
 no_pair (x ∷ c) none = absurd (omega (arith, none))
+
+insert_filled : (c : List Filed) (p : ℕ) (y : Filed) → IsFilled (insert c p y)
+insert_filled [] zero y = omega arith
+insert_filled [] (suc p) y = omega arith
+insert_filled (x ∷ c) zero y = omega arith
+insert_filled (x ∷ c) (suc p) y = omega arith
+
+put_filled : {A E : Type 0} (r : Result A E) (c new : List Filed) (p : ℕ) (y : Filed) → OnOk r (new ≡ insert c p y) → OnErr r (new ≡ c) → IsFilled c → IsFilled new
+put_filled (Ok u) c new p y ok err filled = subst IsFilled (sym ok) (insert_filled c p y)
+put_filled (Err e) c new p y ok err filled = subst IsFilled (sym err) filled
+
+-- a chunk in which a pair was put is filled, and so is one where that was refused
+pub set_filled : {A E : Type 0} (r : Result A E) (cs : List (List Filed)) (k p : ℕ) (c new : List Filed) (y : Filed) → All IsFilled cs → IsFilled c → OnOk r (new ≡ insert c p y) → OnErr r (new ≡ c) → All IsFilled (set cs k new)
+set_filled r cs k p c new y all filled ok err = All-set IsFilled cs k new (put_filled r c new p y ok err filled) all

@@ -4,3 +4,4 @@ pub mod Chunks
 pub mod Spots
 pub mod Taking
 pub mod Putting
+pub mod Packing

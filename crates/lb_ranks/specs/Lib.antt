@@ -2,3 +2,5 @@ pub mod Least
 pub mod Filed
 pub mod Chunk
 pub mod Cursor
+pub mod Front
+pub mod Rest

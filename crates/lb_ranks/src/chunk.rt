@@ -1,12 +1,13 @@
 //! Some pairs in order.
 
-ghost use Rattle.std.specs.Prelude.{◌≡◌, ◌<◌, ◌≤◌, true, false, List, [], ◌∷◌, ◌++◌, IfOk, OnOk, OnErr, length, slice_get, slice_index_or, option_copied, IsTrue, ◌↔◌};
+ghost use Rattle.std.specs.Prelude.{◌≡◌, ◌<◌, ◌≤◌, true, false, List, [], ◌∷◌, ◌++◌, IfOk, OnOk, OnErr, length, slice_get, option_map, Some, option_copied, IsTrue, ◌↔◌};
 ghost use Rattle.std.specs.List.{insert, remove};
 ghost use Rattle.std.specs.List.Sorted.{IsPartitionPoint};
 ghost use Rattle.lb_ranks.specs.Chunk.{ends_before as ends_before_of, max_pairs, IsFilled};
-ghost use Rattle.lb_ranks.specs.Filed.{filed_at, is_before as is_before_of, AreInOrder};
+ghost use Rattle.lb_ranks.specs.Filed.{is_before as is_before_of, AreInOrder};
 
 use crate::filed::Filed;
+use crate::key::Probe;
 use std::alloc::{AllocError, Global};
 use std::marker::Model;
 
@@ -55,24 +56,23 @@ impl Chunk {
         self.items.len() >= MAX_PAIRS
     }
 
-    /// Whether its last pair stands before the pair of this key and rank.
-    pub(crate) fn ends_before(&self, key: &[u8], rank: u64) -> bool
-        ensures { result ≡ ends_before_of (filed_at key.now rank) self.now }
+    /// Whether its last pair stands before the pair that is looked for.
+    pub(crate) fn ends_before(&self, at: &Probe<'_>) -> bool
+        ensures { result ≡ ends_before_of at.now self.now }
     {
         match self.items.last() {
-            Some(filed) => filed.is_before(key, rank),
+            Some(filed) => filed.is_before(at),
             None => false,
         }
     }
 
-    /// Where the pair of this key and rank stands, or would stand.
-    pub(crate) fn place_of(&self, key: &[u8], rank: u64) -> usize
+    /// Where the pair that is looked for stands, or would stand.
+    pub(crate) fn place_of(&self, at: &Probe<'_>) -> usize
         requires { AreInOrder self.now }
-        ensures place { IsPartitionPoint (λ f. is_before_of (filed_at key.now rank) f ≡ true) (λ f. is_before_of (filed_at key.now rank) f ≡ false) self.now result }
+        ensures place { IsPartitionPoint (λ f. is_before_of at.now f ≡ true) (λ f. is_before_of at.now f ≡ false) self.now result }
         ensures within { result ≤ length self.now }
     {
-        self.items
-            .partition_point(|filed| filed.is_before(key, rank))
+        self.items.partition_point(|filed| filed.is_before(at))
     }
 
     /// The pair at a place.
@@ -92,13 +92,14 @@ impl Chunk {
         Ok(())
     }
 
-    /// Takes the pair at a place out.
-    pub(crate) fn take(&mut self, place: usize) -> Filed
+    /// Takes the pair at a place out, and gives its rank.
+    pub(crate) fn take(&mut self, place: usize) -> u64
         requires { place < length self.old }
-        ensures value { result ≡ slice_index_or self.old place result }
+        ensures rank { option_map (λ f. f.rank) (slice_get self.old place) ≡ Some result }
         ensures items { self.new ≡ remove self.old place }
     {
-        self.items.remove(place)
+        let filed = self.items.remove(place);
+        filed.rank()
     }
 
     /// Divides it: the pairs from the middle on become a chunk of their own.

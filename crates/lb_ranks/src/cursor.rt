@@ -7,6 +7,7 @@ ghost use Rattle.lb_ranks.specs.Chunk.{back_of, IsFilled, IsPlace};
 
 use crate::chunk::Chunk;
 use crate::filed::Filed;
+use crate::key::Probe;
 use crate::spot::{Spot, pair_at};
 use std::marker::Model;
 
@@ -74,7 +75,8 @@ impl<'a> Cursor<'a> {
         ensures left { self.new ≡ left_below high.now self.old }
     {
         let filed = self.head()?;
-        if !filed.is_before(high, 0) {
+        let end = Probe::of(high, 0);
+        if !filed.is_before(&end) {
             return None;
         }
         let rank = filed.rank();

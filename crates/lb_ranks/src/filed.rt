@@ -1,34 +1,11 @@
 //! A rank that is filed under a key.
 
 ghost use Rattle.std.specs.Prelude.{◌≡◌, IsTrue, ◌↔◌, IfOk};
-ghost use Rattle.lb_ranks.specs.Filed.{filed_at, is_before as is_before_of};
+ghost use Rattle.lb_ranks.specs.Filed.{is_before as is_before_of};
 
+use crate::key::{Key, Probe};
 use std::alloc::{AllocError, Global};
 use std::cmp::Ordering;
-use std::marker::Model;
-
-/// A key: octets. A contract sees it as their list.
-#[derive(Debug, Drop)]
-pub struct Key {
-    octets: Vec<u8>,
-}
-
-impl Model for Key {
-    ghost use Rattle.std.specs.Prelude.{List, ℕ};
-
-    ghost Value = { List ℕ };
-
-    ghost view = { λ k. k.octets.items };
-}
-
-impl Key {
-    /// The octets.
-    fn as_slice(&self) -> &[u8]
-        ensures { result.now ≡ self.now }
-    {
-        self.octets.as_slice()
-    }
-}
 
 /// A rank that is filed under a key.
 #[derive(Debug, Drop)]
@@ -38,14 +15,14 @@ pub struct Filed {
 }
 
 impl Filed {
-    /// The pair of these octets and this rank.
-    pub(crate) fn new(alloc: Global, key: &[u8], rank: u64) -> Result<Filed, AllocError>
-        ensures { IfOk result (λ filed. filed ≡ filed_at key.now rank) }
+    /// The pair that is looked for.
+    pub(crate) fn copied(alloc: Global, at: &Probe<'_>) -> Result<Filed, AllocError>
+        ensures { IfOk result (λ filed. filed ≡ at.now) }
     {
-        let octets = Vec::from_slice(alloc, key)?;
+        let key = Key::copied(alloc, at)?;
         Ok(Filed {
-            key: Key { octets },
-            rank,
+            key,
+            rank: at.rank(),
         })
     }
 
@@ -56,28 +33,28 @@ impl Filed {
         self.rank
     }
 
-    /// Whether it stands before the pair of this key and rank.
-    pub(crate) fn is_before(&self, key: &[u8], rank: u64) -> bool
-        ensures { result ≡ is_before_of (filed_at key.now rank) self.now }
+    /// Whether it stands before the pair that is looked for.
+    pub(crate) fn is_before(&self, at: &Probe<'_>) -> bool
+        ensures { result ≡ is_before_of at.now self.now }
     {
-        match self.key.as_slice().cmp(key) {
+        match self.key.order(at) {
             Ordering::Less => true,
-            Ordering::Equal => self.rank < rank,
+            Ordering::Equal => self.rank < at.rank(),
             Ordering::Greater => false,
         }
     }
 
-    /// Whether its key is this one.
-    pub(crate) fn has_key(&self, key: &[u8]) -> bool
-        ensures { IsTrue result ↔ (self.now.key ≡ key.now) }
+    /// Whether its key is the one that is looked for.
+    pub(crate) fn has_key(&self, at: &Probe<'_>) -> bool
+        ensures { IsTrue result ↔ (self.now.key ≡ at.now.key) }
     {
-        self.key.as_slice() == key
+        self.key.is(at)
     }
 
-    /// Whether it is the pair of this key and rank.
-    pub(crate) fn is(&self, key: &[u8], rank: u64) -> bool
-        ensures { IsTrue result ↔ (self.now ≡ filed_at key.now rank) }
+    /// Whether it is the pair that is looked for.
+    pub(crate) fn is(&self, at: &Probe<'_>) -> bool
+        ensures { IsTrue result ↔ (self.now ≡ at.now) }
     {
-        self.rank == rank && self.has_key(key)
+        self.rank == at.rank() && self.key.is(at)
     }
 }

@@ -4,8 +4,11 @@
 mod chunk;
 mod cursor;
 mod filed;
+mod front;
+mod key;
 mod least;
 mod ranks;
+mod rest;
 mod spot;
 
 pub use cursor::Cursor;

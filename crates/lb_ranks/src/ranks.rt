@@ -1,7 +1,7 @@
 //! Ranks that are filed under keys.
 
 ghost use Rattle.std.specs.Prelude.{◌≡◌, ◌<◌, ◌≤◌, ◌^◌, [], ◌∷◌, ◌++◌, length, slice_get, option_copied, option_map, IsSome, Some, IsTrue, ◌↔◌, OnOk, OnErr};
-ghost use Rattle.std.specs.List.{All};
+ghost use Rattle.std.specs.List.{All, remove};
 ghost use Rattle.lb_ranks.specs.Chunk.{all_of, back_of, chunk_at, front_of, IsFilled, IsPlace, IsTaken, max_pairs, rest_of};
 ghost use Rattle.lb_ranks.specs.Filed.{filed_at, AreInOrder, HasBesides, HasBut, IsCut, IsFiledAt, IsFrom, TakesFirst};
 ghost use Rattle.lb_ranks.specs.Least.{IsLeastFrom};
@@ -9,6 +9,7 @@ ghost use Rattle.lb_ranks.specs.Least.{IsLeastFrom};
 use crate::chunk::Chunk;
 use crate::cursor::Cursor;
 use crate::filed::Filed;
+use crate::key::Probe;
 use crate::spot::{Spot, find, find_within, pair_at, spot_of, stands_at};
 use std::alloc::{AllocError, Global};
 use std::marker::Model;
@@ -21,7 +22,7 @@ pub struct Ranks {
 
 impl Model for Ranks {
     ghost use Rattle.std.specs.Prelude.{List};
-    ghost use Rattle.std.specs.List.{All};
+    ghost use Rattle.std.specs.List.{All, remove};
     ghost use Rattle.lb_ranks.specs.declared.filed.Filed.{Filed};
     ghost use Rattle.lb_ranks.specs.Filed.{AreInOrder};
     ghost use Rattle.lb_ranks.specs.Chunk.{all_of, IsFilled};
@@ -78,6 +79,18 @@ fn put_at(chunks: &mut Vec<Chunk>, spot: Spot, filed: Filed) -> Result<(), Alloc
     chunks[spot.chunk].put(spot.place, filed)
 }
 
+/// Gives a chunk up where it is empty. The pairs stay.
+fn give_up_empty(chunks: &mut Vec<Chunk>, at: usize)
+    requires within { at < length chunks.old.items }
+    requires others { All IsFilled (remove chunks.old.items at) }
+    ensures pairs { all_of chunks.new.items ≡ all_of chunks.old.items }
+    ensures filled { All IsFilled chunks.new.items }
+{
+    if chunks[at].len() == 0 {
+        let _empty = chunks.remove(at);
+    }
+}
+
 /// Takes the pair at a spot out, and its chunk with it where no pair is left in that, and gives its rank.
 fn take_at(chunks: &mut Vec<Chunk>, spot: Spot) -> u64
     requires taken { IsTaken chunks.old.items spot.chunk spot.place }
@@ -86,11 +99,9 @@ fn take_at(chunks: &mut Vec<Chunk>, spot: Spot) -> u64
     ensures pairs { all_of chunks.new.items ≡ front_of chunks.old.items spot.chunk spot.place ++ rest_of chunks.old.items spot.chunk spot.place }
     ensures filled { All IsFilled chunks.new.items }
 {
-    let filed = chunks[spot.chunk].take(spot.place);
-    if chunks[spot.chunk].len() == 0 {
-        let _empty = chunks.remove(spot.chunk);
-    }
-    filed.rank()
+    let rank = chunks[spot.chunk].take(spot.place);
+    give_up_empty(chunks, spot.chunk);
+    rank
 }
 
 impl Ranks {
@@ -109,13 +120,14 @@ impl Ranks {
         ensures ok { OnOk result (HasBesides self.old (filed_at key.now rank) self.new) }
         ensures err { OnErr result (self.new ≡ self.old) }
     {
-        let spot = spot_of(self.chunks.as_slice(), key, rank);
-        if stands_at(self.chunks.as_slice(), spot, key, rank) {
+        let at = Probe::of(key, rank);
+        let spot = spot_of(self.chunks.as_slice(), &at);
+        if stands_at(self.chunks.as_slice(), spot, &at) {
             return Ok(());
         }
-        let filed = Filed::new(*self.chunks.allocator(), key, rank)?;
+        let filed = Filed::copied(*self.chunks.allocator(), &at)?;
         make_room(&mut self.chunks, spot.chunk)?;
-        let spot = spot_of(self.chunks.as_slice(), key, rank);
+        let spot = spot_of(self.chunks.as_slice(), &at);
         put_at(&mut self.chunks, spot, filed)
     }
 
@@ -123,7 +135,8 @@ impl Ranks {
     pub fn unfile(&mut self, key: &[u8], rank: u64)
         ensures { HasBut self.old (filed_at key.now rank) self.new }
     {
-        if let Some(spot) = find(self.chunks.as_slice(), key, rank) {
+        let at = Probe::of(key, rank);
+        if let Some(spot) = find(self.chunks.as_slice(), &at) {
             let _rank = take_at(&mut self.chunks, spot);
         }
     }
@@ -133,8 +146,9 @@ impl Ranks {
         ensures { IsLeastFrom (IsFiledAt self.now key.now) from result }
     {
         let chunks = self.chunks.as_slice();
-        let filed = pair_at(chunks, spot_of(chunks, key, from))?;
-        if filed.has_key(key) {
+        let at = Probe::of(key, from);
+        let filed = pair_at(chunks, spot_of(chunks, &at))?;
+        if filed.has_key(&at) {
             Some(filed.rank())
         } else {
             None
@@ -146,7 +160,8 @@ impl Ranks {
         ensures { IsFrom (filed_at low.now 0) self.now result }
     {
         let chunks = self.chunks.as_slice();
-        let spot = spot_of(chunks, low, 0);
+        let at = Probe::of(low, 0);
+        let spot = spot_of(chunks, &at);
         Cursor::new(chunks, spot.chunk, spot.place)
     }
 

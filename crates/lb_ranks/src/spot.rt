@@ -4,10 +4,11 @@ ghost use Rattle.std.specs.Prelude.{◌≡◌, slice_get, option_copied, IfSome,
 ghost use Rattle.std.specs.List.{All};
 ghost use Rattle.std.specs.Option.{IfNone};
 ghost use Rattle.lb_ranks.specs.Chunk.{all_of, back_of, front_of, IsFilled, IsFirstAt, IsPlace, IsTaken};
-ghost use Rattle.lb_ranks.specs.Filed.{filed_at, AreInOrder, IsCut, IsNoneWithin};
+ghost use Rattle.lb_ranks.specs.Filed.{AreInOrder, IsCut, IsNoneWithin};
 
 use crate::chunk::Chunk;
 use crate::filed::Filed;
+use crate::key::Probe;
 
 /// A place of a chunk.
 #[derive(Clone, Copy, Debug)]
@@ -16,23 +17,23 @@ pub(crate) struct Spot {
     pub(crate) place: usize,
 }
 
-/// Where the pair of this key and rank stands, or would stand.
-pub(crate) fn spot_of(chunks: &[Chunk], key: &[u8], rank: u64) -> Spot
+/// Where the pair that is looked for stands, or would stand.
+pub(crate) fn spot_of(chunks: &[Chunk], at: &Probe<'_>) -> Spot
     requires order { AreInOrder (all_of chunks.now) }
     requires filled { All IsFilled chunks.now }
     ensures place { IsPlace chunks.now result.chunk result.place }
-    ensures cut { IsCut (filed_at key.now rank) (front_of chunks.now result.chunk result.place) (back_of chunks.now result.chunk result.place) }
+    ensures cut { IsCut at.now (front_of chunks.now result.chunk result.place) (back_of chunks.now result.chunk result.place) }
 {
     let Some((_, others)) = chunks.split_last() else {
         return Spot { chunk: 0, place: 0 };
     };
-    let chunk = others.partition_point(|chunk| chunk.ends_before(key, rank));
+    let chunk = others.partition_point(|chunk| chunk.ends_before(at));
     let Some(here) = chunks.get(chunk) else {
         unreachable!();
     };
     Spot {
         chunk,
-        place: here.place_of(key, rank),
+        place: here.place_of(at),
     }
 }
 
@@ -45,27 +46,27 @@ pub(crate) fn pair_at(chunks: &[Chunk], spot: Spot) -> Option<&Filed>
     chunks.get(spot.chunk)?.get(spot.place)
 }
 
-/// Whether the pair of this key and rank stands at the spot.
-pub(crate) fn stands_at(chunks: &[Chunk], spot: Spot, key: &[u8], rank: u64) -> bool
+/// Whether the pair that is looked for stands at the spot.
+pub(crate) fn stands_at(chunks: &[Chunk], spot: Spot, at: &Probe<'_>) -> bool
     requires { IsPlace chunks.now spot.chunk spot.place }
-    ensures pair { IsTrue result ↔ (slice_get (back_of chunks.now spot.chunk spot.place) 0 ≡ Some (filed_at key.now rank)) }
+    ensures pair { IsTrue result ↔ (slice_get (back_of chunks.now spot.chunk spot.place) 0 ≡ Some at.now) }
     ensures taken { IsTrue result → IsTaken chunks.now spot.chunk spot.place }
 {
     match pair_at(chunks, spot) {
-        Some(filed) => filed.is(key, rank),
+        Some(filed) => filed.is(at),
         None => false,
     }
 }
 
-/// Where the pair of this key and rank stands, if it is there.
-pub(crate) fn find(chunks: &[Chunk], key: &[u8], rank: u64) -> Option<Spot>
+/// Where the pair that is looked for stands, if it is there.
+pub(crate) fn find(chunks: &[Chunk], at: &Probe<'_>) -> Option<Spot>
     requires order { AreInOrder (all_of chunks.now) }
     requires filled { All IsFilled chunks.now }
-    ensures some { IfSome result (λ spot. IsTaken chunks.now spot.chunk spot.place × (slice_get (back_of chunks.now spot.chunk spot.place) 0 ≡ Some (filed_at key.now rank))) }
-    ensures none { IfNone result (Contains (all_of chunks.now) (filed_at key.now rank) → ⊥) }
+    ensures some { IfSome result (λ spot. IsTaken chunks.now spot.chunk spot.place × (slice_get (back_of chunks.now spot.chunk spot.place) 0 ≡ Some at.now)) }
+    ensures none { IfNone result (Contains (all_of chunks.now) at.now → ⊥) }
 {
-    let spot = spot_of(chunks, key, rank);
-    if stands_at(chunks, spot, key, rank) {
+    let spot = spot_of(chunks, at);
+    if stands_at(chunks, spot, at) {
         Some(spot)
     } else {
         None
@@ -79,9 +80,11 @@ pub(crate) fn find_within(chunks: &[Chunk], low: &[u8], high: &[u8]) -> Option<S
     ensures some { IfSome result (λ spot. IsFirstAt low.now high.now chunks.now spot.chunk spot.place) }
     ensures none { IfNone result (IsNoneWithin low.now high.now (all_of chunks.now)) }
 {
-    let spot = spot_of(chunks, low, 0);
+    let first = Probe::of(low, 0);
+    let spot = spot_of(chunks, &first);
     let filed = pair_at(chunks, spot)?;
-    if filed.is_before(high, 0) {
+    let end = Probe::of(high, 0);
+    if filed.is_before(&end) {
         Some(spot)
     } else {
         None

@@ -1,14 +1,14 @@
 use Rattle.std.proofs.Common.{◌≡◌, IsTrue, List, Some, slice_get, subst, Contains}
 use Rattle.lb_ranks.specs.declared.filed.Filed.{Filed}
 use Rattle.lb_ranks.specs.Chunk.{back_of, front_of}
-use Rattle.lb_ranks.specs.Filed.{filed_at, AreInOrder}
+use Rattle.lb_ranks.specs.Filed.{AreInOrder}
 use Rattle.lb_ranks.proofs.Chunks.{whole}
 use Rattle.lb_ranks.proofs.Cuts.{absent}
 use Rattle.lb_ranks.proofs.spot.find.Goals as goal
 
 pub returns-else-stands_at-clause-none : goal.returns-else-stands_at-clause-none
 returns-else-stands_at-clause-none c =
-    let at = filed_at c.args.key.now c.args.rank in
+    let at = c.args.at.now in
     let cs = c.args.chunks.now in
     let k = c.spot_of-spot.result.chunk in
     let p = c.spot_of-spot.result.place in

@@ -2,7 +2,7 @@ use Rattle.std.proofs.Common.{◌≡◌, sym, subst, List, rules, length, ◌≤
 use Rattle.std.proofs.lemmas.List.Sorted.{IsPartitionPoint-from_clause}
 use Rattle.lb_ranks.specs.declared.filed.Filed.{Filed}
 use Rattle.lb_ranks.specs.Chunk.{chunk_at, ends_before}
-use Rattle.lb_ranks.specs.Filed.{filed_at, AreInOrder}
+use Rattle.lb_ranks.specs.Filed.{AreInOrder}
 use Rattle.lb_ranks.proofs.Spots.{Ends, Parts, order_chunk, others_parted, spot_cut, spot_place}
 use Rattle.lb_ranks.proofs.spot.spot_of.Goals as goal
 
@@ -13,7 +13,7 @@ place_of-requires c =
 
 pub returns-clause-place : goal.returns-clause-place
 returns-clause-place c =
-    let at = filed_at c.args.key.now c.args.rank in
+    let at = c.args.at.now in
     let cs = c.args.chunks.now in
     let others = c.in-Some.others.now in
     let last = c.in-Some.field-0-0.now in
@@ -27,7 +27,7 @@ returns-clause-place c =
 
 pub returns-clause-cut : goal.returns-clause-cut
 returns-clause-cut c =
-    let at = filed_at c.args.key.now c.args.rank in
+    let at = c.args.at.now in
     let cs = c.args.chunks.now in
     let others = c.in-Some.others.now in
     let last = c.in-Some.field-0-0.now in

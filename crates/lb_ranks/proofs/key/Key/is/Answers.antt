@@ -1,0 +1,22 @@
+use Rattle.std.proofs.Common.{◌≡◌, List, ℕ, ap, sym, ◌∙◌, rules}
+use Rattle.std.proofs.lemmas.Slice.Eq.{bytes_eq-Decides}
+use Rattle.lb_ranks.specs.declared.filed.Filed.{Filed}
+use Rattle.lb_ranks.specs.declared.front.Front.{Front}
+use Rattle.lb_ranks.specs.Front.{key_from}
+use Rattle.lb_ranks.proofs.Packing.{packed_front}
+use Rattle.lb_ranks.proofs.key.Key.is.Goals as goal
+
+pub returns-then-is : goal.returns-then-is
+returns-then-is c =
+    let own = c.self.inside in
+    let other = c.at.inside in
+    let key : key_from other.front other.rest.now ≡ c.args.at.now.key = ap (λ (f : Filed). f.key) c.at.view_is in
+    let rests = bytes_eq-Decides c.as_slice-rest.result.now other.rest.now in (
+      λ yes_rest.
+          let front : own.front ≡ other.front = c.is.ensures.0 (search rules) in
+          let rest : own.rest ≡ other.rest.now = sym c.as_slice-rest.ensures ∙ rests.0 (sym c.eq.ensures ∙ yes_rest) in
+          sym c.self.view_is ∙ ap (λ (f : Front). key_from f own.rest) front ∙ ap (λ (xs : List ℕ). key_from other.front xs) rest ∙ key,
+      λ same.
+          let both = packed_front own.front other.front own.rest other.rest.now c.self.invariant c.at.invariant (c.self.view_is ∙ same ∙ sym key) in
+          c.eq.ensures ∙ rests.1 (c.as_slice-rest.ensures ∙ both.1),
+    )

@@ -1,0 +1,103 @@
+//! The first octets of a key in three numbers.
+
+ghost use Rattle.std.specs.Prelude.{◌≡◌, ◌≤◌, ◌++◌, drop, IsTrue, ◌↔◌, length};
+ghost use Rattle.std.specs.Int.{from_be_bytes, w64};
+ghost use Rattle.lb_ranks.specs.Front.{counted, front_cmp, front_from, front_octets as octets_of_key, front_of_key};
+
+use std::cmp::Ordering;
+
+/// How many octets of a key stand in its front.
+pub(crate) const FRONT: usize = 23;
+
+/// How many octets a front has: those of the key, and how many there are.
+const OCTETS: usize = FRONT + 1;
+
+/// The first 23 octets of a key, zeros where there are fewer, and how many there are, 24 where there are more, as three
+/// numbers.
+#[derive(Clone, Copy, Debug)]
+pub(crate) struct Front {
+    first: u64,
+    second: u64,
+    third: u64,
+}
+
+/// Puts octets over the first of others.
+fn put_front(octets: &mut [u8], piece: &[u8])
+    requires { length piece.now ≤ length octets.old }
+    ensures { octets.new ≡ piece.now ++ drop (length piece.now) octets.old }
+{
+    octets[..piece.len()].copy_from_slice(piece);
+}
+
+/// How many octets of the key stand in its front, one more where there are others.
+fn count_of(key: &[u8]) -> u8
+    ensures { result ≡ counted 23 key.now }
+{
+    if key.len() > FRONT {
+        OCTETS as u8
+    } else {
+        key.len() as u8
+    }
+}
+
+/// The octets of the key's front, and how many there are.
+fn octets_of(key: &[u8]) -> [u8; OCTETS]
+    ensures { result ≡ octets_of_key key.now }
+{
+    let mut octets = [0; OCTETS];
+    let (front, _) = key.split_at(key.len().min(FRONT));
+    put_front(&mut octets, front);
+    octets[FRONT] = count_of(key);
+    octets
+}
+
+/// The three numbers of octets.
+fn front_from(octets: &[u8]) -> Front
+    requires { length octets.now ≡ 24 }
+    ensures { result ≡ front_from octets.now }
+{
+    let Some((first, rest)) = octets.split_first_chunk::<8>() else {
+        unreachable!();
+    };
+    let Some((second, rest)) = rest.split_first_chunk::<8>() else {
+        unreachable!();
+    };
+    let Some((third, _)) = rest.split_first_chunk::<8>() else {
+        unreachable!();
+    };
+    Front {
+        first: u64::from_be_bytes(*first),
+        second: u64::from_be_bytes(*second),
+        third: u64::from_be_bytes(*third),
+    }
+}
+
+impl Front {
+    /// The front of a key.
+    pub(crate) fn of(key: &[u8]) -> Front
+        ensures { result ≡ front_of_key key.now }
+    {
+        let octets = octets_of(key);
+        front_from(&octets)
+    }
+
+    /// The order of two fronts.
+    pub(crate) fn order(&self, other: &Front) -> Ordering
+        ensures { result ≡ front_cmp self.now other.now }
+    {
+        match self.first.cmp(&other.first) {
+            Ordering::Equal => match self.second.cmp(&other.second) {
+                Ordering::Equal => self.third.cmp(&other.third),
+                order => order,
+            },
+            order => order,
+        }
+    }
+
+    /// Whether it is the other.
+    pub(crate) fn is(&self, other: &Front) -> bool
+        ensures { IsTrue result ↔ (self.now ≡ other.now) }
+    {
+        self.first == other.first && self.second == other.second && self.third == other.third
+    }
+}
