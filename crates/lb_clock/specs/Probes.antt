@@ -138,6 +138,10 @@ IsTimely now w = (x : Waits) → w.waits ≡ Some x → is_open now (Some x) ≡
 abbrev pub IsAsked : List Listed → ℕ → Watched → Type 0
 IsAsked roster now w = w.waits ≡ None → (now < w.next) ⊎ ((w.next ≡ later now second) ⊎ ((place : Place) → place_in w.server roster ≡ Some place → place.mode ≡ modes.Auto → ⊥))
 
+-- for so many milliseconds from this moment on the probe of this server that is under way is not over, and its next one is not due
+abbrev pub IsQuietFor : List Listed → ℕ → ℕ → Watched → Type 0
+IsQuietFor roster now wait w = (moment : ℕ) → now ≤ moment → moment < now + wait → IsTimely moment w × ((place : Place) → IsDue roster moment w place → ⊥)
+
 -- this holds of each of the servers that are probed, of the first so many, of the one at a place
 abbrev pub Each : (Watched → Type 0) → List Watched → Type 0
 Each P p = (i : ℕ) (w : Watched) → slice_get p i ≡ Some w → P w

@@ -1,10 +1,11 @@
 //! What the loop of the clock holds.
 
-ghost use Rattle.std.specs.Prelude.{[], IfNone, IfOk, IfSome, None, length, vec_len, ◌++◌, ◌∷◌, ◌≡◌};
+ghost use Rattle.std.specs.Prelude.{[], IfNone, IfOk, IfSome, None, length, vec_len, ◌++◌, ◌∷◌, ◌≡◌, ◌≤◌};
+ghost use Rattle.lb_clock.specs.Probes.{Each, IsQuietFor};
 ghost use Rattle.lb_clock.specs.World.{listened};
 
 use crate::probes::Probes;
-use lb_lines::{Datagrams, Front, Line, Outside, Posts, Taker, WaitFailed};
+use lb_lines::{Datagrams, Front, Line, Outside, Posts, Roster, Taker, WaitFailed};
 use lb_outbox::Sender;
 use std::alloc::{AllocError, Global};
 use std::marker::Model;
@@ -91,6 +92,14 @@ impl<S: Datagrams, P: Posts, T: Taker, O: Outside> ClockLoop<S, P, T, O> {
         ensures { self.new ≡ self.old }
     {
         self.sockets.wait(at_most)
+    }
+
+    /// For how long from this moment on no probe is over and none is due, at most so many milliseconds.
+    pub fn quiet_for(&self, roster: &Roster, now: u64, at_most: u64) -> u64
+        ensures within { result ≤ at_most }
+        ensures quiet { Each (IsQuietFor roster.now.listed now result) self.now.probes.watched }
+    {
+        self.probes.quiet_for(roster, now, at_most)
     }
 
     /// The event handler and the sender, when the loop has ended.

@@ -2,7 +2,7 @@
 
 ghost use Rattle.std.specs.Prelude.{[], IfNone, IfOk, IfSome, List, None, Some, filter, length, slice_get, true, vec_capacity, ◌++◌, ◌∷◌, ◌≡◌, ◌≤◌, ◌⊎◌};
 ghost use Rattle.std.specs.List.{list_any, position};
-ghost use Rattle.lb_clock.specs.Probes.{Answers, AreFresh, AreProbed, Follows, Here, IsAsked, IsDue, IsOver, IsTimely, Unheard, begun, ended, is_of, most_probed, place_of, stands};
+ghost use Rattle.lb_clock.specs.Probes.{Answers, AreFresh, AreProbed, Each, Follows, Here, IsAsked, IsDue, IsOver, IsQuietFor, IsTimely, Unheard, begun, ended, is_of, most_probed, place_of, stands};
 ghost use Rattle.lb_lines.specs.declared.roster.Listed.{Listed};
 ghost use Rattle.lb_clock.specs.declared.watched.Watched.{Watched};
 
@@ -78,6 +78,28 @@ impl Probes {
         Some((*watched, place))
     }
 
+    /// For how long from this moment on no probe is over and none is due, at most so many milliseconds.
+    pub(crate) fn quiet_for(&self, roster: &Roster, now: u64, at_most: u64) -> u64
+        ensures within { result ≤ at_most }
+        ensures quiet { Each (IsQuietFor roster.now.listed now result) self.now.watched }
+    {
+        let mut quiet = at_most;
+        for index in 0..self.watched.len() {
+            quiet = lesser(quiet, self.quiet_at(roster, index, now));
+        }
+        quiet
+    }
+
+    /// The same of the server at a place; where there is none, as long as one likes.
+    fn quiet_at(&self, roster: &Roster, index: usize, now: u64) -> u64
+        ensures { Here (IsQuietFor roster.now.listed now result) index self.now.watched }
+    {
+        match self.watched.get(index) {
+            Some(watched) => watched.quiet_for(roster, now),
+            None => u64::MAX,
+        }
+    }
+
     /// The servers become those of the roster, where that was changed: one that left, or is at another end, goes, and one that came
     /// begins anew at this moment.
     pub(crate) fn follow(&mut self, roster: &Roster, now: u64)
@@ -144,6 +166,14 @@ impl Probes {
             }),
         };
     }
+}
+
+/// The lesser of two.
+fn lesser(a: u64, b: u64) -> u64
+    ensures first { result ≤ a }
+    ensures second { result ≤ b }
+{
+    a.min(b)
 }
 
 /// The place of the server whose socket this is.

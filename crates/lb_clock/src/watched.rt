@@ -1,7 +1,7 @@
 //! A server that is probed.
 
-ghost use Rattle.std.specs.Prelude.{IfNone, IfSome, IsTrue, Some, false, nat_le, true, ◌+◌, ◌≡◌};
-ghost use Rattle.lb_clock.specs.Probes.{Answers, IsAsked, IsDue, IsOver, IsTimely, Misses, is_by, is_open, second};
+ghost use Rattle.std.specs.Prelude.{IfNone, IfSome, IsTrue, Some, false, nat_le, true, ◌+◌, ◌<◌, ◌≡◌, ◌≤◌, ℕ};
+ghost use Rattle.lb_clock.specs.Probes.{Answers, IsAsked, IsDue, IsOver, IsQuietFor, IsTimely, Misses, is_by, is_open, second};
 
 use lb_health::judge;
 use lb_lines::{Datagram, Endpoint, Place, Roster, Socket};
@@ -51,6 +51,17 @@ impl Waits {
         ensures open { result ≡ false → is_open now (Some self) ≡ true }
     {
         !self.is_sent || self.is_late(now)
+    }
+
+    /// For how long from this moment on the probe is not over.
+    fn open_for(self, now: u64) -> u64
+        ensures { (moment : ℕ) → now ≤ moment → moment < now + result → is_open moment (Some self) ≡ true }
+    {
+        if self.is_sent {
+            self.sent.saturating_add(SECOND).saturating_sub(now)
+        } else {
+            0
+        }
     }
 }
 
@@ -108,6 +119,31 @@ impl Watched {
         match place.mode {
             Mode::Auto => Some(place),
             Mode::Up | Mode::Down => None,
+        }
+    }
+
+    /// For how long from this moment on its probe is not over, and its next one is not due.
+    pub(crate) fn quiet_for(&self, roster: &Roster, now: u64) -> u64
+        ensures { IsQuietFor roster.now.listed now result self.now }
+    {
+        match self.waits {
+            Some(waits) => waits.open_for(now),
+            None => self.rests_for(roster, now),
+        }
+    }
+
+    /// For how long from this moment on its next probe is not due. None of a server that is not in mode auto ever is.
+    fn rests_for(&self, roster: &Roster, now: u64) -> u64
+        ensures { (moment : ℕ) (place : Place) → now ≤ moment → moment < now + result → IsDue roster.now.listed moment self.now place → ⊥ }
+    {
+        let is_auto = match roster.get(self.server) {
+            Some(place) => matches!(place.mode, Mode::Auto),
+            None => false,
+        };
+        if is_auto {
+            self.next.saturating_sub(now)
+        } else {
+            u64::MAX
         }
     }
 }

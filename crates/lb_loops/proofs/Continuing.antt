@@ -1,6 +1,10 @@
 -- Ends of an outbox that go on.
-use Rattle.std.proofs.Common.{◌≡◌, List, [], ◌++◌, refl, sym, ap, ◌∙◌, append_assoc}
+use Rattle.std.proofs.Common.{◌≡◌, ◌⊎◌, inl, inr, List, [], ◌++◌, refl, sym, ap, subst, ◌∙◌, append_assoc}
 use Rattle.std.proofs.lemmas.List.{append-nil}
+use Rattle.lb_lines.specs.declared.report.Line.{Line}
+use Rattle.lb_lines.specs.declared.roster.Listed.{Listed}
+use Rattle.lb_streams.specs.Turn.{Turned}
+use Rattle.lb_streams.specs.World.{World}
 use Rattle.lb_loops.specs.Running.{ReceivesOn, SendsOn}
 use Rattle.lb_outbox.specs.Outbox.{Receiving, Sending}
 use Rattle.lb_outbox.specs.declared.job.Job.{Job}
@@ -21,3 +25,8 @@ sends_twice a b c (one, is) (two, then) =
 pub receives_twice : (a b c : Receiving) → ReceivesOn a b → ReceivesOn b c → ReceivesOn a c
 receives_twice a b c (one, is) (two, then) =
     (one ++ two, then ∙ ap (λ (r : Receiving). record r { received = r.received ++ two }) is ∙ ap (λ (all : List Delivery). record a { received = all }) (append_assoc a.received one two))
+
+-- a turn of streams has received what was received before it and maybe more
+pub turn_receives : (roster : List Listed) (old new : World) (lines : List Line) → Turned roster old new lines → ReceivesOn old.jobs new.jobs
+turn_receives roster old new lines (inl went) = (went.turns.received.deliveries, went.turns.received.received)
+turn_receives roster old new lines (inr stood) = subst (λ (w : World). ReceivesOn old.jobs w.jobs) (sym stood.same) (receives_none old.jobs)

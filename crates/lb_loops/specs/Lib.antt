@@ -1,3 +1,4 @@
 pub mod Caller
 pub mod Fault
+pub mod LastSent
 pub mod Running

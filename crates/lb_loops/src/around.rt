@@ -1,17 +1,28 @@
 //! What the loops share.
 
-ghost use Rattle.std.specs.Prelude.{◌≡◌};
+ghost use Rattle.std.specs.Prelude.{◌≡◌, ◌≤◌};
+ghost use Rattle.lb_loops.specs.Fault.{end_behind};
 
-use lb_lines::{Roster, Waker};
+use crate::fault::{LoopFault, ends};
+use crate::last_sent::{LastSent, has_sent_on};
+use lb_clock::ClockLoop;
+use lb_lines::{Datagrams, Outside, Posts, Report, Roster, Taker, Waker};
 use std::sync::atomic::{AtomicBool, Ordering};
 use std::sync::{Arc, Mutex, Wait};
 
-/// What the loops share: where servers are, the gate, the flag that ends them, and what wakes each.
+/// How long the clock waits while a query may be outstanding, in milliseconds.
+const TICK: u64 = 10;
+
+/// How long it waits at most while none can be.
+const REST: u64 = 100;
+
+/// What the loops share: where servers are, the gate, the flag that ends them, whether a query may be outstanding, and what wakes each.
 #[derive(Drop)]
 pub(crate) struct Around<G, W: Waker> {
     pub(crate) roster: Arc<Mutex<Roster>>,
     pub(crate) gate: G,
     pub(crate) stop: Arc<AtomicBool>,
+    pub(crate) sent: LastSent,
     pub(crate) datagrams: W,
     pub(crate) streams: W,
     pub(crate) clock: W,
@@ -36,6 +47,34 @@ impl<G, W: Waker> Around<G, W> {
         let roster = self.roster.lock(rt);
         if roster.version() != copy.version() {
             copy.copy_from(&roster);
+        }
+    }
+
+    /// Whether a loop goes on behind a turn. Where it does, it is noted whether the turn sent a query on: a clock that rests is woken, so that the
+    /// query's end is not told late.
+    pub(crate) fn behind(&self, report: &Report) -> Result<(), LoopFault>
+        ensures { result ≡ end_behind report.now.is_held report.now.device }
+    {
+        let goes_on = ends(report);
+        if has_sent_on(&report.lines) && self.sent.note() {
+            self.clock.wake();
+        }
+        goes_on
+    }
+
+    /// How long the clock waits behind a turn that told a tick at a moment, in milliseconds. While a query may be outstanding that is 10; else
+    /// until something of its probes is due or over, between 10 and 100.
+    pub(crate) fn patience<S: Datagrams, P: Posts, T: Taker, O: Outside>(
+        &self,
+        part: &ClockLoop<S, P, T, O>,
+        roster: &Roster,
+        ticked: Option<u64>,
+    ) -> u64
+        ensures { (10 ≤ result) × (result ≤ 100) }
+    {
+        match ticked {
+            Some(now) if self.sent.may_rest(now) => part.quiet_for(roster, now, REST).max(TICK),
+            _ => TICK,
         }
     }
 }

@@ -6,6 +6,7 @@ mod around;
 mod caller;
 mod datagram_loop;
 mod fault;
+mod last_sent;
 mod laws;
 mod parts;
 mod running;

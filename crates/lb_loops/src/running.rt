@@ -8,6 +8,7 @@ use crate::datagram_loop::DatagramLoop;
 use crate::fault::{LoopFault, ends};
 use crate::parts::{ClockParts, DatagramParts, StreamParts};
 use lb_clock::{ClockLoop, clock_turn};
+use lb_core::Event;
 use lb_lines::{
     Datagrams, Gate, Line, Outside, Posts, Roster, Sending, Streams, Taker, Waker, Way,
 };
@@ -16,11 +17,12 @@ use lb_streams::{StreamLoop, stream_turn};
 use std::alloc::Global;
 use std::sync::Wait;
 
-/// How long a loop of sockets waits at most, in milliseconds: so often the flag is looked at, and a client that found no descriptor.
-const WAIT: u64 = 100;
+/// How long the loop of datagrams waits at most, in milliseconds: so often idle sockets of servers are looked at.
+const LONG_WAIT: u64 = 1_000;
 
-/// How long the clock waits, in milliseconds.
-const TICK: u64 = 10;
+/// How long the loop of streams waits at most, in milliseconds: so often connections are looked at whose time is over, and a client that
+/// found no descriptor.
+const WAIT: u64 = 100;
 
 /// How many events a turn of the clock has at most.
 const MOST: usize = 64;
@@ -73,25 +75,25 @@ fn all_datagrams<R: Wait, S: Datagrams, T: Taker, O: Outside, G: Gate, W: Waker>
             return Ok(());
         }
         around.follow(rt, &mut roster);
-        one_of_datagrams(part, &roster, &around.gate)?;
+        one_of_datagrams(around, part, &roster)?;
     }
     unreachable!()
 }
 
 /// A turn of datagrams; where it did nothing, the loop waits.
-fn one_of_datagrams<S: Datagrams, T: Taker, O: Outside, G: Gate>(
+fn one_of_datagrams<S: Datagrams, T: Taker, O: Outside, G: Gate, W: Waker>(
+    around: &Around<G, W>,
     part: &mut DatagramLoop<S, T, O>,
     roster: &Roster,
-    gate: &G,
 ) -> Result<(), LoopFault>
     ensures { T.answered part.old.taker ≤ T.answered part.new.taker }
 {
-    let report = part.turn(roster, gate)?;
-    ends(&report)?;
+    let report = part.turn(roster, &around.gate)?;
+    around.behind(&report)?;
     let is_idle = report.lines.is_empty();
     part.take_back(report.lines);
     if is_idle {
-        part.wait(WAIT)?;
+        part.wait(LONG_WAIT)?;
     }
     Ok(())
 }
@@ -151,23 +153,23 @@ fn all_streams<R: Wait, S: Streams, T: Taker, O: Outside, P: Posts, G: Gate, W: 
             return Ok(());
         }
         around.follow(rt, &mut roster);
-        one_of_streams(rt, part, &roster, &around.gate)?;
+        one_of_streams(rt, around, part, &roster)?;
     }
     unreachable!()
 }
 
 /// A turn of streams; where it did nothing, the loop waits.
-fn one_of_streams<R: Wait, S: Streams, T: Taker, O: Outside, P: Posts, G: Gate>(
+fn one_of_streams<R: Wait, S: Streams, T: Taker, O: Outside, P: Posts, G: Gate, W: Waker>(
     rt: &R,
+    around: &Around<G, W>,
     part: &mut StreamLoop<S, T, O, P>,
     roster: &Roster,
-    gate: &G,
 ) -> Result<(), LoopFault>
     ensures answered { part.old.answered ≤ part.new.answered }
     ensures received { ReceivesOn part.old.jobs part.new.jobs }
 {
-    let report = stream_turn(rt, part, roster, gate)?;
-    ends(&report)?;
+    let report = stream_turn(rt, part, roster, &around.gate)?;
+    around.behind(&report)?;
     let is_idle = report.lines.is_empty();
     part.take_back(report.lines);
     if is_idle {
@@ -252,11 +254,20 @@ fn one_of_ticks<R: Wait, S: Datagrams, P: Posts, T: Taker, O: Outside, G: Gate, 
         around.streams.wake();
     }
     let is_full = report.lines.len() >= MOST;
+    let ticked = last_tick(&report.lines);
     part.take_back(report.lines);
     if !is_full {
-        part.wait(TICK)?;
+        part.wait(around.patience(part, roster, ticked))?;
     }
     Ok(())
+}
+
+/// The moment of the tick that lines end with.
+fn last_tick(lines: &[Line]) -> Option<u64> {
+    match lines.last() {
+        Some(Line::Event(_, Event::Tick { now }, _, _)) => Some(*now),
+        _ => None,
+    }
 }
 
 /// Whether a line's message went to the outbox.

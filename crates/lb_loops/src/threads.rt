@@ -6,6 +6,7 @@ ghost use Rattle.lb_loops.specs.Running.{ReceivesOn, SendsOn};
 
 use crate::around::Around;
 use crate::fault::LoopFault;
+use crate::last_sent::LastSent;
 use crate::parts::{ClockParts, DatagramParts, Ended, Parts, StreamParts};
 use crate::running::{run_clock, run_datagrams, run_streams};
 use lb_lines::{Datagrams, Gate, Outside, Posts, Streams, Taker, Waker};
@@ -66,6 +67,7 @@ pub fn run_loops<
         roster,
         gate,
         stop,
+        sent: LastSent::none(),
         datagrams: datagrams_waker,
         streams: streams_waker,
         clock: clock_waker,

@@ -51,24 +51,36 @@ fn play<R: Wait, D: Datagrams, S: Streams, P: Posts, T: Taker, O: Outside>(
     }
 }
 
-/// A turn of datagrams.
+/// A turn of datagrams. One that finds no room is told, and the next one follows.
 fn turn_of_datagrams<R: Wait, D: Datagrams, T: Taker, O: Outside>(
     stage: &mut Stage<'_, R>,
     datagrams: &mut DatagramLoop<D, T, O>,
 ) -> Result<(), Fault> {
-    let report = datagrams.turn(&stage.roster, &stage.gate)?;
+    let report = match datagrams.turn(&stage.roster, &stage.gate) {
+        Ok(report) => report,
+        Err(_refused) => {
+            stage.told.put("datagrams nomemory\n");
+            datagrams.turn(&stage.roster, &stage.gate)?
+        }
+    };
     let lines = tell_report(&mut stage.told, "datagrams", report);
     datagrams.take_back(lines);
     stage.show_packets();
     stage.told.room()
 }
 
-/// A turn of streams.
+/// A turn of streams. One that finds no room is told, and the next one follows.
 fn turn_of_streams<R: Wait, S: Streams, P: Posts, T: Taker, O: Outside>(
     stage: &mut Stage<'_, R>,
     streams: &mut StreamLoop<S, T, O, P>,
 ) -> Result<(), Fault> {
-    let report = stream_turn(stage.rt, streams, &stage.roster, &stage.gate)?;
+    let report = match stream_turn(stage.rt, streams, &stage.roster, &stage.gate) {
+        Ok(report) => report,
+        Err(_refused) => {
+            stage.told.put("streams nomemory\n");
+            stream_turn(stage.rt, streams, &stage.roster, &stage.gate)?
+        }
+    };
     let lines = tell_report(&mut stage.told, "streams", report);
     streams.take_back(lines);
     stage.show_streams()?;
@@ -76,12 +88,18 @@ fn turn_of_streams<R: Wait, S: Streams, P: Posts, T: Taker, O: Outside>(
     stage.told.room()
 }
 
-/// A turn of the clock.
+/// A turn of the clock. One that finds no room is told, and the next one follows.
 fn turn_of_clock<R: Wait, D: Datagrams, P: Posts, T: Taker, O: Outside>(
     stage: &mut Stage<'_, R>,
     clock: &mut ClockLoop<D, P, T, O>,
 ) -> Result<(), Fault> {
-    let report = clock_turn(stage.rt, clock, &stage.roster, &stage.gate)?;
+    let report = match clock_turn(stage.rt, clock, &stage.roster, &stage.gate) {
+        Ok(report) => report,
+        Err(_refused) => {
+            stage.told.put("clock nomemory\n");
+            clock_turn(stage.rt, clock, &stage.roster, &stage.gate)?
+        }
+    };
     let lines = tell_report(&mut stage.told, "clock", report);
     clock.take_back(lines);
     stage.show_probes();

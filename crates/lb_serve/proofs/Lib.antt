@@ -1,2 +1,3 @@
 mod Crosses
 mod Outputs
+mod Rosters

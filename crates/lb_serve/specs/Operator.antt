@@ -75,6 +75,14 @@ pub record Answers (command : Command) (said : Said) (old new : Told) : Type 0 w
   pub pair : Grows old.pairs new.pairs ((Edit now command, answer) ∷ [])
   pub followed : new.servers ≡ followed (stated_by command) answer old.servers
 
+-- a command was an edit, which was carried out; the list of servers follows it, and nothing is said
+pub record Carries (command : Command) (old new : Told) : Type 0 where
+  pub now : ℕ
+  pub answer : Answer
+  pub counted : new.answered ≡ old.answered + 1
+  pub pair : Grows old.pairs new.pairs ((Edit now command, answer) ∷ [])
+  pub followed : new.servers ≡ followed (stated_by command) answer old.servers
+
 -- what came of a line with this command
 abbrev pub Took : Command → Said → Told → Told → Type 0
 Took command said old new = Answers command said old new ⊎ (Refuses said old new ⊎ Wants said old new)
@@ -88,3 +96,24 @@ BySaid (Err fault) said old new = (IsLine said (fault_text fault) × (new ≡ ol
 abbrev pub Says : List ℕ → Said → Told → Told → Type 0
 Says line Stop old new = (line ≡ codes "stop") × (new ≡ old)
 Says line (Line text) old new = BySaid (command_of line) (Line text) old new
+
+-- nothing was done, or a command was carried out
+abbrev pub MayCarry : Command → Told → Told → Type 0
+MayCarry command old new = (new ≡ old) ⊎ Carries command old new
+
+-- what came of a line to which nothing is said, by what it is read as
+abbrev pub LeavesBy : Result Command CommandFault → Told → Told → Type 0
+LeavesBy (Ok command) old new = MayCarry command old new
+LeavesBy (Err fault) old new = new ≡ old
+
+abbrev pub Leaves : List ℕ → Told → Told → Type 0
+Leaves line old new = LeavesBy (command_of line) old new
+
+-- servers are put into a roster, one after the other
+abbrev pub PutsAll : List ServerPlace → Rostered → Rostered → Type 0
+PutsAll [] old new = new ≡ old
+PutsAll (server ∷ servers) old new = (mid : Rostered) × Puts server old mid × PutsAll servers mid new
+
+-- the roster of a list of servers: they are put into an empty one
+abbrev pub IsRosterOf : List ServerPlace → Rostered → Type 0
+IsRosterOf servers roster = PutsAll servers (record { version = 0; listed = [] }) roster

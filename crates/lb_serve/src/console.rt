@@ -8,7 +8,7 @@ use lb_loops::{Outside, Taker};
 use mio::event::Event;
 use mio::net::{TcpListener, TcpStream};
 use mio::unix::SourceFd;
-use mio::{Events, Interest, Poll, Token, Waker};
+use mio::{Events, Interest, Poll, Registry, Token, Waker};
 use std::alloc::Global;
 use std::io;
 use std::io::ErrorKind;
@@ -40,6 +40,8 @@ pub(crate) struct Console<'a, R: Wait + Clock, T: Taker, O: Outside> {
     alloc: Global,
     poll: Poll,
     events: Events,
+    /// A descriptor that is kept back, so that a client can be taken in where no other is to be had.
+    spare: Option<Registry>,
     listeners: Vec<TcpListener>,
     client: Option<Client>,
     /// When the client last ended a line, or came.
@@ -69,6 +71,7 @@ impl<'a, R: Wait + Clock, T: Taker, O: Outside> Console<'a, R, T, O> {
         Ok(Console {
             rt,
             alloc,
+            spare: poll.registry().try_clone().ok(),
             poll,
             events: Events::with_capacity(alloc, EVENTS)?,
             listeners,
@@ -132,7 +135,7 @@ impl<'a, R: Wait + Clock, T: Taker, O: Outside> Console<'a, R, T, O> {
             Progress::Answered => self.note_time(),
             Progress::Blocked => self.wait_for_client(),
             Progress::Ended => {
-                self.client = None;
+                self.dismiss();
                 Ok(())
             }
             Progress::Stop => {
@@ -144,7 +147,7 @@ impl<'a, R: Wait + Clock, T: Taker, O: Outside> Console<'a, R, T, O> {
 
     /// Takes in a client that waits, or waits for one.
     fn take_in(&mut self) -> Result<(), Fault> {
-        match accepted(self.listeners.as_slice()) {
+        match self.accept() {
             Ok(stream) => self.welcome(stream),
             Err(error) if error.kind() == ErrorKind::WouldBlock => {
                 self.has_others = false;
@@ -155,11 +158,25 @@ impl<'a, R: Wait + Clock, T: Taker, O: Outside> Console<'a, R, T, O> {
         }
     }
 
+    /// A client that waits. Where one could not be taken in, the descriptor that is kept back is given up for it.
+    fn accept(&mut self) -> io::Result<TcpStream> {
+        match accepted(self.listeners.as_slice()) {
+            Err(error) if error.kind() != ErrorKind::WouldBlock => {
+                self.spare = None;
+                accepted(self.listeners.as_slice())
+            }
+            other => other,
+        }
+    }
+
     /// Serves a client from now on. Where the system or memory is wanting for it, it is closed.
     fn welcome(&mut self, stream: TcpStream) -> Result<(), Fault> {
         let _ = stream.set_nodelay(true);
         if watch(&self.poll, &stream, CLIENT).is_ok() {
             self.client = Client::new(self.alloc, stream).ok();
+        }
+        if self.client.is_none() {
+            self.dismiss();
         }
         self.note_time()
     }
@@ -183,10 +200,16 @@ impl<'a, R: Wait + Clock, T: Taker, O: Outside> Console<'a, R, T, O> {
         match patience.checked_sub(past) {
             Some(left) if !left.is_zero() => self.wait(Some(left)),
             _ => {
-                self.client = None;
+                self.dismiss();
                 Ok(())
             }
         }
+    }
+
+    /// Closes the connection of the client, and keeps a descriptor back again.
+    fn dismiss(&mut self) {
+        self.client = None;
+        self.spare = self.poll.registry().try_clone().ok();
     }
 
     /// Waits until something comes, or for so long.

@@ -3,7 +3,7 @@
 use libc;
 use libc::types::rlimit;
 
-/// As many as 1,024 clients, two upstream sockets and a probe for each of 256 servers, and what is listened with need.
+/// As many as 1,024 clients of streams, 1,024 by HTTP, two upstream sockets and a probe for each of 256 servers, and what is listened with need.
 pub(crate) const WANTED: u64 = 3_000;
 
 /// The most descriptors that the system lets the program have, where it says so.

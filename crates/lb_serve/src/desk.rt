@@ -1,22 +1,25 @@
 //! The desk that the threads of serving call, what they are made of, and the desk's closing.
 
-ghost use Rattle.std.specs.Prelude.{Err, IfErr, IfOk, List, OnOk, Option, string_bytes, ◌≡◌, ℕ};
+ghost use Rattle.std.specs.Prelude.{Err, IfErr, IfOk, List, OnOk, Option, map, string_bytes, ◌≡◌, ℕ};
 ghost use Rattle.std.specs.Io.KnownBytes.{Appends};
 ghost use Rattle.lb_core.specs.Snapshot.{Snapshot, snapshot_of};
+ghost use Rattle.lb_serve.specs.Listening.{front_of};
 ghost use Rattle.lb_serve.specs.Serving.{Closes, Served, closed_text, output_end, ready_text};
 
 use crate::console::Console;
 use crate::fault::Fault;
 use crate::halt::Halt;
 use crate::listening::{Listening, fronts};
-use crate::nothing::{NoPosts, OpenGate};
+use crate::gate::OpenGate;
 use crate::operator::{Operator, roster_of};
-use crate::threads::{LoopParts, LoopsEnd, Over, run_beside};
+use crate::threads::{FrontEnd, Fronting, LoopParts, LoopsEnd, Over, run_beside};
 use lb_core::Balancer;
 use lb_desk::{CloseFault, Desk, Naming, Seat};
+use lb_doh::{HttpPosts, Waiting, posts_cross_threads};
+use lb_front::FrontParts;
 use lb_loops::{
-    Caller, ClockParts, DatagramParts, Ended, Front, Outbox, Parts, Roster, StreamParts,
-    callers_cross_threads,
+    Caller, ClockParts, DatagramParts, Ended, Front, Outbox, Parts, Receiver, Roster, Sender,
+    StreamParts, callers_cross_threads,
 };
 use lb_program::{Setup, write_line};
 use lb_sockets::{
@@ -36,14 +39,14 @@ use std::thread::Threads;
 use std::time::Clock;
 use std::{io, net};
 
-/// The seats of the desk: the loops of datagrams, of streams and of the clock, the console, and the HTTP front to come.
+/// The seats of the desk: the loops of datagrams, of streams and of the clock, the console, and the front of DNS on HTTP.
 const SEATS: u8 = 5;
 
 /// How many jobs one loop may have for another.
 const JOBS: usize = 4_096;
 
 /// The seats that threads call from.
-type Seats<J> = (Seat<J>, Seat<J>, Seat<J>, Seat<J>);
+type Seats<J> = (Seat<J>, Seat<J>, Seat<J>, Seat<J>, Seat<J>);
 
 /// What the loops of a desk are made of.
 type Loops<'a, R, J> = LoopParts<
@@ -51,10 +54,28 @@ type Loops<'a, R, J> = LoopParts<
     TcpSockets<'a, R>,
     Caller<'a, R, J>,
     SystemOutside<'a, R>,
+    HttpPosts<'a, R>,
 >;
 
 /// The console of a desk.
 type DeskConsole<'a, R, J> = Console<'a, R, Caller<'a, R, J>, SystemOutside<'a, R>>;
+
+/// The front of a desk.
+type DeskFront<'a, R, J> = Fronting<Caller<'a, R, J>, SystemOutside<'a, R>>;
+
+/// What runs at a desk.
+#[derive(Drop)]
+struct Prepared<'a, R: Wait + Net + Clock + RandomSource, J: Naming> {
+    loops: Loops<'a, R, J>,
+    console: DeskConsole<'a, R, J>,
+    front: DeskFront<'a, R, J>,
+}
+
+/// What has run at a desk.
+type Ran<'a, R, J> = (
+    LoopsEnd<Caller<'a, R, J>>,
+    (DeskConsole<'a, R, J>, FrontEnd<Caller<'a, R, J>>),
+);
 
 /// What threads leave: their seats, and the console's client that said stop.
 #[derive(Drop)]
@@ -71,7 +92,10 @@ pub(crate) fn serve_at_desk<
         + Net<Listener = TcpListener, Stream = net::TcpStream>
         + Clock
         + RandomSource
-        + Sync,
+        + AllocGlobal
+        + Sync
+        + Copy
+        + Drop,
     W: Write,
 >(
     rt: &R,
@@ -95,7 +119,10 @@ fn serve_named<
         + Net<Listener = TcpListener, Stream = net::TcpStream>
         + Clock
         + RandomSource
-        + Sync,
+        + AllocGlobal
+        + Sync
+        + Copy
+        + Drop,
     W: Write,
 >(
     rt: &R,
@@ -115,23 +142,24 @@ fn serve_named<
     ensures { Served J.opening J.limit (W.contents output.old) (W.contents output.new) result }
 {
     let (desk, mut seats) = Desk::<J>::made(alloc, blank, balancer, limit, SEATS)?;
-    let Some(four) = taken(&mut seats) else {
+    let Some(five) = taken(&mut seats) else {
         return Err(Fault::Closing(CloseFault::MissingSeat));
     };
-    match run_at_desk(rt, alloc, &desk, four, setup, listening, output) {
+    match run_at_desk(rt, alloc, &desk, five, setup, listening, output) {
         Ok(left) => close(alloc, desk, seats, left, output),
         Err(fault) => Err(fault),
     }
 }
 
-/// Four seats out of these.
+/// Five seats out of these.
 fn taken<J: Naming>(seats: &mut Vec<Seat<J>>) -> Option<Seats<J>> {
-    match (seats.pop(), seats.pop(), seats.pop(), seats.pop()) {
-        (Some(first), Some(second), Some(third), Some(fourth)) => {
-            Some((first, second, third, fourth))
-        }
-        _ => None,
-    }
+    Some((
+        seats.pop()?,
+        seats.pop()?,
+        seats.pop()?,
+        seats.pop()?,
+        seats.pop()?,
+    ))
 }
 
 /// Closes the desk, and tells how many calls it had: on the output, and to the client that said stop.
@@ -145,13 +173,14 @@ fn close<J: Naming, W: Write>(
     ensures { (old : Option (List ℕ)) → Appends old (W.contents output.old) ready_text → Served J.opening J.limit old (W.contents output.new) result }
 {
     let Left {
-        seats: (first, second, third, fourth),
+        seats: (first, second, third, fourth, fifth),
         client,
     } = left;
     seats.push(first)?;
     seats.push(second)?;
     seats.push(third)?;
     seats.push(fourth)?;
+    seats.push(fifth)?;
     match counted(desk, seats) {
         Ok(count) => tell_closed(alloc, count, client, output),
         Err(fault) => Err(fault),
@@ -201,7 +230,7 @@ fn told(written: io::Result<()>) -> Result<(), Fault>
     }
 }
 
-/// Runs the loops and the console from four seats of a desk until serving ends.
+/// Runs the loops, the console and the front from five seats of a desk until serving ends.
 fn run_at_desk<
     'a,
     J: Naming + Send + Sync,
@@ -210,7 +239,10 @@ fn run_at_desk<
         + Net<Listener = TcpListener, Stream = net::TcpStream>
         + Clock
         + RandomSource
-        + Sync,
+        + AllocGlobal
+        + Sync
+        + Copy
+        + Drop,
     W: Write,
 >(
     rt: &'a R,
@@ -225,12 +257,12 @@ fn run_at_desk<
     ensures ended { IfErr result (λ fault. Served J.opening J.limit (W.contents output.old) (W.contents output.new) (Err fault)) }
 {
     match prepared(rt, alloc, desk, seats, setup, listening) {
-        Ok((parts, console)) => run_prepared(rt, alloc, parts, console, output),
+        Ok(prepared) => run_prepared(rt, alloc, prepared, output),
         Err(fault) => Err(fault),
     }
 }
 
-/// Tells that clients are answered from now on, and runs the loops and the console.
+/// Tells that clients are answered from now on, and runs the loops, the console and the front.
 fn run_prepared<
     'a,
     J: Naming + Send + Sync,
@@ -239,29 +271,31 @@ fn run_prepared<
         + Net<Listener = TcpListener, Stream = net::TcpStream>
         + Clock
         + RandomSource
-        + Sync,
+        + AllocGlobal
+        + Sync
+        + Copy
+        + Drop,
     W: Write,
 >(
     rt: &'a R,
     alloc: Global,
-    parts: Loops<'a, R, J>,
-    console: DeskConsole<'a, R, J>,
+    prepared: Prepared<'a, R, J>,
     output: &mut W,
 ) -> Result<Left<J>, Fault>
     ensures ready { OnOk result (Appends (W.contents output.old) (W.contents output.new) ready_text) }
     ensures ended { IfErr result (λ fault. Served J.opening J.limit (W.contents output.old) (W.contents output.new) (Err fault)) }
 {
-    let over = match console.waker() {
+    let over = match prepared.console.waker() {
         Ok(waker) => Over { waker },
         Err(error) => return Err(Fault::System(error)),
     };
     match write_line(output, b"ready\n") {
-        Ok(()) => left_of(rt, alloc, parts, over, console),
+        Ok(()) => left_of(rt, alloc, prepared, over),
         Err(error) => Err(Fault::Output(error)),
     }
 }
 
-/// What the loops and the console leave that run now.
+/// What the loops, the console and the front leave that run now.
 fn left_of<
     'a,
     J: Naming + Send + Sync,
@@ -270,16 +304,18 @@ fn left_of<
         + Net<Listener = TcpListener, Stream = net::TcpStream>
         + Clock
         + RandomSource
-        + Sync,
+        + AllocGlobal
+        + Sync
+        + Copy
+        + Drop,
 >(
     rt: &'a R,
     alloc: Global,
-    parts: Loops<'a, R, J>,
+    prepared: Prepared<'a, R, J>,
     over: Over,
-    console: DeskConsole<'a, R, J>,
 ) -> Result<Left<J>, Fault> {
-    let (ended, console) = run(rt, alloc, parts, over, console);
-    left_by(ended, console)
+    let (loops, (console, front)) = run(rt, alloc, prepared, over);
+    left_by(loops, console, front)
 }
 
 /// The sockets of the three loops.
@@ -316,18 +352,22 @@ impl<'a, R: Net + Clock> Sockets<'a, R> {
     }
 }
 
-/// What the loops and the console are made of.
+/// What the loops, the console and the front are made of.
 fn prepared<'a, J: Naming, R: Wait + Net + Clock + RandomSource>(
     rt: &'a R,
     alloc: Global,
     desk: &'a Desk<J>,
-    (first, second, third, fourth): Seats<J>,
+    seats: Seats<J>,
     setup: Setup,
     listening: Listening,
-) -> Result<(Loops<'a, R, J>, DeskConsole<'a, R, J>), Fault> {
+) -> Result<Prepared<'a, R, J>, Fault>
+    ensures { IfOk result (λ p. (p.loops.streams.fronts.items ≡ map front_of setup.listeners) × (p.loops.clock.fronts.items ≡ map front_of setup.listeners)) }
+{
+    let (first, second, third, fourth, fifth) = seats;
     let Listening {
         datagrams,
         streams,
+        http,
         consoles,
     } = listening;
     let sockets = Sockets::made(rt, alloc, datagrams, streams)?;
@@ -335,6 +375,20 @@ fn prepared<'a, J: Naming, R: Wait + Net + Clock + RandomSource>(
     let stop = Arc::new(alloc, AtomicBool::new(false))?;
     let roster = Arc::new(alloc, Mutex::new(roster_of(alloc, setup.servers())?))?;
     let halt = sockets.halt(&stop)?;
+    let requests = Arc::new(alloc, Mutex::new(Waiting::new(alloc)))?;
+    let (sender, second_sender, receiver) = Outbox::made(alloc, JOBS)?;
+    let front = Fronting {
+        parts: FrontParts {
+            listeners: http,
+            taker: Caller::new(rt, desk, fifth),
+            sender,
+            outside: outside.beside(),
+            streams: sockets.streams.waker()?,
+            requests: Arc::try_clone(&requests)?,
+            stop: Arc::try_clone(&stop)?,
+        },
+        halt: sockets.halt(&stop)?,
+    };
     let fronts = (
         fronts(alloc, setup.listeners())?,
         fronts(alloc, setup.listeners())?,
@@ -353,8 +407,16 @@ fn prepared<'a, J: Naming, R: Wait + Net + Clock + RandomSource>(
         Caller::new(rt, desk, third),
     );
     let around = (roster, sockets.halt(&stop)?);
-    let parts = parts_of(alloc, sockets, outside, takers, fronts, around)?;
-    Ok((parts, console))
+    let posts = (
+        HttpPosts::new(rt, alloc, Arc::try_clone(&requests)?),
+        HttpPosts::new(rt, alloc, requests),
+    );
+    let jobs = (second_sender, receiver);
+    Ok(Prepared {
+        loops: parts_of(sockets, outside, takers, fronts, posts, jobs, around),
+        console,
+        front,
+    })
 }
 
 /// The handlers of events of the three loops.
@@ -362,14 +424,18 @@ type Callers<'a, R, J> = (Caller<'a, R, J>, Caller<'a, R, J>, Caller<'a, R, J>);
 
 /// What the loops are made of.
 fn parts_of<'a, J: Naming, R: Wait + Net + Clock + RandomSource>(
-    alloc: Global,
     sockets: Sockets<'a, R>,
     outside: SystemOutside<'a, R>,
     takers: Callers<'a, R, J>,
     fronts: (Vec<Front>, Vec<Front>),
-    (roster, halt): (Arc<Mutex<Roster>>, Halt),
-) -> Result<Loops<'a, R, J>, Fault> {
-    let (_, sender, receiver) = Outbox::made(alloc, JOBS)?;
+    posts: (HttpPosts<'a, R>, HttpPosts<'a, R>),
+    jobs: (Sender, Receiver),
+    around: (Arc<Mutex<Roster>>, Halt),
+) -> Loops<'a, R, J>
+    ensures { (result.streams.fronts ≡ fronts.0) × (result.clock.fronts ≡ fronts.1) }
+{
+    let (sender, receiver) = jobs;
+    let (roster, halt) = around;
     let (streams_outside, clock_outside) = (outside.beside(), outside.beside());
     let Halt {
         stop,
@@ -377,7 +443,7 @@ fn parts_of<'a, J: Naming, R: Wait + Net + Clock + RandomSource>(
         streams,
         clock,
     } = halt;
-    Ok(Parts {
+    Parts {
         datagrams: DatagramParts {
             sockets: sockets.datagrams,
             taker: takers.0,
@@ -387,7 +453,7 @@ fn parts_of<'a, J: Naming, R: Wait + Net + Clock + RandomSource>(
             sockets: sockets.streams,
             receiver,
             fronts: fronts.0,
-            posts: NoPosts,
+            posts: posts.0,
             taker: takers.1,
             outside: streams_outside,
         },
@@ -395,7 +461,7 @@ fn parts_of<'a, J: Naming, R: Wait + Net + Clock + RandomSource>(
             sockets: sockets.clock,
             sender,
             fronts: fronts.1,
-            posts: NoPosts,
+            posts: posts.1,
             taker: takers.2,
             outside: clock_outside,
         },
@@ -405,10 +471,10 @@ fn parts_of<'a, J: Naming, R: Wait + Net + Clock + RandomSource>(
         datagrams_waker: datagrams,
         streams_waker: streams,
         clock_waker: clock,
-    })
+    }
 }
 
-/// Runs the loops and the console. It stands alone, so that the search for what lets them cross to threads ends.
+/// Runs the loops, the console and the front. It stands alone, so that the search for what lets them cross to threads ends.
 fn run<
     'a,
     J: Naming + Send + Sync,
@@ -417,27 +483,36 @@ fn run<
         + Net<Listener = TcpListener, Stream = net::TcpStream>
         + Clock
         + RandomSource
-        + Sync,
+        + AllocGlobal
+        + Sync
+        + Copy
+        + Drop,
 >(
     rt: &'a R,
     alloc: Global,
-    parts: Loops<'a, R, J>,
+    prepared: Prepared<'a, R, J>,
     over: Over,
-    console: DeskConsole<'a, R, J>,
-) -> (LoopsEnd<Caller<'a, R, J>>, DeskConsole<'a, R, J>) {
+) -> Ran<'a, R, J> {
     // Laws, which do nothing.
     callers_cross_threads::<J, R>();
     sockets_cross_threads::<R>();
     streams_cross_threads::<R>();
     moments_cross_threads::<R>();
     wakers_are_shared();
-    run_beside(rt, alloc, parts, over, console)
+    posts_cross_threads::<R>();
+    let Prepared {
+        loops,
+        console,
+        front,
+    } = prepared;
+    run_beside(rt, alloc, loops, over, console, front)
 }
 
-/// What the loops and the console leave; the first fault of theirs, where one ended by itself.
+/// What the loops, the console and the front leave; the first fault of theirs, where one ended by itself.
 fn left_by<'a, J: Naming, R: Wait + Net + Clock + RandomSource>(
     ended: LoopsEnd<Caller<'a, R, J>>,
     console: DeskConsole<'a, R, J>,
+    front: FrontEnd<Caller<'a, R, J>>,
 ) -> Result<Left<J>, Fault> {
     let Ended {
         datagrams,
@@ -447,6 +522,10 @@ fn left_by<'a, J: Naming, R: Wait + Net + Clock + RandomSource>(
     } = match ended {
         Ok(ended) => ended,
         Err(fault) => return Err(Fault::Loops(fault)),
+    };
+    let front = match front {
+        Ok(front) => front,
+        Err(fault) => return Err(Fault::Front(fault)),
     };
     let (taker, client, fault) = console.into_parts();
     if let Some(fault) = fault {
@@ -458,6 +537,7 @@ fn left_by<'a, J: Naming, R: Wait + Net + Clock + RandomSource>(
             streams.into_seat(),
             clock.into_seat(),
             taker.into_seat(),
+            front.taker.into_seat(),
         ),
         client,
     })

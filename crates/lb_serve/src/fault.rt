@@ -6,6 +6,7 @@ ghost use Rattle.lb_program.specs.Faults.{failure_text};
 ghost use Rattle.lb_serve.specs.Fault.{fault_status, fault_text};
 
 use lb_desk::CloseFault;
+use lb_front::FrontFault;
 use lb_loops::LoopFault;
 use lb_sockets::BindFault;
 use std::alloc::{AllocError, AllocFailed};
@@ -23,14 +24,14 @@ const DIFFERS: &str = "audit differs\n";
 pub enum Fault {
     /// The file has no line that listens.
     NoListener,
-    /// This line, from 1, listens for DNS on HTTP, which is not there yet.
-    Http(u64),
     /// The listener of this line, from 1, was not bound.
     Bind(u64, BindFault),
     /// The system gives no sockets to wait with, no clock, or no thread.
     System(io::Error),
     /// A loop ended by itself.
     Loops(LoopFault),
+    /// The front of DNS on HTTP ended by itself.
+    Front(FrontFault),
     /// The console could not wait for its clients, or there was no moment for an edit.
     Console,
     /// Standard output failed.
@@ -49,10 +50,10 @@ impl Fault {
         match self {
             Fault::Closing(_) => 4,
             Fault::NoListener
-            | Fault::Http(_)
             | Fault::Bind(..)
             | Fault::System(_)
             | Fault::Loops(_)
+            | Fault::Front(_)
             | Fault::Console
             | Fault::Output(_)
             | Fault::NoMemory => 3,
@@ -67,12 +68,15 @@ impl Fault {
             Fault::Closing(_) => DIFFERS,
             Fault::NoMemory
             | Fault::Loops(LoopFault::NoMemory)
+            | Fault::Front(FrontFault::NoMemory)
             | Fault::Bind(_, BindFault::NoMemory) => MEMORY,
-            Fault::System(error) | Fault::Output(error) => failure(error),
+            Fault::System(error)
+            | Fault::Front(FrontFault::System(error))
+            | Fault::Output(error) => failure(error),
             Fault::NoListener
-            | Fault::Http(_)
             | Fault::Bind(_, BindFault::Bind { .. })
             | Fault::Loops(_)
+            | Fault::Front(FrontFault::Held)
             | Fault::Console => DEVICE,
         }
     }

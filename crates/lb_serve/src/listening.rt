@@ -5,9 +5,11 @@ ghost use Rattle.lb_serve.specs.Listening as spec;
 
 use crate::fault::Fault;
 use lb_command::{Listener, Protocol, begins_listen};
+use lb_front::Bound;
 use lb_loops::{Endpoint, Front};
 use lb_sockets::{
-    BindFault, ListenSockets, TcpListeners, listener_at, listeners, stream_listeners,
+    BindFault, ListenSockets, TcpListeners, listener_at, listeners, std_listener_at,
+    stream_listeners,
 };
 use mio::net::TcpListener;
 use std::alloc::{AllocError, Global};
@@ -19,11 +21,12 @@ use std::sync::Arc;
 pub(crate) struct Listening {
     pub(crate) datagrams: Arc<ListenSockets>,
     pub(crate) streams: TcpListeners,
+    pub(crate) http: Vec<Bound>,
     pub(crate) consoles: Vec<TcpListener>,
 }
 
-/// Binds all addresses of a setup file's lines, which this text has. Refused, none stays bound: by the first of them that the system does not give, by a line that listens for
-/// DNS on HTTP, and where no line listens.
+/// Binds all addresses of a setup file's lines, which this text has. Refused, none stays bound: by the first of them that the system does not
+/// give, and where no line listens.
 pub(crate) fn listen<N: Net>(
     net: &N,
     alloc: Global,
@@ -32,9 +35,6 @@ pub(crate) fn listen<N: Net>(
 ) -> Result<Listening, Fault> {
     if lines.is_empty() {
         return Err(Fault::NoListener);
-    }
-    if let Some(place) = lines.iter().position(is_http) {
-        return Err(Fault::Http(line_of(text, place)));
     }
     match bound(net, alloc, lines) {
         Ok(listening) => Ok(listening),
@@ -49,8 +49,27 @@ fn bound<N: Net>(net: &N, alloc: Global, lines: &[Listener]) -> Result<Listening
     Ok(Listening {
         datagrams: listeners(net, alloc, datagrams.as_slice())?,
         streams: stream_listeners(net, alloc, streams.as_slice())?,
+        http: fronts_of_http(net, alloc, lines)?,
         consoles: consoles(net, alloc, lines)?,
     })
+}
+
+/// The listeners for DNS on HTTP.
+fn fronts_of_http<N: Net>(
+    net: &N,
+    alloc: Global,
+    lines: &[Listener],
+) -> Result<Vec<Bound>, BindFault> {
+    let mut fronts = Vec::with_capacity(alloc, lines.len())?;
+    for (place, line) in lines.iter().enumerate() {
+        if line.protocol == Protocol::Doh {
+            let socket = std_listener_at(net, place, end_of(line))?;
+            // At most eight lines listen.
+            let place = u8::try_from(place).unwrap_or(u8::MAX);
+            fronts.push(Bound { place, socket })?;
+        }
+    }
+    Ok(fronts)
 }
 
 /// The listeners of the console.
@@ -74,10 +93,6 @@ fn refused(text: &str, fault: BindFault) -> Fault {
         BindFault::Bind { place, .. } => Fault::Bind(line_of(text, place), fault),
         BindFault::NoMemory => Fault::Bind(0, fault),
     }
-}
-
-fn is_http(line: &Listener) -> bool {
-    line.protocol == Protocol::Doh
 }
 
 /// The end that a line listens at.

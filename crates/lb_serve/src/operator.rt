@@ -1,11 +1,11 @@
 //! The operator's lines, each answered by a line.
 
-ghost use Rattle.std.specs.Prelude.{IfOk, string_bytes, ◌≡◌};
+ghost use Rattle.std.specs.Prelude.{IfErr, IfOk, string_bytes, ◌≡◌};
 ghost use Rattle.lb_command.specs.Reading.{max_line};
 ghost use Rattle.lb_command.specs.declared.fault.CommandFault.{CommandFault};
 ghost use Rattle.lb_command.specs.declared.fault.FaultKind.TheVariants as kinds;
 ghost use Rattle.lb_serve.specs.Operator as spec;
-ghost use Rattle.lb_serve.specs.Operator.{IsLine, Puts, Says, Took, desk_text, fault_text};
+ghost use Rattle.lb_serve.specs.Operator.{IsLine, IsRosterOf, Leaves, MayCarry, Puts, Says, Took, desk_text, fault_text};
 
 use crate::fault::Fault;
 use lb_command::{CommandFault, FaultKind, answer_line, read_command};
@@ -66,9 +66,10 @@ impl<T: Taker, O: Outside> Operator<T, O> {
     }
 
     /// Answers a line: a command is carried out by the desk, and its answer is told; a line that does not read is told its fault. Where no
-    /// moment is to be had, or no memory for the answer, there is none.
+    /// moment is to be had, or no memory for the answer, there is none: then nothing was done, or the command was carried out.
     pub(crate) fn answer<R: Wait>(&mut self, rt: &R, line: &str) -> Result<Said, Fault>
-        ensures { IfOk result (λ said. Says line.now said (record { answered = T.answered self.old.taker; pairs = T.pairs self.old.taker; servers = self.old.servers }) (record { answered = T.answered self.new.taker; pairs = T.pairs self.new.taker; servers = self.new.servers })) }
+        ensures said { IfOk result (λ said. Says line.now said (record { answered = T.answered self.old.taker; pairs = T.pairs self.old.taker; servers = self.old.servers }) (record { answered = T.answered self.new.taker; pairs = T.pairs self.new.taker; servers = self.new.servers })) }
+        ensures unsaid { IfErr result (λ _. Leaves line.now (record { answered = T.answered self.old.taker; pairs = T.pairs self.old.taker; servers = self.old.servers }) (record { answered = T.answered self.new.taker; pairs = T.pairs self.new.taker; servers = self.new.servers })) }
     {
         if line == "stop" {
             return Ok(Said::Stop);
@@ -88,7 +89,8 @@ impl<T: Taker, O: Outside> Operator<T, O> {
 
     /// Carries out the command of a line.
     fn edit<R: Wait>(&mut self, rt: &R, line: &str, command: Command) -> Result<Said, Fault>
-        ensures { IfOk result (λ said. Took command said (record { answered = T.answered self.old.taker; pairs = T.pairs self.old.taker; servers = self.old.servers }) (record { answered = T.answered self.new.taker; pairs = T.pairs self.new.taker; servers = self.new.servers })) }
+        ensures said { IfOk result (λ said. Took command said (record { answered = T.answered self.old.taker; pairs = T.pairs self.old.taker; servers = self.old.servers }) (record { answered = T.answered self.new.taker; pairs = T.pairs self.new.taker; servers = self.new.servers })) }
+        ensures unsaid { IfErr result (λ _. MayCarry command (record { answered = T.answered self.old.taker; pairs = T.pairs self.old.taker; servers = self.old.servers }) (record { answered = T.answered self.new.taker; pairs = T.pairs self.new.taker; servers = self.new.servers })) }
     {
         let Some((now, _)) = self.outside.ask() else {
             return Err(Fault::Console);
@@ -168,7 +170,9 @@ fn put(roster: &mut Roster, server: &ServerPlace)
 }
 
 /// The roster of a list of servers. The one error is want of memory.
-pub(crate) fn roster_of(alloc: Global, servers: &[ServerPlace]) -> Result<Roster, AllocError> {
+pub(crate) fn roster_of(alloc: Global, servers: &[ServerPlace]) -> Result<Roster, AllocError>
+    ensures { IfOk result (λ roster. IsRosterOf servers.now roster) }
+{
     let mut roster = Roster::made(alloc)?;
     for server in servers {
         put(&mut roster, server);

@@ -53,7 +53,7 @@ impl Sentences {
             && limit < WANTED
         {
             let words = format!(in alloc;
-                "the system allows {limit} descriptors; with 1,024 clients of streams and 256 servers {WANTED} are needed (ulimit -n {WANTED})"
+                "the system allows {limit} descriptors; with 1,024 clients of streams, as many by HTTP, and 256 servers {WANTED} are needed (ulimit -n {WANTED})"
             )?;
             self.add(alloc, words)?;
         }
@@ -73,13 +73,13 @@ impl Sentences {
     pub(crate) fn explain(&mut self, alloc: Global, fault: &Fault) -> Result<(), AllocError> {
         let words = match fault {
             Fault::NoListener => String::from_str(alloc, "no line of the file listens")?,
-            Fault::Http(line) => format!(in alloc; "line {line}: DNS on HTTP is not there yet")?,
             Fault::Bind(line, BindFault::Bind { at, error, .. }) => {
                 format!(in alloc; "line {line}: cannot listen at {at}: {error}")?
             }
             Fault::System(error) => format!(in alloc; "the system: {error}")?,
             Fault::Output(error) => format!(in alloc; "standard output: {error}")?,
             Fault::Loops(fault) => format!(in alloc; "a loop ended: {fault}")?,
+            Fault::Front(fault) => format!(in alloc; "DNS on HTTP ended: {fault}")?,
             Fault::Console => String::from_str(alloc, "the console: no moment is to be had")?,
             _ => return Ok(()),
         };

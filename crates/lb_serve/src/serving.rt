@@ -35,7 +35,9 @@ pub fn serve<
         + Clock
         + RandomSource
         + AllocGlobal
-        + Sync,
+        + Sync
+        + Copy
+        + Drop,
     W: Write,
     F: Write,
 >(rt: &R, text: &str, output: &mut W, faults: &mut F) -> u8
@@ -51,7 +53,10 @@ pub fn serve_told<
         + Net<Listener = TcpListener, Stream = TcpStream>
         + Clock
         + RandomSource
-        + Sync,
+        + AllocGlobal
+        + Sync
+        + Copy
+        + Drop,
     W: Write,
     F: Write,
 >(rt: &R, alloc: Global, text: &str, output: &mut W, faults: &mut F) -> Ended
@@ -73,7 +78,10 @@ fn serve_by<
         + Net<Listener = TcpListener, Stream = TcpStream>
         + Clock
         + RandomSource
-        + Sync,
+        + AllocGlobal
+        + Sync
+        + Copy
+        + Drop,
     W: Write,
 >(
     rt: &R,

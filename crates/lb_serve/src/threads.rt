@@ -1,16 +1,20 @@
-//! The loops in their threads, and the console in one of its own.
+//! The loops in their threads, and the console and the front of DNS on HTTP each in one of its own.
 
 ghost use Rattle.std.specs.Thread.{IsSend, IsSync};
 
 use crate::console::Console;
-use crate::nothing::{NoPosts, OpenGate};
+use crate::gate::OpenGate;
+use crate::halt::Halt;
+use lb_front::{FrontEnded, FrontFault, FrontParts, run_front};
 use lb_loops::{
-    ClockParts, DatagramParts, Datagrams, Ended, LoopFault, Outside, Parts, StreamParts, Streams,
-    Taker, Waker, run_loops,
+    ClockParts, DatagramParts, Datagrams, Ended, LoopFault, Outside, Parts, Posts, StreamParts,
+    Streams, Taker, Waker, run_loops,
 };
 use lb_sockets::{PollWaker, wakers_are_shared};
 use mio;
 use std::alloc::Global;
+use std::net::{Net, TcpListener, TcpStream};
+use std::random::RandomSource;
 use std::sync::Wait;
 use std::thread::{Threads, join};
 use std::time::Clock;
@@ -22,10 +26,10 @@ pub(crate) struct Over {
 }
 
 /// What the loops are made of: each has sockets of its own, and handlers and sources of one kind.
-pub(crate) type LoopParts<D, S, T, O> = Parts<
+pub(crate) type LoopParts<D, S, T, O, P> = Parts<
     DatagramParts<D, T, O>,
-    StreamParts<S, T, O, NoPosts>,
-    ClockParts<D, T, O, NoPosts>,
+    StreamParts<S, T, O, P>,
+    ClockParts<D, T, O, P>,
     OpenGate,
     PollWaker,
 >;
@@ -33,30 +37,51 @@ pub(crate) type LoopParts<D, S, T, O> = Parts<
 /// What the loops leave, or why one ended by itself.
 pub(crate) type LoopsEnd<T> = Result<Ended<T, T, T>, LoopFault>;
 
-/// Runs the loops of `parts`, and the console beside them in a thread of its own. Once the loops have ended, it is woken.
-#[tactic(auto, using(crate::proofs::Crosses::console_send))]
+/// What the front of DNS on HTTP leaves, or why it ended by itself.
+pub(crate) type FrontEnd<T> = Result<FrontEnded<T>, FrontFault>;
+
+/// The front of DNS on HTTP, and what ends the loops where it ends by itself.
+#[derive(Drop)]
+pub(crate) struct Fronting<T, O> {
+    pub(crate) parts: FrontParts<T, O, PollWaker>,
+    pub(crate) halt: Halt,
+}
+
+/// Runs the loops of `parts`, and beside them the console and the front, each in a thread of its own. Once the loops have ended, the console is
+/// woken.
+#[tactic(auto, using(crate::proofs::Crosses::console_send, crate::proofs::Crosses::front_send))]
 pub(crate) fn run_beside<
     'a,
-    R: Threads + Wait + Clock + Sync,
+    R: Threads
+        + Wait
+        + Net<Listener = TcpListener, Stream = TcpStream>
+        + Clock
+        + RandomSource
+        + AllocGlobal
+        + Sync
+        + Copy
+        + Drop,
     D: Datagrams + Send,
     S: Streams + Send,
     T: Taker + Send,
     O: Outside + Send,
+    P: Posts + Send,
 >(
     rt: &R,
     alloc: Global,
-    parts: LoopParts<D, S, T, O>,
+    parts: LoopParts<D, S, T, O, P>,
     over: Over,
     console: Console<'a, R, T, O>,
-) -> (LoopsEnd<T>, Console<'a, R, T, O>) {
+    front: Fronting<T, O>,
+) -> (LoopsEnd<T>, (Console<'a, R, T, O>, FrontEnd<T>)) {
     // A law, which does nothing.
     wakers_are_shared();
     join(
         rt,
         move ||
-            requires parts { IsSync R.row × IsSend D.row × IsSend S.row × IsSend T.row × IsSend O.row }
+            requires parts { IsSync R.row × IsSend D.row × IsSend S.row × IsSend T.row × IsSend O.row × IsSend P.row }
         { run_them(rt, alloc, parts, over) },
-        move || console.run(),
+        move || run_asked(rt, alloc, console, front),
     )
 }
 
@@ -67,10 +92,63 @@ fn run_them<
     S: Streams + Send,
     T: Taker + Send,
     O: Outside + Send,
->(rt: &R, alloc: Global, parts: LoopParts<D, S, T, O>, over: Over) -> LoopsEnd<T> {
+    P: Posts + Send,
+>(rt: &R, alloc: Global, parts: LoopParts<D, S, T, O, P>, over: Over) -> LoopsEnd<T> {
     // A law, which does nothing.
     wakers_are_shared();
     let ended = run_loops(rt, alloc, parts);
     let _ = over.waker.wake();
+    ended
+}
+
+/// Runs the console and the front, each in a thread of its own.
+#[tactic(auto, using(crate::proofs::Crosses::console_send, crate::proofs::Crosses::front_send))]
+fn run_asked<
+    'a,
+    R: Threads
+        + Wait
+        + Net<Listener = TcpListener, Stream = TcpStream>
+        + Clock
+        + RandomSource
+        + AllocGlobal
+        + Sync
+        + Copy
+        + Drop,
+    T: Taker + Send,
+    O: Outside + Send,
+>(
+    rt: &R,
+    alloc: Global,
+    console: Console<'a, R, T, O>,
+    front: Fronting<T, O>,
+) -> (Console<'a, R, T, O>, FrontEnd<T>) {
+    // A law, which does nothing.
+    wakers_are_shared();
+    join(
+        rt,
+        move || console.run(),
+        move ||
+            requires parts { IsSync R.row × IsSend T.row × IsSend O.row }
+        { run_http(rt, alloc, front) },
+    )
+}
+
+/// Runs the front. Where it ends by itself, the loops end too.
+fn run_http<
+    R: Wait
+        + Net<Listener = TcpListener, Stream = TcpStream>
+        + Clock
+        + RandomSource
+        + AllocGlobal
+        + Copy
+        + Drop,
+    T: Taker,
+    O: Outside,
+>(rt: &R, alloc: Global, front: Fronting<T, O>) -> FrontEnd<T> {
+    let Fronting { parts, halt } = front;
+    let ended = run_front(*rt, alloc, parts);
+    if ended.is_err() {
+        halt.halt();
+    }
     ended
 }

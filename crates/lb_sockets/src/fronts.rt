@@ -9,8 +9,9 @@ use lb_lines::Endpoint;
 use mio::Interest;
 use mio::net::TcpListener;
 use std::alloc::Global;
-use std::io;
 use std::net::Net;
+use std::os::fd::OwnedFd;
+use std::{io, net};
 
 /// The token of all listeners of streams. The numbers of connections begin at 1.
 pub(crate) const LISTENERS: usize = 0;
@@ -67,8 +68,22 @@ fn listener_of<N: Net>(
 /// Binds a listener of streams at the end of a place of the listen lines, which never blocks. One of IPv6 takes in no client of IPv4. The
 /// one error is the system's, with the place and the address.
 pub fn listener_at<N: Net>(net: &N, place: usize, end: Endpoint) -> Result<TcpListener, BindFault> {
+    Ok(TcpListener::from(listening_at(net, place, end)?))
+}
+
+/// The same as std's listener, for a library with a poll of its own.
+pub fn std_listener_at<N: Net>(
+    net: &N,
+    place: usize,
+    end: Endpoint,
+) -> Result<net::TcpListener, BindFault> {
+    Ok(net::TcpListener::from(listening_at(net, place, end)?))
+}
+
+/// A socket that listens at the end of a place.
+fn listening_at<N: Net>(net: &N, place: usize, end: Endpoint) -> Result<OwnedFd, BindFault> {
     match listening(net, end) {
-        Ok(listener) => Ok(listener),
+        Ok(socket) => Ok(socket),
         Err(error) => Err(not_bound(place, end, error)),
     }
 }

@@ -24,7 +24,7 @@ mod watch;
 mod wire;
 
 pub use datagrams::UdpSockets;
-pub use fronts::{TcpListeners, listener_at, stream_listeners};
+pub use fronts::{TcpListeners, listener_at, std_listener_at, stream_listeners};
 pub use laws::{
     listeners_cross_threads, moments_cross_threads, sockets_cross_threads, streams_cross_threads,
     wakers_are_shared,

@@ -6,7 +6,7 @@ ghost use Rattle.libc.specs.Net.{Kind, SockOption};
 use crate::addresses::socket_addr;
 use lb_lines::Endpoint;
 use libc::net as c;
-use mio::net::{TcpListener, UdpSocket};
+use mio::net::UdpSocket;
 use os::FromRawFd;
 use std::io;
 use std::net::{Net, SocketAddr};
@@ -35,13 +35,13 @@ pub(crate) fn bound<N: Net>(_net: &N, end: Endpoint) -> io::Result<UdpSocket> {
 
 /// A socket that listens for streams at an end and never blocks, with a long row of clients that may wait. It listens also where connections
 /// of an earlier one have not passed away yet. One of IPv6 takes in no client of IPv4.
-pub(crate) fn listening<N: Net>(_net: &N, end: Endpoint) -> io::Result<TcpListener> {
+pub(crate) fn listening<N: Net>(_net: &N, end: Endpoint) -> io::Result<OwnedFd> {
     let address = socket_addr(end);
     let socket = opened(&address, STREAMS)?;
     set(&socket, c::SOL_SOCKET, c::SO_REUSEADDR, 1)?;
     bind(&socket, &address)?;
     check(c::listen(socket.as_raw_fd(), BACKLOG))?;
-    Ok(TcpListener::from(socket))
+    Ok(socket)
 }
 
 /// A socket of a kind, of the address's family.

@@ -61,7 +61,9 @@ pub fn start<
         + Clock
         + RandomSource
         + AllocGlobal
-        + Sync,
+        + Sync
+        + Copy
+        + Drop,
     R: Read + Drop,
     W: Write,
     F: Write,
@@ -96,7 +98,9 @@ fn run<
         + Clock
         + RandomSource
         + AllocGlobal
-        + Sync,
+        + Sync
+        + Copy
+        + Drop,
     R: Read + Drop,
     W: Write,
     F: Write,
@@ -146,7 +150,9 @@ fn serve_file<
         + Clock
         + RandomSource
         + AllocGlobal
-        + Sync,
+        + Sync
+        + Copy
+        + Drop,
     W: Write,
     F: Write,
 >(rt: &T, file: &str, output: &mut W, faults: &mut F) -> Ended
