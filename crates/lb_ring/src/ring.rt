@@ -84,14 +84,22 @@ fn unlink(links: &mut Vec<Links>, slot: usize)
     links[next].prev = prev;
 }
 
-/// Makes room for the neighbours of a slot.
-fn grow(links: &mut Vec<Links>, slot: usize) -> Result<(), AllocError>
+/// More slots than any machine has room for.
+const TOO_MANY: usize = 1 << 62;
+
+/// Makes room for the neighbours of a slot, in a ring of so many.
+fn grow(links: &mut Vec<Links>, slot: usize, len: usize) -> Result<(), AllocError>
     requires { slot + 1 < 2 ^ 64 }
     ensures room { OnOk result (slot < length links.new.items) }
+    ensures few { OnOk result (len + 2 < 2 ^ 64) }
     ensures more { length links.old.items ≤ length links.new.items }
     ensures next { (k : ℕ) → next_of links.new.items k ≡ next_of links.old.items k }
     ensures prev { (k : ℕ) → prev_of links.new.items k ≡ prev_of links.old.items k }
 {
+    if TOO_MANY <= len {
+        // no machine has so many: this is refused
+        links.reserve(usize::MAX)?;
+    }
     if links.len() <= slot {
         links.resize(slot + 1, Links { prev: 0, next: 0 })?;
     }
@@ -153,13 +161,12 @@ impl Ring {
     pub fn put(&mut self, prev: usize, slot: usize) -> Result<(), AllocError>
         requires slot { 0 < slot }
         requires bound { slot + 1 < 2 ^ 64 }
-        requires count { length self.old + 2 < 2 ^ 64 }
         requires fresh { has slot self.old ≡ false }
         requires prev { has prev (0 ∷ self.old) ≡ true }
         ensures put { OnOk result (self.new ≡ put_behind prev slot self.old) }
         ensures kept { OnErr result (self.new ≡ self.old) }
     {
-        grow(&mut self.links, slot)?;
+        grow(&mut self.links, slot, self.len)?;
         link(&mut self.links, prev, slot);
         self.len += 1;
         Ok(())
