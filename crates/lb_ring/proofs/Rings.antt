@@ -1,10 +1,11 @@
 -- The ring through its changes.
-use Rattle.std.proofs.Common.{◌≡◌, ℕ, zero, suc, ◌+◌, ◌<◌, ◌≤◌, ◌^◌, Bool, true, false, ◌==◌, inl, inr, List, [], ◌∷◌, ◌++◌, length, cond, refl, sym, ap, subst, ◌∙◌, arith}
+use Rattle.std.proofs.Common.{◌≡◌, ℕ, zero, suc, ◌+◌, ◌<◌, ◌≤◌, ◌^◌, true, false, ◌==◌, inl, inr, List, [], ◌∷◌, ◌++◌, length, cond, refl, sym, ap, subst, ◌∙◌, arith}
 use Rattle.std.specs.List.{AllByRecursion}
-use Rattle.std.proofs.lemmas.Bool.{cases_Bool, eqb-true}
+use Rattle.std.proofs.lemmas.Bool.{cases_Bool, eqb-true, eq-eqb, ltb-false, ltb-true}
+use Rattle.std.specs.Prelude.{nat_lt}
 use Rattle.lb_ring.specs.declared.ring.Links.{Links}
 use Rattle.lb_ring.specs.Ring.{Distinct, IsPath, IsRing, Lacks, after, before, first_of, has, is_slot, next_of, prev_of, put_after, put_behind, slots_of, trail, without}
-use Rattle.lb_ring.proofs.Paths.{Stands, all_after, all_without, distinct_after, distinct_without, flips, has_passes, lacks_is, length_after, length_without, linked, linked_here, next_in, prev_in, same_path, stands, tail_path, trail_is, trail_same, unlinked}
+use Rattle.lb_ring.proofs.Paths.{all_after, all_without, distinct_after, distinct_without, flips, lacks_is, length_after, length_without, linked, linked_here, next_in, prev_in, same_path, stands, tail_path, trail_is, trail_same, unlinked}
 
 pub length_trail : (nx : ℕ → ℕ) (k n : ℕ) → length (trail nx k n) ≡ n
 length_trail nx k zero = refl
@@ -56,9 +57,9 @@ next_within links len s ring is =
 
 -- a slot goes
 pub removed : (links new : List Links) (len less s : ℕ) → IsRing links len → has s (slots_of links len) ≡ true
-  → ((k : ℕ) → next_of new k ≡ cond (k == prev_of links s) (next_of links s) (next_of links k))
-  → ((k : ℕ) → prev_of new k ≡ cond (k == next_of links s) (prev_of links s) (prev_of links k))
-  → length new ≡ length links → less + 1 ≡ len → (slots_of new less ≡ without s (slots_of links len)) × IsRing new less
+    → ((k : ℕ) → next_of new k ≡ cond (k == prev_of links s) (next_of links s) (next_of links k))
+    → ((k : ℕ) → prev_of new k ≡ cond (k == next_of links s) (prev_of links s) (prev_of links k))
+    → length new ≡ length links → less + 1 ≡ len → (slots_of new less ≡ without s (slots_of links len)) × IsRing new less
 removed links new len less s ring is hn hp size count =
     let slots = slots_of links len in
     let at = stands s slots is in
@@ -68,9 +69,11 @@ removed links new len less s ring is hn hp size count =
     let path' = unlinked (next_of links) (prev_of links) (next_of new) (prev_of new) s hn hp 0 at.0 at.1 0 (lack, apart) lack path in
     let goes = subst (λ (xs : List ℕ). IsPath (next_of new) (prev_of new) 0 xs 0) (sym at.3) path' in
     let many : length (without s slots) ≡ less = omega (arith, length_without s slots is, length_trail (next_of links) (next_of links 0) len) in
-    let shown = shows new (without s slots) less goes many in
-    (shown, ring_of new (without s slots) less shown goes (all_without (λ k. is_slot 0 k ≡ false) s slots ring.ends_lack) (distinct_without s slots ring.distinct)
-      (subst (λ (n : ℕ). AllByRecursion (λ k. k < n) (without s slots)) (sym size) (all_without (λ k. k < length links) s slots ring.within)) (λ some. let one : 0 < len = omega (arith) in subst (λ (n : ℕ). 0 < n) (sym size) (ring.start one)) (omega (arith, ring.small, count)))
+    let shown = shows new (without s slots) less goes many in (
+      shown,
+      ring_of new (without s slots) less shown goes (all_without (λ k. is_slot 0 k ≡ false) s slots ring.ends_lack) (distinct_without s slots ring.distinct)
+          (subst (λ (n : ℕ). AllByRecursion (λ k. k < n) (without s slots)) (sym size) (all_without (λ k. k < length links) s slots ring.within)) (λ some. let one : 0 < len = omega (arith) in subst (λ (n : ℕ). 0 < n) (sym size) (ring.start one)) (omega (arith, ring.small, count)),
+    )
 
 all_lt : (n m : ℕ) → n ≤ m → (ks : List ℕ) → AllByRecursion (λ k. k < n) ks → AllByRecursion (λ k. k < m) ks
 all_lt n m le [] all = tt
@@ -79,9 +82,11 @@ all_lt n m le (k ∷ ks) all = (omega (arith, all.0), all_lt n m le ks all.1)
 -- more room
 pub grown : (links new : List Links) (len : ℕ) → IsRing links len → ((k : ℕ) → next_of new k ≡ next_of links k) → ((k : ℕ) → prev_of new k ≡ prev_of links k) → length links ≤ length new → (slots_of new len ≡ slots_of links len) × IsRing new len
 grown links new len ring hn hp more =
-    let shown : slots_of new len ≡ slots_of links len = trail_same (next_of links) (next_of new) hn (next_of new 0) len ∙ ap (λ (j : ℕ). trail (next_of links) j len) (hn 0) in
-    (shown, ring_of new (slots_of links len) len shown (same_path (next_of links) (prev_of links) (next_of new) (prev_of new) hn hp 0 (slots_of links len) 0 ring.path) ring.ends_lack ring.distinct
-      (all_lt (length links) (length new) more (slots_of links len) ring.within) (λ some. let one = ring.start some in omega (arith, one)) ring.small)
+    let shown : slots_of new len ≡ slots_of links len = trail_same (next_of links) (next_of new) hn (next_of new 0) len ∙ ap (λ (j : ℕ). trail (next_of links) j len) (hn 0) in (
+      shown,
+      ring_of new (slots_of links len) len shown (same_path (next_of links) (prev_of links) (next_of new) (prev_of new) hn hp 0 (slots_of links len) 0 ring.path) ring.ends_lack ring.distinct
+          (all_lt (length links) (length new) more (slots_of links len) ring.within) (λ some. let one = ring.start some in omega (arith, one)) ring.small,
+    )
 
 pub not_zero : (s : ℕ) → 0 < s → (s == 0) ≡ false
 not_zero s lt = elim (cases_Bool (s == 0)) [
@@ -91,9 +96,9 @@ not_zero s lt = elim (cases_Bool (s == 0)) [
 
 -- a slot comes
 pub put_in : (links new : List Links) (len p s : ℕ) → IsRing links len → 0 < s → s < length links → has s (slots_of links len) ≡ false → has p (0 ∷ slots_of links len) ≡ true → len + 2 < 2 ^ 64
-  → ((k : ℕ) → next_of new k ≡ cond (k == p) s (cond (k == s) (next_of links p) (next_of links k)))
-  → ((k : ℕ) → prev_of new k ≡ cond (k == next_of links p) s (cond (k == s) p (prev_of links k)))
-  → length new ≡ length links → (slots_of new (len + 1) ≡ put_behind p s (slots_of links len)) × IsRing new (len + 1)
+    → ((k : ℕ) → next_of new k ≡ cond (k == p) s (cond (k == s) (next_of links p) (next_of links k)))
+    → ((k : ℕ) → prev_of new k ≡ cond (k == next_of links p) s (cond (k == s) p (prev_of links k)))
+    → length new ≡ length links → (slots_of new (len + 1) ≡ put_behind p s (slots_of links len)) × IsRing new (len + 1)
 put_in links new len p s ring some room fresh is few hn hp size =
     let slots = slots_of links len in
     let lacks = lacks_is s slots fresh in
@@ -167,3 +172,43 @@ next_is links len s ring is = path_next (next_of links) (prev_of links) 0 (slots
 
 pub prev_is : (links : List Links) (len s : ℕ) → IsRing links len → has s (slots_of links len) ≡ true → prev_of links s ≡ before 0 s (slots_of links len)
 prev_is links len s ring is = path_prev (next_of links) (prev_of links) 0 (slots_of links len) 0 s ring.path is
+
+-- ---- no more slots than there is room for
+
+all_below : (n : ℕ) (ks : List ℕ) → AllByRecursion (λ k. k < suc n) ks → Lacks n ks → AllByRecursion (λ k. k < n) ks
+all_below n [] all lacks = tt
+all_below n (k ∷ ks) all lacks = (below n k all.0 lacks.0, all_below n ks all.1 lacks.1) where
+  below : (n k : ℕ) → k < suc n → (n == k) ≡ false → k < n
+  below n k lt off = elim (cases_Bool (nat_lt k n)) [
+    | inl t ↦ ltb-true k n t
+    | inr t ↦
+        let over : n ≤ k = ltb-false k n t in
+        let same : n ≡ k = omega (arith, lt, over) in
+        let on : (n == k) ≡ true = eq-eqb n k same in
+        absurd (cc)
+  ]
+
+lacks_gone : (n : ℕ) (ks : List ℕ) → Distinct ks → has n ks ≡ true → Lacks n (without n ks)
+lacks_gone n [] apart is = absurd (cc)
+lacks_gone n (k ∷ ks) apart is = elim (cases_Bool (is_slot n k)) [
+  | inl t ↦ let same : k ≡ n = sym (eqb-true n k t) in rw t (subst (λ (j : ℕ). Lacks j ks) same apart.0)
+  | inr t ↦ let more : has n ks ≡ true = rw t at is in rw t (t, lacks_gone n ks apart.1 more)
+]
+
+pub no_more : (n : ℕ) (ks : List ℕ) → Distinct ks → AllByRecursion (λ k. k < n) ks → length ks ≤ n
+no_more zero [] apart all = omega arith
+no_more zero (k ∷ ks) apart all = absurd (omega (arith, all.0))
+no_more (suc n) ks apart all = elim (cases_Bool (has n ks)) [
+  | inl t ↦
+      let rest = no_more n (without n ks) (distinct_without n ks apart) (all_below n (without n ks) (all_without (λ k. k < suc n) n ks all) (lacks_gone n ks apart t)) in
+      omega (arith, rest, length_without n ks t)
+  | inr t ↦
+      let rest = no_more n ks apart (all_below n ks all (lacks_is n ks t)) in
+      omega (arith, rest)
+]
+
+-- a ring fits the machine, as its links do
+pub fits : (links : List Links) (len : ℕ) → IsRing links len → length links < 2 ^ 63 → len + 2 < 2 ^ 64
+fits links len ring small =
+    let few = no_more (length links) (slots_of links len) ring.distinct ring.within in
+    omega (arith, few, length_trail (next_of links) (next_of links 0) len, small)

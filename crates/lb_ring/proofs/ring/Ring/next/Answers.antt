@@ -1,5 +1,5 @@
-use Rattle.std.proofs.Common.{◌≡◌, true, ℕ, List, ap, subst, ◌∙◌}
-use Rattle.lb_ring.specs.Ring.{after, before, has, slots_of}
+use Rattle.std.proofs.Common.{◌≡◌, true, ap, ◌∙◌}
+use Rattle.lb_ring.specs.Ring.{after, has, slots_of}
 use Rattle.lb_ring.proofs.Rings.{next_is}
 use Rattle.lb_ring.proofs.ring.Ring.next.Goals as goal
 

@@ -1,4 +1,4 @@
-use Rattle.std.proofs.Common.{◌≡◌, ◌==◌, ◌<◌, ℕ, None, Some, List, Option, cond, length, map, ap, ◌∙◌, arith}
+use Rattle.std.proofs.Common.{◌==◌, ◌<◌, None, Some, List, Option, cond, length, ap, ◌∙◌, arith}
 use Rattle.std.proofs.lemmas.List.{length-map}
 use Rattle.lb_slots.specs.declared.chunk.Cell.TheVariants.{Full}
 use Rattle.lb_slots.specs.Slots.{value_at, value_in}

@@ -1,4 +1,4 @@
-use Rattle.std.proofs.Common.{◌≡◌, ◌==◌, ◌<◌, ℕ, None, Some, List, Option, cond, length, map, refl, ap, ◌∙◌, arith}
+use Rattle.std.proofs.Common.{◌==◌, ◌<◌, None, List, Option, cond, length, map, refl, ap, ◌∙◌, arith}
 use Rattle.lb_slots.specs.Slots.{value_at, value_in}
 use Rattle.lb_slots.proofs.Chunks.{set_map}
 use Rattle.lb_slots.proofs.chunk.Chunk.take.Goals as goal
