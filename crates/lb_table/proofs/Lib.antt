@@ -1,4 +1,12 @@
-pub mod FirstFree
+pub mod SlotLists
 pub mod EntryAt
 pub mod ByDeadline
-pub mod Once
+pub mod Without
+pub mod Helds
+pub mod LastOf
+pub mod IsLine
+pub mod Bits
+pub mod LaneKeys
+pub mod Tells
+pub mod InOrder
+pub mod Heads

@@ -2,3 +2,9 @@ pub mod Fault
 pub mod Place
 pub mod Entry
 pub mod Table
+pub mod Held
+pub mod Line
+pub mod Ids
+pub mod Lanes
+pub mod Counts
+pub mod Index

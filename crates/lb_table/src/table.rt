@@ -1,15 +1,15 @@
 //! The table of outstanding queries.
 
-ghost use Rattle.std.specs.Prelude.{◌≡◌, ◌+◌, ◌^◌, ◌<◌, ◌≤◌, IfErr, IfOk, IfSome, IfNone, None, [], length, option_map, vec_len, Some};
-ghost use Rattle.std.specs.List.{AllByRecursion, count_by, find, position, slice_get};
-ghost use Rattle.std.specs.Vec.{vec_capacity};
-ghost use Rattle.lb_table.specs.declared.fault.EnterFault.TheVariants.{NoMemory};
+ghost use Rattle.std.specs.Prelude.{◌≡◌, ◌+◌, ◌^◌, ◌<◌, ◌≤◌, IfOk, IfSome, [], length, option_map};
+ghost use Rattle.std.specs.List.{AllByRecursion, count_by};
 ghost use Rattle.lb_table.specs.Entry.{deadline_of};
 ghost use Rattle.lb_table.specs.Place.{at_place};
-ghost use Rattle.lb_table.specs.Table.{AreWaiting, Enters, FirstFree, due, entry_at, is_at, is_for, is_later, is_used, place_by_deadline as place_by, taken_at, waits_at, without_due};
+ghost use Rattle.lb_table.specs.Table.{AreWaiting, Enters, due, entry_at, is_for, taken_at, waits_at, without_due};
 
 use crate::entry::{Entry, Waiting};
 use crate::fault::EnterFault;
+use crate::index::Index;
+use crate::line::Line;
 use crate::place::Place;
 use lb_wire::{Lane, ServerId};
 use std::alloc::{AllocError, Global};
@@ -19,102 +19,21 @@ use std::marker::Model;
 /// were entered.
 #[derive(Debug, Drop)]
 pub struct Table {
-    items: Vec<Waiting>,
+    line: Line,
+    index: Index,
 }
 
 impl Model for Table {
     ghost use Rattle.std.specs.Prelude.{List};
-    ghost use Rattle.lb_table.specs.Table.{AreWaiting};
+    ghost use Rattle.lb_table.specs.Held.{queries};
+    ghost use Rattle.lb_table.specs.Index.{IsTable};
     ghost use Rattle.lb_table.specs.declared.entry.Waiting.{Waiting};
 
     ghost Value = { List Waiting };
 
-    ghost view = { λ t. t.items.items };
+    ghost view = { λ t. queries t.line };
 
-    ghost invariant = { λ t. AreWaiting t.items.items };
-}
-
-/// How many query IDs there are (RFC 1035 section 4.1.1).
-const IDS: u32 = 65_536;
-
-/// Whether a query waits there.
-fn is_used(waiting: &[Waiting], place: Place) -> bool
-    ensures { result ≡ is_used waiting.now place }
-{
-    waiting.iter().any(|w| w.place.is(&place))
-}
-
-/// The first query ID at or after the word, going round, that is free on the server's lane.
-fn free_id(waiting: &[Waiting], server: ServerId, lane: Lane, word: u16) -> Option<u16>
-    ensures { FirstFree waiting.now server lane word result }
-{
-    for step in 0..IDS {
-        let id = word.wrapping_add(step as u16);
-        if !is_used(waiting, Place { server, lane, id }) {
-            return Some(id);
-        }
-    }
-    None
-}
-
-/// Where the first query with a later deadline stands.
-fn first_later(waiting: &[Waiting], deadline: u128) -> Option<usize>
-    ensures at { result ≡ position (is_later deadline) waiting.now }
-    ensures within { IfSome result (λ at. at < length waiting.now) }
-{
-    waiting.iter().position(|w| deadline < w.entry.deadline())
-}
-
-/// The place of an entry in the list: before those with a later deadline.
-fn place_by_deadline(waiting: &[Waiting], deadline: u128) -> usize
-    ensures place { result ≡ place_by deadline waiting.now }
-    ensures within { result ≤ length waiting.now }
-{
-    match first_later(waiting, deadline) {
-        Some(at) => at,
-        None => waiting.len(),
-    }
-}
-
-/// Where in the list the query waits.
-fn position_of(waiting: &[Waiting], place: Place) -> Option<usize>
-    ensures at { result ≡ waits_at place waiting.now }
-    ensures within { IfSome result (λ at. at < length waiting.now) }
-{
-    waiting.iter().position(|w| w.place.is(&place))
-}
-
-/// Where in the list the query waits: that is where the first one is found.
-fn waits_at(waiting: &[Waiting], place: Place) -> Option<usize>
-    ensures at { result ≡ waits_at place waiting.now }
-    ensures within { IfSome result (λ at. at < length waiting.now) }
-    ensures found { IfSome result (λ at. find (is_at place) waiting.now ≡ slice_get waiting.now at) }
-    ensures none { IfNone result (find (is_at place) waiting.now ≡ None) }
-{
-    position_of(waiting, place)
-}
-
-/// Enters a query into the list, and gives its ID. Memory is wanting only where there is no room left for one more.
-fn enter(
-    waiting: &mut Vec<Waiting>,
-    server: ServerId,
-    lane: Lane,
-    word: u16,
-    entry: Entry,
-) -> Result<u16, (EnterFault, Entry)>
-    ensures enters { Enters waiting.old.items server lane word entry result waiting.new.items }
-    ensures full { IfErr result (λ back. back.0 ≡ NoMemory → vec_capacity waiting.old ≤ vec_len waiting.old) }
-{
-    let Some(id) = free_id(waiting.as_slice(), server, lane, word) else {
-        return Err((EnterFault::LaneFull, entry));
-    };
-    if let Err(refused) = waiting.reserve(1) {
-        return Err((EnterFault::from(refused), entry));
-    }
-    let at = place_by_deadline(waiting.as_slice(), entry.deadline());
-    let place = Place { server, lane, id };
-    waiting.insert(at, Waiting { place, entry }).unwrap();
-    Ok(id)
+    ghost invariant = { λ t. IsTable t.line t.index };
 }
 
 impl Table {
@@ -123,7 +42,8 @@ impl Table {
         ensures { result ≡ [] }
     {
         Table {
-            items: Vec::new(alloc),
+            line: Line::new(alloc),
+            index: Index::new(alloc),
         }
     }
 
@@ -131,7 +51,7 @@ impl Table {
     pub fn len(&self) -> usize
         ensures { result ≡ length self.now }
     {
-        self.items.len()
+        self.line.len()
     }
 
     /// A law: the queries that wait are by deadline, those of one deadline in the order in which they were entered, and no two
@@ -140,14 +60,14 @@ impl Table {
         ensures { AreWaiting self.now }
     {
         // Read, so that what the table keeps true is at hand.
-        let _ = self.items.len();
+        let _ = self.line.len();
     }
 
     /// The queries that wait, in the order of `law_of_list`. The one error is want of memory.
     pub fn list(&self, alloc: Global) -> Result<Vec<Waiting>, AllocError>
         ensures { IfOk result (λ list. list.items ≡ self.now) }
     {
-        list_waiting(alloc, self.items.as_slice())
+        self.line.list(alloc)
     }
 
     /// Enters a query that is sent to a server by this lane, and gives the ID that it is sent with: the first that is free
@@ -164,15 +84,36 @@ impl Table {
         // the list fits the machine: whoever counts its entries in a `u64` never goes past it
         ensures room { length self.new + 1 < 2 ^ 64 }
     {
-        enter(&mut self.items, server, lane, word, entry)
+        self.line.law_of_line();
+        let Some(id) = self.index.free(server, lane, word) else {
+            return Err((EnterFault::LaneFull, entry));
+        };
+        let place = Place { server, lane, id };
+        let slot = match self.line.enter(Waiting { place, entry }) {
+            Ok(slot) => slot,
+            Err((refused, Waiting { place: _, entry })) => {
+                return Err((EnterFault::from(refused), entry));
+            }
+        };
+        match self.index.add(&place, slot) {
+            Ok(()) => {
+                self.line.law_of_line();
+                Ok(id)
+            }
+            Err(refused) => {
+                let Waiting { place: _, entry } = self.line.remove(slot).unwrap();
+                Err((EnterFault::from(refused), entry))
+            }
+        }
     }
 
     /// The query that waits for a reply of this server, by this lane, with this ID. It takes no memory.
     pub fn find(&self, server: ServerId, lane: Lane, id: u16) -> Option<&Entry>
         ensures { option_map (λ entry. entry.now) result ≡ entry_at self.now (at_place server lane id) }
     {
-        let at = waits_at(self.items.as_slice(), Place { server, lane, id })?;
-        Some(&self.items[at].entry)
+        let slot = self.index.slot(&Place { server, lane, id })?;
+        let waiting = self.line.get(slot)?;
+        Some(&waiting.entry)
     }
 
     /// Takes the query out that waits for a reply of this server, by this lane, with this ID. It takes no memory.
@@ -180,8 +121,8 @@ impl Table {
         ensures entry { result ≡ entry_at self.old (at_place server lane id) }
         ensures table { self.new ≡ taken_at self.old (waits_at (at_place server lane id) self.old) }
     {
-        let at = waits_at(self.items.as_slice(), Place { server, lane, id })?;
-        let Waiting { place: _, entry } = self.items.remove(at);
+        let slot = self.index.take(&Place { server, lane, id })?;
+        let Waiting { place: _, entry } = self.line.remove(slot)?;
         Some(entry)
     }
 
@@ -193,38 +134,19 @@ impl Table {
         // none is given up before it
         ensures least { IfSome result (λ w. AllByRecursion (λ o. deadline_of w.entry ≤ deadline_of o.entry) self.old) }
     {
-        let first = self.items.first()?;
-        if u128::from(now) < first.entry.deadline() {
+        let slot = self.line.first();
+        if u128::from(now) < self.line.get(slot)?.entry.deadline() {
             return None;
         }
-        Some(self.items.remove(0))
+        let waiting = self.line.remove(slot)?;
+        let _ = self.index.take(&waiting.place);
+        Some(waiting)
     }
 
     /// How many queries wait for a server, by all its lanes.
     pub fn in_flight(&self, server: ServerId) -> usize
         ensures { result ≡ count_by (is_for server) self.now }
     {
-        count_for(self.items.as_slice(), server)
+        self.index.in_flight(server)
     }
-}
-
-/// How many of the queries wait for a server.
-fn count_for(waiting: &[Waiting], server: ServerId) -> usize
-    ensures { result ≡ count_by (is_for server) waiting.now }
-{
-    waiting
-        .iter()
-        .filter(|w| w.place.server.0 == server.0)
-        .count()
-}
-
-/// Copies of the queries, in order.
-fn list_waiting(alloc: Global, waiting: &[Waiting]) -> Result<Vec<Waiting>, AllocError>
-    ensures { IfOk result (λ list. list.items ≡ waiting.now) }
-{
-    let mut list = Vec::with_capacity(alloc, waiting.len())?;
-    for one in waiting {
-        list.push(one.copy(alloc)?)?;
-    }
-    Ok(list)
 }

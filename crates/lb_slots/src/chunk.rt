@@ -1,0 +1,120 @@
+//! A run of slots that stays where it is.
+
+ghost use Rattle.std.specs.Prelude.{◌≡◌, ◌==◌, ◌<◌, ℕ, [], ◌∷◌, ◌++◌, None, Some, IfErr, IfOk, IfSome, OnErr, cond, length, option_map};
+ghost use Rattle.lb_slots.specs.Slots.{value_at, value_in};
+
+use std::alloc::{AllocError, Global};
+use std::marker::Model;
+use std::mem;
+
+/// What a slot has: a value, or nothing and the slot that was freed before it.
+#[derive(Debug, Drop)]
+enum Cell<T> {
+    Free(usize),
+    Full(T),
+}
+
+impl<T: Drop> Cell<T> {
+    /// Takes the value out, if there is one, and leaves this link.
+    fn take(&mut self, free: usize) -> Option<T>
+        ensures value { result ≡ value_in self.old }
+        ensures none { value_in self.new ≡ None }
+    {
+        match self {
+            Cell::Free(_) => None,
+            Cell::Full(_) => match mem::replace(self, Cell::Free(free)) {
+                Cell::Full(value) => Some(value),
+                Cell::Free(_) => None,
+            },
+        }
+    }
+}
+
+/// How many slots a chunk has.
+pub(crate) const CHUNK: usize = 32;
+
+/// A run of slots, each with a value or with none, which is how a contract sees it.
+#[derive(Debug, Drop)]
+pub(crate) struct Chunk<T> {
+    cells: Vec<Cell<T>>,
+}
+
+impl<T> Model for Chunk<T> {
+    ghost use Rattle.std.specs.Prelude.{List, Option, map};
+    ghost use Rattle.std.specs.Coded.{coded_list, coded_option};
+    ghost use Rattle.lb_slots.specs.Slots.{value_in};
+
+    ghost Value = { List (Option T) };
+
+    ghost coded = { coded_list (coded_option T.code) };
+
+    ghost view = { λ c. map value_in c.cells.items };
+}
+
+impl<T: Drop> Chunk<T> {
+    /// No slot yet, and room for all.
+    pub(crate) fn new(alloc: Global) -> Result<Chunk<T>, AllocError>
+        ensures { IfOk result (λ chunk. chunk ≡ []) }
+    {
+        Ok(Chunk {
+            cells: Vec::with_capacity(alloc, CHUNK)?,
+        })
+    }
+
+    /// How many slots there are.
+    pub(crate) fn len(&self) -> usize
+        ensures { result ≡ length self.now }
+    {
+        self.cells.len()
+    }
+
+    /// The value in a place.
+    pub(crate) fn get(&self, at: usize) -> Option<&T>
+        ensures { option_map (λ value. value.now) result ≡ value_at self.now at }
+    {
+        match self.cells.get(at)? {
+            Cell::Full(value) => Some(value),
+            Cell::Free(_) => None,
+        }
+    }
+
+    /// The link in a place that has no value.
+    pub(crate) fn link(&self, at: usize) -> Option<usize>
+        ensures within { IfSome result (λ _. at < length self.now) }
+        ensures none { IfSome result (λ _. value_at self.now at ≡ None) }
+    {
+        match self.cells.get(at)? {
+            Cell::Full(_) => None,
+            Cell::Free(next) => Some(*next),
+        }
+    }
+
+    /// Takes the value out of a place, and leaves a link there.
+    pub(crate) fn take(&mut self, at: usize, link: usize) -> Option<T>
+        ensures value { result ≡ value_at self.old at }
+        ensures chunk { (k : ℕ) → value_at self.new k ≡ cond (k == at) None (value_at self.old k) }
+    {
+        self.cells.get_mut(at)?.take(link)
+    }
+
+    /// Puts a value into a place.
+    pub(crate) fn fill(&mut self, at: usize, value: T)
+        requires { at < length self.old }
+        ensures { (k : ℕ) → value_at self.new k ≡ cond (k == at) (Some value) (value_at self.old k) }
+    {
+        self.cells[at] = Cell::Full(value);
+    }
+
+    /// Puts a value behind the others. Where memory is wanting it comes back.
+    pub(crate) fn add(&mut self, value: T) -> Result<(), (AllocError, T)>
+        ensures added { IfOk result (λ _. self.new ≡ self.old ++ Some value ∷ []) }
+        ensures back { IfErr result (λ back. back.1 ≡ value) }
+        ensures kept { OnErr result (self.new ≡ self.old) }
+    {
+        if let Err(refused) = self.cells.reserve(1) {
+            return Err((refused, value));
+        }
+        self.cells.push_reserved(Cell::Full(value));
+        Ok(())
+    }
+}
