@@ -1,10 +1,10 @@
-/* The client of tools/race: it asks for A records by UDP or by framed TCP, and tells what came and how soon.
+/* The client of tools/race: it asks for A records by UDP, by framed TCP or by HTTP, and tells what came and how soon.
 
-   client udp|tcp ADDR PORT [-F FORMAT] [-k COUNT] [-f PERCENT] [-c SOCKETS] [-w WINDOW] [-r RATE] [-t SECONDS] [-n QUERIES] [-T MS] [-e SEED] [-a]
+   client udp|tcp|get|post ADDR PORT [-F FORMAT] [-k COUNT] [-f PERCENT] [-c SOCKETS] [-w WINDOW] [-r RATE] [-t SECONDS] [-n QUERIES] [-T MS] [-e SEED] [-a]
 
    -F  the names, with one %d for their number (h%d.hit.test); -k how many there are (1), drawn at random; -a each once, in order
    -f  of a hundred queries so many have a name that was never asked before (0)
-   -c  sockets or connections (4); -w queries in flight in all (64); -r queries a second, at most 64 at once (0: as fast as the window goes)
+   -c  sockets or connections (4); -w queries in flight in all (64), by HTTP one a connection at most; -r queries a second, at most 64 at once (0: as fast as the window goes)
    -t  seconds (3) or -n queries; -T a query is lost after so many milliseconds (1000); -e a seed for names and IDs
 
    It prints one line: sent S answered A lost L seconds T p50 US p99 US rcodes NOERROR SERVFAIL REFUSED OTHER */
@@ -36,7 +36,7 @@ struct lane {
 };
 
 static struct lane *lanes[MOST_SOCKETS];
-static int is_tcp, sockets = 4, window = 64, fresh_percent, in_order;
+static int is_tcp, is_get, is_post, sockets = 4, window = 64, fresh_percent, in_order;
 static unsigned known = 1;
 static const char *format = "h%d.hit.test";
 static uint64_t sent, answered, lost, rcodes[16], state, fresh, known_next;
@@ -86,6 +86,25 @@ static size_t make_query(unsigned char *to, uint16_t ident)
     return place + 5;
 }
 
+/* The request of a query, by RFC 8484. */
+static size_t make_request(unsigned char *to, const unsigned char *query, size_t length)
+{
+    static const char symbols[] = "ABCDEFGHIJKLMNOPQRSTUVWXYZabcdefghijklmnopqrstuvwxyz0123456789-_";
+    if (is_post) {
+        int head = sprintf((char *)to, "POST /dns-query HTTP/1.1\r\nhost: race\r\ncontent-type: application/dns-message\r\ncontent-length: %zu\r\n\r\n", length);
+        memcpy(to + head, query, length);
+        return head + length;
+    }
+    size_t place = sprintf((char *)to, "GET /dns-query?dns=");
+    for (size_t at = 0; at < length; at += 3) {
+        size_t left = length - at < 3 ? length - at : 3;
+        unsigned bits = query[at] << 16 | (left > 1 ? query[at + 1] << 8 : 0) | (left > 2 ? query[at + 2] : 0);
+        for (size_t symbol = 0; symbol <= left; symbol++)
+            to[place++] = symbols[bits >> (18 - 6 * symbol) & 63];
+    }
+    return place + sprintf((char *)to + place, " HTTP/1.1\r\nhost: race\r\naccept: application/dns-message\r\n\r\n");
+}
+
 static void take(struct lane *lane, const unsigned char *message, size_t length, uint64_t moment)
 {
     if (length < 12)
@@ -121,13 +140,16 @@ static void give_up(struct lane *lane, uint64_t moment)
 static int send_one(struct lane *lane)
 {
     unsigned char message[512];
-    if (lane->is_closed || lane->tail - lane->head >= 65000)
+    int is_http = is_get || is_post;
+    if (lane->is_closed || lane->tail - lane->head >= 65000 || (is_http && lane->in_flight))
         return 0;
     while (lane->sent_at[lane->next])
         lane->next++;
     size_t length = make_query(message + 2, lane->next);
     uint64_t moment = now();
-    if (is_tcp) {
+    if (is_http) {
+        lane->out_length = make_request(lane->out, message + 2, length);
+    } else if (is_tcp) {
         if (lane->out_length + length + 2 > ROOM)
             return 0;
         message[0] = length >> 8;
@@ -158,6 +180,23 @@ static void write_out(struct lane *lane)
     lane->out_length -= count;
 }
 
+/* How many octets the first response of these has, where it is whole; its body is taken. */
+static size_t take_response(struct lane *lane, unsigned char *from, size_t length, uint64_t moment)
+{
+    unsigned char *body = memmem(from, length, "\r\n\r\n", 4);
+    if (!body)
+        return 0;
+    size_t size = 0;
+    body += 4;
+    for (unsigned char *line = from; line < body; line = (unsigned char *)memchr(line, '\n', body - line) + 1)
+        if (!strncasecmp((char *)line, "content-length:", 15))
+            size = strtoul((char *)line + 15, NULL, 10);
+    if (length - (body - from) < size)
+        return 0;
+    take(lane, body, size, moment);
+    return body - from + size;
+}
+
 static void read_in(struct lane *lane)
 {
     for (int turn = 0; turn < 64 && !lane->is_closed; turn++) {
@@ -174,7 +213,10 @@ static void read_in(struct lane *lane)
         }
         lane->in_length += count;
         size_t place = 0;
-        while (lane->in_length - place >= 2) {
+        if (is_get || is_post) {
+            for (size_t size; (size = take_response(lane, lane->in + place, lane->in_length - place, moment)) != 0;)
+                place += size;
+        } else while (lane->in_length - place >= 2) {
             size_t size = lane->in[place] << 8 | lane->in[place + 1];
             if (lane->in_length - place - 2 < size)
                 break;
@@ -197,10 +239,12 @@ int main(int count, char **words)
     double seconds = 3, rate = 0;
     uint64_t most = 0, seed = 1;
     if (count < 4) {
-        fprintf(stderr, "usage: client udp|tcp ADDR PORT [options]\n");
+        fprintf(stderr, "usage: client udp|tcp|get|post ADDR PORT [options]\n");
         return 2;
     }
-    is_tcp = !strcmp(words[1], "tcp");
+    is_get = !strcmp(words[1], "get");
+    is_post = !strcmp(words[1], "post");
+    is_tcp = !strcmp(words[1], "tcp") || is_get || is_post;
     struct sockaddr_in at = {.sin_family = AF_INET, .sin_port = htons(atoi(words[3]))};
     inet_pton(AF_INET, words[2], &at.sin_addr);
     optind = 4;

@@ -45,8 +45,7 @@ impl LastSent {
     /// whether a query was sent on: who sends one on notes that before it looks whether the clock rests.
     pub(crate) fn may_rest(&self, moment: u64) -> bool {
         if self.is_new.swap(false, Ordering::SeqCst) {
-            self.seen
-                .store(moment.saturating_add(1), Ordering::SeqCst);
+            self.seen.store(moment.saturating_add(1), Ordering::SeqCst);
         }
         let may_rest = !is_within(self.seen.load(Ordering::SeqCst), moment, WATCHED);
         self.rests.store(may_rest, Ordering::SeqCst);

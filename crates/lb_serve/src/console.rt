@@ -147,7 +147,7 @@ impl<'a, R: Wait + Clock, T: Taker, O: Outside> Console<'a, R, T, O> {
 
     /// Takes in a client that waits, or waits for one.
     fn take_in(&mut self) -> Result<(), Fault> {
-        match self.accept() {
+        match self.admitted() {
             Ok(stream) => self.welcome(stream),
             Err(error) if error.kind() == ErrorKind::WouldBlock => {
                 self.has_others = false;
@@ -159,7 +159,7 @@ impl<'a, R: Wait + Clock, T: Taker, O: Outside> Console<'a, R, T, O> {
     }
 
     /// A client that waits. Where one could not be taken in, the descriptor that is kept back is given up for it.
-    fn accept(&mut self) -> io::Result<TcpStream> {
+    fn admitted(&mut self) -> io::Result<TcpStream> {
         match accepted(self.listeners.as_slice()) {
             Err(error) if error.kind() != ErrorKind::WouldBlock => {
                 self.spare = None;

@@ -8,9 +8,9 @@ ghost use Rattle.lb_serve.specs.Serving.{Closes, Served, closed_text, output_end
 
 use crate::console::Console;
 use crate::fault::Fault;
+use crate::gate::OpenGate;
 use crate::halt::Halt;
 use crate::listening::{Listening, fronts};
-use crate::gate::OpenGate;
 use crate::operator::{Operator, roster_of};
 use crate::threads::{FrontEnd, Fronting, LoopParts, LoopsEnd, Over, run_beside};
 use lb_core::Balancer;
@@ -276,12 +276,7 @@ fn run_prepared<
         + Copy
         + Drop,
     W: Write,
->(
-    rt: &'a R,
-    alloc: Global,
-    prepared: Prepared<'a, R, J>,
-    output: &mut W,
-) -> Result<Left<J>, Fault>
+>(rt: &'a R, alloc: Global, prepared: Prepared<'a, R, J>, output: &mut W) -> Result<Left<J>, Fault>
     ensures ready { OnOk result (Appends (W.contents output.old) (W.contents output.new) ready_text) }
     ensures ended { IfErr result (λ fault. Served J.opening J.limit (W.contents output.old) (W.contents output.new) (Err fault)) }
 {
@@ -308,12 +303,7 @@ fn left_of<
         + Sync
         + Copy
         + Drop,
->(
-    rt: &'a R,
-    alloc: Global,
-    prepared: Prepared<'a, R, J>,
-    over: Over,
-) -> Result<Left<J>, Fault> {
+>(rt: &'a R, alloc: Global, prepared: Prepared<'a, R, J>, over: Over) -> Result<Left<J>, Fault> {
     let (loops, (console, front)) = run(rt, alloc, prepared, over);
     left_by(loops, console, front)
 }
@@ -487,12 +477,7 @@ fn run<
         + Sync
         + Copy
         + Drop,
->(
-    rt: &'a R,
-    alloc: Global,
-    prepared: Prepared<'a, R, J>,
-    over: Over,
-) -> Ran<'a, R, J> {
+>(rt: &'a R, alloc: Global, prepared: Prepared<'a, R, J>, over: Over) -> Ran<'a, R, J> {
     // Laws, which do nothing.
     callers_cross_threads::<J, R>();
     sockets_cross_threads::<R>();

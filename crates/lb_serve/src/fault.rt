@@ -70,9 +70,8 @@ impl Fault {
             | Fault::Loops(LoopFault::NoMemory)
             | Fault::Front(FrontFault::NoMemory)
             | Fault::Bind(_, BindFault::NoMemory) => MEMORY,
-            Fault::System(error)
-            | Fault::Front(FrontFault::System(error))
-            | Fault::Output(error) => failure(error),
+            Fault::System(error) | Fault::Front(FrontFault::System(error)) | Fault::Output(error) =>
+                failure(error),
             Fault::NoListener
             | Fault::Bind(_, BindFault::Bind { .. })
             | Fault::Loops(_)
