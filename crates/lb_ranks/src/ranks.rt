@@ -1,6 +1,6 @@
 //! Ranks that are filed under keys.
 
-ghost use Rattle.std.specs.Prelude.{◌≡◌, ◌<◌, ◌≤◌, ◌^◌, [], ◌∷◌, ◌++◌, length, slice_get, option_copied, option_map, IsSome, Some, IsTrue, ◌↔◌, OnOk, OnErr};
+ghost use Rattle.std.specs.Prelude.{◌≡◌, ◌<◌, ◌≤◌, ◌^◌, [], ◌∷◌, ◌++◌, length, slice_get, option_copied, option_map, IsSome, Some, IsTrue, OnOk, OnErr, IfOk};
 ghost use Rattle.std.specs.List.{All, remove};
 ghost use Rattle.lb_ranks.specs.Chunk.{all_of, back_of, chunk_at, front_of, IsFilled, IsPlace, IsTaken, max_pairs, rest_of};
 ghost use Rattle.lb_ranks.specs.Filed.{filed_at, AreInOrder, HasBesides, HasBut, IsCut, IsFiledAt, IsFrom, TakesFirst};
@@ -50,17 +50,32 @@ fn divide(chunks: &mut Vec<Chunk>, at: usize) -> Result<(), AllocError>
     }
 }
 
-/// Divides a chunk where it is full. The pairs stay.
-fn make_room(chunks: &mut Vec<Chunk>, at: usize) -> Result<(), AllocError>
-    requires { All IsFilled chunks.old.items }
-    ensures pairs { all_of chunks.new.items ≡ all_of chunks.old.items }
-    ensures filled { All IsFilled chunks.new.items }
+/// Whether a chunk has as many pairs as it may have.
+fn is_full(chunks: &[Chunk], at: usize) -> bool
+    ensures { IsTrue result → (at < length chunks.now) × (max_pairs ≤ length (chunk_at chunks.now at)) }
 {
-    let full = match chunks.get(at) {
+    match chunks.get(at) {
         Some(chunk) => chunk.is_full(),
         None => false,
-    };
-    if full { divide(chunks, at) } else { Ok(()) }
+    }
+}
+
+/// Divides the chunk of a spot where it is full, and gives the spot of the pair that is looked for. The pairs stay.
+fn room_at(chunks: &mut Vec<Chunk>, spot: Spot, at: &Probe<'_>) -> Result<Spot, AllocError>
+    requires order { AreInOrder (all_of chunks.old.items) }
+    requires filled { All IsFilled chunks.old.items }
+    requires place { IsPlace chunks.old.items spot.chunk spot.place }
+    requires cut { IsCut at.now (front_of chunks.old.items spot.chunk spot.place) (back_of chunks.old.items spot.chunk spot.place) }
+    ensures pairs { all_of chunks.new.items ≡ all_of chunks.old.items }
+    ensures filled { All IsFilled chunks.new.items }
+    ensures place { IfOk result (λ s. IsPlace chunks.new.items s.chunk s.place) }
+    ensures cut { IfOk result (λ s. IsCut at.now (front_of chunks.new.items s.chunk s.place) (back_of chunks.new.items s.chunk s.place)) }
+{
+    if !is_full(chunks.as_slice(), spot.chunk) {
+        return Ok(spot);
+    }
+    divide(chunks, spot.chunk)?;
+    Ok(spot_of(chunks.as_slice(), at))
 }
 
 /// Puts a pair at a spot.
@@ -126,8 +141,7 @@ impl Ranks {
             return Ok(());
         }
         let filed = Filed::copied(*self.chunks.allocator(), &at)?;
-        make_room(&mut self.chunks, spot.chunk)?;
-        let spot = spot_of(self.chunks.as_slice(), &at);
+        let spot = room_at(&mut self.chunks, spot, &at)?;
         put_at(&mut self.chunks, spot, filed)
     }
 
