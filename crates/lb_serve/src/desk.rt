@@ -65,9 +65,11 @@ type DeskFront<'a, R, J> = Fronting<Caller<'a, R, J>, SystemOutside<'a, R>>;
 
 /// What runs at a desk.
 #[derive(Drop)]
-struct Prepared<'a, R: Wait + Net + Clock + RandomSource, J: Naming> {
+struct Runners<'a, R: Wait + Net + Clock + RandomSource, J: Naming> {
     loops: Loops<'a, R, J>,
     console: DeskConsole<'a, R, J>,
+    /// What wakes the console.
+    over: Over,
     front: DeskFront<'a, R, J>,
 }
 
@@ -257,7 +259,15 @@ fn run_at_desk<
     ensures ended { IfErr result (λ fault. Served J.opening J.limit (W.contents output.old) (W.contents output.new) (Err fault)) }
 {
     match prepared(rt, alloc, desk, seats, setup, listening) {
-        Ok(prepared) => run_prepared(rt, alloc, prepared, output),
+        Ok(runners) => {
+            let Runners {
+                loops,
+                console,
+                over,
+                front,
+            } = runners;
+            run_prepared(rt, alloc, loops, console, over, front, output)
+        }
         Err(fault) => Err(fault),
     }
 }
@@ -276,16 +286,20 @@ fn run_prepared<
         + Copy
         + Drop,
     W: Write,
->(rt: &'a R, alloc: Global, prepared: Prepared<'a, R, J>, output: &mut W) -> Result<Left<J>, Fault>
+>(
+    rt: &'a R,
+    alloc: Global,
+    loops: Loops<'a, R, J>,
+    console: DeskConsole<'a, R, J>,
+    over: Over,
+    front: DeskFront<'a, R, J>,
+    output: &mut W,
+) -> Result<Left<J>, Fault>
     ensures ready { OnOk result (Appends (W.contents output.old) (W.contents output.new) ready_text) }
     ensures ended { IfErr result (λ fault. Served J.opening J.limit (W.contents output.old) (W.contents output.new) (Err fault)) }
 {
-    let over = match prepared.console.waker() {
-        Ok(waker) => Over { waker },
-        Err(error) => return Err(Fault::System(error)),
-    };
     match write_line(output, b"ready\n") {
-        Ok(()) => left_of(rt, alloc, prepared, over),
+        Ok(()) => left_of(rt, alloc, loops, console, over, front),
         Err(error) => Err(Fault::Output(error)),
     }
 }
@@ -303,8 +317,15 @@ fn left_of<
         + Sync
         + Copy
         + Drop,
->(rt: &'a R, alloc: Global, prepared: Prepared<'a, R, J>, over: Over) -> Result<Left<J>, Fault> {
-    let (loops, (console, front)) = run(rt, alloc, prepared, over);
+>(
+    rt: &'a R,
+    alloc: Global,
+    loops: Loops<'a, R, J>,
+    console: DeskConsole<'a, R, J>,
+    over: Over,
+    front: DeskFront<'a, R, J>,
+) -> Result<Left<J>, Fault> {
+    let (loops, (console, front)) = run(rt, alloc, loops, console, over, front);
     left_by(loops, console, front)
 }
 
@@ -350,7 +371,7 @@ fn prepared<'a, J: Naming, R: Wait + Net + Clock + RandomSource>(
     seats: Seats<J>,
     setup: Setup,
     listening: Listening,
-) -> Result<Prepared<'a, R, J>, Fault>
+) -> Result<Runners<'a, R, J>, Fault>
     ensures { IfOk result (λ p. (p.loops.streams.fronts.items ≡ map front_of setup.listeners) × (p.loops.clock.fronts.items ≡ map front_of setup.listeners)) }
 {
     let (first, second, third, fourth, fifth) = seats;
@@ -391,6 +412,9 @@ fn prepared<'a, J: Naming, R: Wait + Net + Clock + RandomSource>(
         Arc::try_clone(&roster)?,
     );
     let console = Console::made(rt, rt, alloc, consoles, operator, halt)?;
+    let over = Over {
+        waker: console.waker()?,
+    };
     let takers = (
         Caller::new(rt, desk, first),
         Caller::new(rt, desk, second),
@@ -402,9 +426,10 @@ fn prepared<'a, J: Naming, R: Wait + Net + Clock + RandomSource>(
         HttpPosts::new(rt, alloc, requests),
     );
     let jobs = (second_sender, receiver);
-    Ok(Prepared {
+    Ok(Runners {
         loops: parts_of(sockets, outside, takers, fronts, posts, jobs, around),
         console,
+        over,
         front,
     })
 }
@@ -477,7 +502,14 @@ fn run<
         + Sync
         + Copy
         + Drop,
->(rt: &'a R, alloc: Global, prepared: Prepared<'a, R, J>, over: Over) -> Ran<'a, R, J> {
+>(
+    rt: &'a R,
+    alloc: Global,
+    loops: Loops<'a, R, J>,
+    console: DeskConsole<'a, R, J>,
+    over: Over,
+    front: DeskFront<'a, R, J>,
+) -> Ran<'a, R, J> {
     // Laws, which do nothing.
     callers_cross_threads::<J, R>();
     sockets_cross_threads::<R>();
@@ -485,11 +517,6 @@ fn run<
     moments_cross_threads::<R>();
     wakers_are_shared();
     posts_cross_threads::<R>();
-    let Prepared {
-        loops,
-        console,
-        front,
-    } = prepared;
     run_beside(rt, alloc, loops, over, console, front)
 }
 
