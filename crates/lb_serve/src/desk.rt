@@ -94,10 +94,7 @@ pub(crate) fn serve_at_desk<
         + Net<Listener = TcpListener, Stream = net::TcpStream>
         + Clock
         + RandomSource
-        + AllocGlobal
-        + Sync
-        + Copy
-        + Drop,
+        + Sync,
     W: Write,
 >(
     rt: &R,
@@ -121,10 +118,7 @@ fn serve_named<
         + Net<Listener = TcpListener, Stream = net::TcpStream>
         + Clock
         + RandomSource
-        + AllocGlobal
-        + Sync
-        + Copy
-        + Drop,
+        + Sync,
     W: Write,
 >(
     rt: &R,
@@ -241,10 +235,7 @@ fn run_at_desk<
         + Net<Listener = TcpListener, Stream = net::TcpStream>
         + Clock
         + RandomSource
-        + AllocGlobal
-        + Sync
-        + Copy
-        + Drop,
+        + Sync,
     W: Write,
 >(
     rt: &'a R,
@@ -281,10 +272,7 @@ fn run_prepared<
         + Net<Listener = TcpListener, Stream = net::TcpStream>
         + Clock
         + RandomSource
-        + AllocGlobal
-        + Sync
-        + Copy
-        + Drop,
+        + Sync,
     W: Write,
 >(
     rt: &'a R,
@@ -313,10 +301,7 @@ fn left_of<
         + Net<Listener = TcpListener, Stream = net::TcpStream>
         + Clock
         + RandomSource
-        + AllocGlobal
-        + Sync
-        + Copy
-        + Drop,
+        + Sync,
 >(
     rt: &'a R,
     alloc: Global,
@@ -498,10 +483,7 @@ fn run<
         + Net<Listener = TcpListener, Stream = net::TcpStream>
         + Clock
         + RandomSource
-        + AllocGlobal
-        + Sync
-        + Copy
-        + Drop,
+        + Sync,
 >(
     rt: &'a R,
     alloc: Global,

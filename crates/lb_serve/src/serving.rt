@@ -35,9 +35,7 @@ pub fn serve<
         + Clock
         + RandomSource
         + AllocGlobal
-        + Sync
-        + Copy
-        + Drop,
+        + Sync,
     W: Write,
     F: Write,
 >(rt: &R, text: &str, output: &mut W, faults: &mut F) -> u8
@@ -53,10 +51,7 @@ pub fn serve_told<
         + Net<Listener = TcpListener, Stream = TcpStream>
         + Clock
         + RandomSource
-        + AllocGlobal
-        + Sync
-        + Copy
-        + Drop,
+        + Sync,
     W: Write,
     F: Write,
 >(rt: &R, alloc: Global, text: &str, output: &mut W, faults: &mut F) -> Ended
@@ -78,10 +73,7 @@ fn serve_by<
         + Net<Listener = TcpListener, Stream = TcpStream>
         + Clock
         + RandomSource
-        + AllocGlobal
-        + Sync
-        + Copy
-        + Drop,
+        + Sync,
     W: Write,
 >(
     rt: &R,

@@ -57,10 +57,7 @@ pub(crate) fn run_beside<
         + Net<Listener = TcpListener, Stream = TcpStream>
         + Clock
         + RandomSource
-        + AllocGlobal
-        + Sync
-        + Copy
-        + Drop,
+        + Sync,
     D: Datagrams + Send,
     S: Streams + Send,
     T: Taker + Send,
@@ -110,10 +107,7 @@ fn run_asked<
         + Net<Listener = TcpListener, Stream = TcpStream>
         + Clock
         + RandomSource
-        + AllocGlobal
-        + Sync
-        + Copy
-        + Drop,
+        + Sync,
     T: Taker + Send,
     O: Outside + Send,
 >(
@@ -135,18 +129,12 @@ fn run_asked<
 
 /// Runs the front. Where it ends by itself, the loops end too.
 fn run_http<
-    R: Wait
-        + Net<Listener = TcpListener, Stream = TcpStream>
-        + Clock
-        + RandomSource
-        + AllocGlobal
-        + Copy
-        + Drop,
+    R: Wait + Net<Listener = TcpListener, Stream = TcpStream> + Clock + RandomSource,
     T: Taker,
     O: Outside,
 >(rt: &R, alloc: Global, front: Fronting<T, O>) -> FrontEnd<T> {
     let Fronting { parts, halt } = front;
-    let ended = run_front(*rt, alloc, parts);
+    let ended = run_front((rt, alloc), alloc, parts);
     if ended.is_err() {
         halt.halt();
     }

@@ -61,9 +61,7 @@ pub fn start<
         + Clock
         + RandomSource
         + AllocGlobal
-        + Sync
-        + Copy
-        + Drop,
+        + Sync,
     R: Read + Drop,
     W: Write,
     F: Write,
@@ -98,9 +96,7 @@ fn run<
         + Clock
         + RandomSource
         + AllocGlobal
-        + Sync
-        + Copy
-        + Drop,
+        + Sync,
     R: Read + Drop,
     W: Write,
     F: Write,
@@ -150,9 +146,7 @@ fn serve_file<
         + Clock
         + RandomSource
         + AllocGlobal
-        + Sync
-        + Copy
-        + Drop,
+        + Sync,
     W: Write,
     F: Write,
 >(rt: &T, file: &str, output: &mut W, faults: &mut F) -> Ended
