@@ -1,2 +1,3 @@
 pub mod Reaches
 pub mod Rounds
+pub mod Sends

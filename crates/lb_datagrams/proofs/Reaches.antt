@@ -1,12 +1,11 @@
 -- What came of a datagram is what comes of its letter.
-use Rattle.std.proofs.Common.{◌≡◌, ℕ, Bool, true, false, List, [], ◌∷◌, ◌++◌, Option, Some, None, ◌==◌, ◌&&◌, refl, sym, ap, ◌∙◌, rules}
-use Rattle.lb_datagrams.specs.Lines.{Comes, SentAs, is_datagram, reaches}
+use Rattle.std.proofs.Common.{◌≡◌, ℕ, Bool, List, Some, sym, ◌∙◌}
+use Rattle.lb_datagrams.specs.Lines.{Comes, SentAs, reaches}
 use Rattle.lb_lines.specs.Letter.{Letter}
 use Rattle.lb_lines.specs.Moves.{is_there}
 use Rattle.lb_lines.specs.Ways.{packet_of}
 use Rattle.lb_lines.specs.declared.report.Sending.{Sending}
 use Rattle.lb_lines.specs.declared.report.Sending.TheVariants.{Done, Failed, Nothing}
-use Rattle.lb_lines.specs.declared.report.Way.TheVariants as ways
 use Rattle.lb_lines.specs.declared.report.Why.TheVariants as whys
 use Rattle.lb_lines.specs.declared.roster.Listed.{Listed}
 use Rattle.lb_lines.specs.declared.traffic.Datagram.{Datagram}

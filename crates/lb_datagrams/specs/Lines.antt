@@ -1,11 +1,9 @@
 -- The lines of a turn of datagrams.
 use Rattle.std.specs.Prelude.{◌≡◌, ℕ, Bool, true, false, List, [], ◌∷◌, ◌++◌, Option, Some, None, ◌==◌, ◌&&◌}
-use Rattle.lb_core.specs.declared.event.Event.{Event}
 use Rattle.lb_lines.specs.Counts.{Fails}
-use Rattle.lb_lines.specs.Events.{timeless}
 use Rattle.lb_lines.specs.Letter.{IsOutcome, Letter, outcome_letter}
 use Rattle.lb_lines.specs.Moves.{is_there}
-use Rattle.lb_lines.specs.Ways.{packet_of}
+use Rattle.lb_lines.specs.Ways.{letter_of, packet_of}
 use Rattle.lb_lines.specs.declared.letter.End.TheVariants.{Client, Server}
 use Rattle.lb_lines.specs.declared.report.Line.{Line}
 use Rattle.lb_lines.specs.declared.report.Line.TheVariants as lines
@@ -53,6 +51,29 @@ IsLine roster listens _ = ⊥
 abbrev pub AreLines : List Listed → (ℕ → Bool) → List Line → Type 0
 AreLines roster listens [] = Unit {0}
 AreLines roster listens (line ∷ more) = IsLine roster listens line × AreLines roster listens more
+
+-- a line whose event a datagram made, with what came of it; its send is to come
+abbrev pub IsAsked : Line → Type 0
+IsAsked (lines.Event source event outcome sending) = (source ≡ sources.Datagrams) × IsOutcome event outcome
+IsAsked _ = ⊥
+
+abbrev pub AreAsked : List Line → Type 0
+AreAsked [] = Unit {0}
+AreAsked (line ∷ more) = IsAsked line × AreAsked more
+
+-- a line with what came of its send
+abbrev pub sent_as : Sending → Line → Line
+sent_as sending (lines.Event source event outcome before) = lines.Event source event outcome sending
+sent_as sending line = line
+
+-- a line before its send and behind it
+abbrev pub IsSent : List Listed → (ℕ → Bool) → Line → Line → Type 0
+IsSent roster listens line sent = (sending : Sending) × (sent ≡ sent_as sending line) × Comes roster listens (letter_of line) sending
+
+abbrev pub AreSent : List Listed → (ℕ → Bool) → List Line → List Line → Type 0
+AreSent roster listens [] [] = Unit {0}
+AreSent roster listens (line ∷ more) (sent ∷ others) = IsSent roster listens line sent × AreSent roster listens more others
+AreSent roster listens _ _ = ⊥
 
 -- a count of failures after a send: it rose where the send failed by a device, and is as it was else
 abbrev pub FailsBy : Bool → ℕ → ℕ → Type 0

@@ -1,16 +1,14 @@
--- What rounds of a turn of datagrams do.
-use Rattle.std.specs.Prelude.{◌≡◌, ℕ, ◌+◌, ◌≤◌, Bool, IsTrue, List, ◌++◌, Option, length, map}
+-- What rounds of a turn of datagrams do, before anything is sent.
+use Rattle.std.specs.Prelude.{◌≡◌, ℕ, ◌+◌, ◌≤◌, List, ◌++◌, Option, length, map}
 use Rattle.lb_core.specs.declared.answer.Answer.{Answer}
 use Rattle.lb_core.specs.declared.event.Event.{Event}
-use Rattle.lb_datagrams.specs.Lines.{AreLines}
-use Rattle.lb_lines.specs.Counts.{Grows, Rose}
+use Rattle.lb_datagrams.specs.Lines.{AreAsked}
+use Rattle.lb_lines.specs.Counts.{Grows}
 use Rattle.lb_lines.specs.Events.{heard, timeless}
-use Rattle.lb_lines.specs.Lines.{FirstFault, any_by_device, events_in, pairs}
+use Rattle.lb_lines.specs.Lines.{FirstFault, events_in, pairs}
 use Rattle.lb_lines.specs.Stamps.{Stamp, Stamped}
-use Rattle.lb_lines.specs.Ways.{packets}
 use Rattle.lb_lines.specs.declared.report.DeviceFault.{DeviceFault}
 use Rattle.lb_lines.specs.declared.report.Line.{Line}
-use Rattle.lb_lines.specs.declared.roster.Listed.{Listed}
 use Rattle.lb_lines.specs.declared.traffic.Datagram.{Datagram}
 
 -- what sockets, taker and outside tell: the datagrams given and taken, the failures of the sockets; the answered calls and the pairs;
@@ -36,14 +34,13 @@ pub record Stamps (old new : List Stamp) (events : List Event) (rounds : ℕ) : 
   pub stamped : Stamped events stamps
 
 -- so many rounds lead from one world to another, with these lines, these held events, and this device fault as the first
-pub record Turns (roster : List Listed) (listens : ℕ → Bool) (rounds : ℕ) (old new : World) (lines : List Line) (held : List Event) (device : Option DeviceFault) : Type 0 where
+pub record Turns (rounds : ℕ) (old new : World) (lines : List Line) (held : List Event) (device : Option DeviceFault) : Type 0 where
   pub heard_all : heard new.given ≡ heard old.given ++ map timeless (events_in lines ++ held)
   pub reads : length new.given ≤ length old.given + rounds
   pub few : length lines + length held ≤ rounds
-  pub sent : new.taken ≡ old.taken ++ packets roster lines
-  pub are : AreLines roster listens lines
+  pub unsent : new.taken ≡ old.taken
+  pub asked : AreAsked lines
   pub counted : new.answered ≡ old.answered + length (pairs lines)
   pub grows : Grows old.pairs new.pairs (pairs lines)
   pub stamps : Stamps old.said new.said (events_in lines ++ held) rounds
-  pub failed : IsTrue (any_by_device lines) → Rose old.failures new.failures
   pub first : FirstFault device old.failures new.failures old.outside new.outside

@@ -1,18 +1,58 @@
 //! What a turn of datagrams sends.
 
-ghost use Rattle.std.specs.Prelude.{Some, ◌++◌, ◌≡◌};
-ghost use Rattle.lb_datagrams.specs.Lines.{Comes, FailsBy, SentAs};
+ghost use Rattle.std.specs.Prelude.{[], IsTrue, Some, ◌++◌, ◌∷◌, ◌≡◌, ◌≢◌, ℕ};
+ghost use Rattle.lb_datagrams.specs.Lines.{AreAsked, AreSent, Comes, FailsBy, IsAsked, IsSent, SentAs};
+ghost use Rattle.lb_lines.specs.Counts.{Rose};
 ghost use Rattle.lb_lines.specs.Letter.{outcome_letter};
-ghost use Rattle.lb_lines.specs.Lines.{is_by_device};
-ghost use Rattle.lb_lines.specs.Ways.{packet_in};
+ghost use Rattle.lb_lines.specs.Lines.{FirstFault, any_by_device, is_by_device};
+ghost use Rattle.lb_lines.specs.Ways.{packet_in, packets, sending_of};
+ghost use Rattle.lb_lines.specs.declared.report.DeviceFault.TheVariants as devices;
 ghost use Rattle.lb_lines.specs.declared.letter.End.TheVariants.{Client, Server};
 
 use lb_core::{Answer, Event};
-use lb_lines::{Datagrams, Endpoint, Outcome, Roster, Sending, Socket, Way, Why};
+use lb_lines::{
+    Datagrams, DeviceFault, Endpoint, Line, Outcome, Roster, Sending, Socket, Way, Why, fault_in,
+    first_fault,
+};
 use lb_wire::{Kind, Lane, Octets, Origin, ServerId};
 
+/// Sends what came of the event of each line, in order, and tells whether a device failed.
+pub(crate) fn send_all<S: Datagrams>(
+    sockets: &mut S,
+    roster: &Roster,
+    lines: &mut [Line],
+) -> Option<DeviceFault>
+    requires asked { AreAsked lines.old }
+    ensures sent { AreSent roster.now.listed (S.listens sockets.old) lines.old lines.new }
+    ensures taken { S.taken sockets.new ≡ S.taken sockets.old ++ packets roster.now.listed lines.new }
+    ensures failed { IsTrue (any_by_device lines.new) → Rose (S.failures sockets.old) (S.failures sockets.new) }
+    ensures device { (o : ℕ) → FirstFault result (S.failures sockets.old) (S.failures sockets.new) o o }
+    ensures clear { result ≢ Some devices.Outside }
+    ensures same { (S.given sockets.new ≡ S.given sockets.old) × (S.listens sockets.new ≡ S.listens sockets.old) }
+{
+    let mut device = None;
+    for line in lines.iter_mut() {
+        send_line(sockets, roster, line);
+        device = first_fault(device, fault_in(line));
+    }
+    device
+}
+
+/// Sends what came of the event of a line.
+fn send_line<S: Datagrams>(sockets: &mut S, roster: &Roster, line: &mut Line)
+    requires asked { IsAsked line.old }
+    ensures sent { IsSent roster.now.listed (S.listens sockets.old) line.old line.new }
+    ensures taken { S.taken sockets.new ≡ S.taken sockets.old ++ packets roster.now.listed (line.new ∷ []) }
+    ensures failed { FailsBy (is_by_device (sending_of line.new)) (S.failures sockets.old) (S.failures sockets.new) }
+    ensures same { (S.given sockets.new ≡ S.given sockets.old) × (S.listens sockets.new ≡ S.listens sockets.old) }
+{
+    if let Line::Event(_, event, outcome, sending) = line {
+        *sending = send_outcome(sockets, roster, event, outcome);
+    }
+}
+
 /// Sends what came of an event: a message at most.
-pub(crate) fn send_outcome<S: Datagrams>(
+fn send_outcome<S: Datagrams>(
     sockets: &mut S,
     roster: &Roster,
     event: &Event,

@@ -1,4 +1,4 @@
-use Rattle.std.proofs.Common.{rules, tests, refl, ◌∙◌, sym, ap}
+use Rattle.std.proofs.Common.{rules, tests, refl}
 use Rattle.lb_datagrams.proofs.Reaches.{comes}
 use Rattle.lb_lines.specs.declared.letter.End.TheVariants.{Client}
 use Rattle.lb_datagrams.proofs.sending.send_to_client.Goals as goal

@@ -1,4 +1,4 @@
-use Rattle.std.proofs.Common.{rules, tests, refl, ◌∙◌, sym, ap}
+use Rattle.std.proofs.Common.{rules, tests}
 use Rattle.lb_datagrams.proofs.Reaches.{comes}
 use Rattle.lb_lines.specs.declared.letter.End.TheVariants.{Server}
 use Rattle.lb_lines.specs.declared.traffic.Socket.TheVariants as sockets

@@ -1,4 +1,4 @@
-use Rattle.std.proofs.Common.{rules, [], ◌∷◌, ◌++◌, ◌≡◌, None, Some, refl, sym, ap, ◌∙◌, arith}
+use Rattle.std.proofs.Common.{rules, [], ◌≡◌, None, Some, refl, sym, ◌∙◌, arith}
 use Rattle.std.proofs.lemmas.List.{append-nil}
 use Rattle.lb_datagrams.specs.Turn.{Turns, World, world}
 use Rattle.lb_lines.specs.declared.report.DeviceFault.TheVariants as devices
@@ -9,7 +9,7 @@ pub returns-in_err-reserve-clause-refused : goal.returns-in_err-reserve-clause-r
 returns-in_err-reserve-clause-refused g c =
     let old : World = world (g.S.Datagrams.given c.args.sockets.now) (g.S.Datagrams.taken c.args.sockets.now) (g.S.Datagrams.failures c.args.sockets.now) (g.T.Taker.answered c.args.taker.now) (g.T.Taker.pairs c.args.taker.now) (g.O.Outside.said c.args.outside.now) (g.O.Outside.failures c.args.outside.now) in
     let same : (old.failures ≡ old.failures) × (old.outside ≡ old.outside) = (refl, refl) in
-    let it : Turns c.args.roster.now.listed (g.S.Datagrams.listens c.args.sockets.now) 1 old old [] [] None = turns_idle c.args.roster.now.listed (g.S.Datagrams.listens c.args.sockets.now) old old [] None refl refl refl refl (sym (append-nil old.said)) (omega arith) same in
+    let it : Turns 1 old old [] [] None = turns_idle old old [] None refl refl refl refl (sym (append-nil old.said)) (omega arith) same in
     search rules
 
 pub returns-in_default-clause-turned : goal.returns-in_default-clause-turned
@@ -17,12 +17,12 @@ returns-in_default-clause-turned g c =
     let old : World = world (g.S.Datagrams.given c.args.sockets.now) (g.S.Datagrams.taken c.args.sockets.now) (g.S.Datagrams.failures c.args.sockets.now) (g.T.Taker.answered c.args.taker.now) (g.T.Taker.pairs c.args.taker.now) (g.O.Outside.said c.args.outside.now) (g.O.Outside.failures c.args.outside.now) in
     let new : World = world (g.S.Datagrams.given c.args.sockets.now) (g.S.Datagrams.taken c.args.sockets.now) (g.S.Datagrams.failures c.args.sockets.now) (g.T.Taker.answered c.args.taker.now) (g.T.Taker.pairs c.args.taker.now) (g.O.Outside.said c.ask.new.self) (g.O.Outside.failures c.ask.new.self) in
     let said : new.said ≡ old.said = search rules in
-    rw c.requires.none (rw c.no_event.ensures (turns_idle c.args.roster.now.listed (g.S.Datagrams.listens c.args.sockets.now) old new [] (Some devices.Outside) refl refl refl refl (said ∙ sym (append-nil old.said)) (omega arith) (refl, search rules)))
+    rw c.requires.none (rw c.no_event.ensures (turns_idle old new [] (Some devices.Outside) refl refl refl refl (said ∙ sym (append-nil old.said)) (omega arith) (refl, search rules)))
 
 pub returns-in-Packet-clause-turned : goal.returns-in-Packet-clause-turned
 returns-in-Packet-clause-turned g c =
     let old : World = world (g.S.Datagrams.given c.args.sockets.now) (g.S.Datagrams.taken c.args.sockets.now) (g.S.Datagrams.failures c.args.sockets.now) (g.T.Taker.answered c.args.taker.now) (g.T.Taker.pairs c.args.taker.now) (g.O.Outside.said c.args.outside.now) (g.O.Outside.failures c.args.outside.now) in
-    let new : World = world (g.S.Datagrams.given c.packet.new.sockets) (g.S.Datagrams.taken c.packet.new.sockets) (g.S.Datagrams.failures c.packet.new.sockets) (g.T.Taker.answered c.packet.new.taker) (g.T.Taker.pairs c.packet.new.taker) (g.O.Outside.said c.ask.new.self) (g.O.Outside.failures c.ask.new.self) in
+    let new : World = world (g.S.Datagrams.given c.receive.new.self) (g.S.Datagrams.taken c.receive.new.self) (g.S.Datagrams.failures c.receive.new.self) (g.T.Taker.answered c.packet.new.taker) (g.T.Taker.pairs c.packet.new.taker) (g.O.Outside.said c.ask.new.self) (g.O.Outside.failures c.ask.new.self) in
     let said = c.ask.ensures.said in
-    turns_read c.args.roster.now.listed (g.S.Datagrams.listens c.args.sockets.now) old new c.in-Packet.datagram (c.in-Some.now, c.in-Some.word) _ _ _
-    (search rules) c.packet.ensures.events c.packet.ensures.stamped c.packet.ensures.few (search rules) (search rules) c.packet.ensures.answered c.packet.ensures.pairs (search rules) (search rules) (search rules)
+    turns_read old new c.in-Packet.datagram (c.in-Some.now, c.in-Some.word) _ _ _
+    (search rules) c.packet.ensures.events c.packet.ensures.stamped c.packet.ensures.few (search rules) c.packet.ensures.asked c.packet.ensures.answered c.packet.ensures.pairs (search rules) (search rules)
