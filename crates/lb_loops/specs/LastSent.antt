@@ -1,7 +1,7 @@
 -- Whether a query may be outstanding.
 use Rattle.std.specs.Prelude.{ℕ, Bool, true, false, not, nat_lt, ◌==◌, ◌&&◌, ◌-◌}
 use Rattle.lb_core.specs.declared.answer.Answer.{Answer}
-use Rattle.lb_core.specs.declared.answer.Answer.TheVariants.{Forward}
+use Rattle.lb_core.specs.declared.answer.Answer.TheVariants.{Deliver, Expired, Forward}
 use Rattle.lb_lines.specs.declared.report.Line.{Line}
 use Rattle.lb_lines.specs.declared.report.Line.TheVariants as lines
 use Rattle.lb_lines.specs.declared.report.Outcome.{Outcome}
@@ -28,3 +28,14 @@ abbrev pub is_sent_on : Line → Bool
 is_sent_on (lines.Event source event outcome sending) = is_forwarded outcome
 is_sent_on (lines.Job job sending) = is_to_server job
 is_sent_on (lines.Probe server word sending) = false
+
+-- an event was answered by handing a query's end to its client
+abbrev pub is_ended : Outcome → Bool
+is_ended (Answered (Deliver origin sent kept)) = true
+is_ended (Answered (Expired origin sent)) = true
+is_ended _ = false
+
+-- a query is over by a line
+abbrev pub is_over : Line → Bool
+is_over (lines.Event source event outcome sending) = is_ended outcome
+is_over _ = false

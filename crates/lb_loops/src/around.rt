@@ -4,7 +4,7 @@ ghost use Rattle.std.specs.Prelude.{◌≡◌, ◌≤◌};
 ghost use Rattle.lb_loops.specs.Fault.{end_behind};
 
 use crate::fault::{LoopFault, ends};
-use crate::last_sent::{LastSent, has_sent_on};
+use crate::last_sent::LastSent;
 use lb_clock::ClockLoop;
 use lb_lines::{Datagrams, Outside, Posts, Report, Roster, Taker, Waker};
 use std::sync::atomic::{AtomicBool, Ordering};
@@ -50,13 +50,13 @@ impl<G, W: Waker> Around<G, W> {
         }
     }
 
-    /// Whether a loop goes on behind a turn. Where it does, it is noted whether the turn sent a query on: a clock that rests is woken, so that the
-    /// query's end is not told late.
+    /// Whether a loop goes on behind a turn, whose queries that were sent on and that are over are noted: where one was sent on, a clock that rests is
+    /// woken, so that the query's end is not told late.
     pub(crate) fn behind(&self, report: &Report) -> Result<(), LoopFault>
         ensures { result ≡ end_behind report.now.is_held report.now.device }
     {
         let goes_on = ends(report);
-        if has_sent_on(&report.lines) && self.sent.note() {
+        if self.sent.note(&report.lines) {
             self.clock.wake();
         }
         goes_on

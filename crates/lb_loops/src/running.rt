@@ -5,7 +5,7 @@ ghost use Rattle.lb_loops.specs.Running.{ReceivesOn, SendsOn};
 
 use crate::around::Around;
 use crate::datagram_loop::DatagramLoop;
-use crate::fault::{LoopFault, ends};
+use crate::fault::LoopFault;
 use crate::parts::{ClockParts, DatagramParts, StreamParts};
 use lb_clock::{ClockLoop, clock_turn};
 use lb_core::Event;
@@ -249,7 +249,7 @@ fn one_of_ticks<R: Wait, S: Datagrams, P: Posts, T: Taker, O: Outside, G: Gate, 
     ensures sent { SendsOn part.old.outbox part.new.outbox }
 {
     let report = clock_turn(rt, part, roster, &around.gate)?;
-    ends(&report)?;
+    around.behind(&report)?;
     if report.lines.iter().any(is_job) {
         around.streams.wake();
     }
