@@ -60,9 +60,9 @@ def need(wanted):
     ended = subprocess.run(install, capture_output=True, text=True, env=environment, check=False)
     if ended.returncode != 0:
         sys.exit(f"{' '.join(install)} ended with status {ended.returncode} (apt-get update may help):\n{ended.stderr[-600:]}")
-    for package in packages:  # Debian's packages of servers begin to serve as they are installed
-        if package in ("nsd", "unbound", "dnsdist") and shutil.which("service"):
-            subprocess.run(["service", package, "stop"], capture_output=True, check=False)
+    for program in missing:  # Debian's packages of servers begin to serve as they are installed
+        if program in ("nsd", "unbound", "dnsdist", "nginx") and shutil.which("service"):
+            subprocess.run(["service", program, "stop"], capture_output=True, check=False)
     still = [program for program in missing if not shutil.which(program)]
     if still:
         sys.exit(f"still missing after the installation: {', '.join(still)}")
