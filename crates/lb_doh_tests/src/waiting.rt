@@ -29,10 +29,10 @@ fn from(number: u64) -> Origin {
     }
 }
 
-/// These octets, as those of a message.
+/// These octets, as those of a message; none where they are too many for one.
 fn octets(alloc: Global, bytes: &[u8]) -> Result<Octets, AllocError> {
     if bytes.len() > MAX_MESSAGE {
-        return Err(AllocError);
+        return Ok(Octets::from_vec(Vec::new(alloc)));
     }
     Ok(Octets::from_vec(Vec::from_slice(alloc, bytes)?))
 }
