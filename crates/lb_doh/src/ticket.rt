@@ -1,6 +1,7 @@
 //! A place among the requests that wait.
 
-ghost use Rattle.std.specs.Prelude.{◌≡◌};
+ghost use Rattle.std.specs.Prelude.{◌≡◌, IfOk};
+ghost use Rattle.lb_doh.specs.Ticket.{IsPlace};
 
 use crate::fault::EnterFault;
 use crate::posts::Requests;
@@ -48,7 +49,9 @@ impl<R: Wait + Drop> Ticket<R> {
         rt: R,
         alloc: Global,
         requests: Arc<Requests>,
-    ) -> Result<(Ticket<R>, Brought), EnterFault> {
+    ) -> Result<(Ticket<R>, Brought), EnterFault>
+        ensures { IfOk result (λ taken. IsPlace taken.0 taken.1) }
+    {
         let (bringer, brought) = oneshot::channel(alloc)?;
         let number = requests.lock(&rt).enter(bringer)?;
         Ok((

@@ -1,2 +1,3 @@
 mod Builders
 mod Crosses
+mod Stages

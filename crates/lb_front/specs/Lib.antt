@@ -3,3 +3,4 @@ pub use Rattle.lb_http.specs.Request as HttpRequest
 pub use Rattle.lb_doh.specs.Asking
 pub mod Heads
 pub mod Response
+pub mod Answering

@@ -1,11 +1,13 @@
 -- A response as hyper sends it.
-use Rattle.std.specs.Prelude.{◌≡◌, ℕ, ◌==◌, List, [], ◌∷◌, ◌++◌, length, map, codes, decimal, if◌then◌else◌, Option, None, Some}
+use Rattle.std.specs.Prelude.{◌≡◌, ⊤, ℕ, ◌==◌, List, [], ◌∷◌, ◌++◌, length, map, codes, decimal, if◌then◌else◌, Option, None, Some}
 use Rattle.http.specs.Response.{body_of, head_of}
 use Rattle.http.specs.declared.response.Response.{Response}
 use Rattle.http_body_util.specs.declared.full.Full.{Full}
 use Rattle.http_header.specs.FieldValue.{plain_value}
 use Rattle.http_header.specs.HeaderMap.{append_all}
 use Rattle.lb_http.specs.declared.response.DohResponse.{DohResponse}
+use Rattle.lb_front.specs.declared.cut.Cut.{Cut}
+use Rattle.lb_front.specs.declared.cut.Cut.TheVariants as cuts
 
 -- The header lines: of a response with a message its media type and how many seconds it may be kept (RFC 8484 sections 5.1 and 6); of 405 the
 -- methods that are served (RFC 9110 section 15.5.6); of others none. hyper writes the length, and what a connection needs.
@@ -24,3 +26,9 @@ pub record IsBuilt (response : DohResponse) (http : Response (Full (List ℕ))) 
   pub status : (head_of http).status ≡ response.status
   pub lines : (head_of http).headers ≡ append_all [] (map (λ line. (line.0, plain_value line.1)) (lines_for response.status response.max_age response.body))
   pub body : (body_of http).buf ≡ content response.body
+
+-- a response was not built: for want of memory, or as a header line or a status is not one of HTTP
+abbrev pub IsUnbuilt : Cut → Type 0
+IsUnbuilt cuts.NoMemory = ⊤
+IsUnbuilt (cuts.Response error) = ⊤
+IsUnbuilt cut = ⊥

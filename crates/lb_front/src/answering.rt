@@ -1,7 +1,15 @@
 //! A request from its head to its response.
 
-ghost use Rattle.std.specs.Prelude.{IfSome};
-ghost use Rattle.futures.specs.Task.{Keeps};
+ghost use Rattle.std.specs.Prelude.{◌≡◌, ◌⊎◌, IfErr, IfOk, IfSome, List, MatchOption, None, Ok, Err, Option, Result, Some, ℕ};
+ghost use Rattle.futures.specs.Poll.{IfReady, OnPending};
+ghost use Rattle.futures.specs.Task.{Covers, Keeps};
+ghost use Rattle.http.specs.Request.{body_of};
+ghost use Rattle.hyper.specs.Incoming.{size_left};
+ghost use Rattle.lb_http.specs.declared.fault.DohFault.{DohFault};
+ghost use Rattle.lb_front.specs.Answering.{Comes, FromAnswer, FromBody, FromMessage, FromRead, Gives, GivesBody, HasAtLeast, IsAskedFor, IsBody, IsSaidUnder, IsUnasked, ReadsOctets, Says, StandsAt, origin_of};
+ghost use Rattle.lb_front.specs.Heads.{Begins, ReadsHead};
+ghost use Rattle.lb_front.specs.declared.cut.Cut.TheVariants as cuts;
+ghost use Rattle.lb_front.specs.declared.heads.First.{First};
 
 use crate::cut::Cut;
 use crate::heads::{Client, First, first_of, read_body};
@@ -15,7 +23,7 @@ use http_body_util::combinators::Collect;
 use http_body_util::{BodyExt, Collected, Limited, LimitedError};
 use hyper::body::Incoming;
 use hyper::service::Service;
-use lb_doh::{Brought, DohFault, Ticket, carrying, refused, unavailable};
+use lb_doh::{Asker, Brought, DohFault, DohResponse, Ticket, carrying, refused, unavailable};
 use lb_lines::{Outside, Taker, Waker};
 use lb_wire::{MAX_MESSAGE, Octets};
 use std::alloc::Global;
@@ -35,6 +43,9 @@ pub(crate) struct Front<R, T: Taker, O: Outside, W: Waker> {
     pub(crate) client: Client,
     pub(crate) shared: Option<Arc<Shared<T, O, W>>>,
 }
+
+/// What a request ends with: its response, or the end of its connection.
+type Ended = Result<HttpResponse, Cut>;
 
 /// What a request waits for.
 #[derive(Drop)]
@@ -82,6 +93,10 @@ where
 
     type Future = Answering<R, T, O, W, Collect<Limited<Incoming<I>>>>;
 
+    ghost calls = { λ front request answering.
+        (answering.client ≡ front.client)
+        × ((least : ℕ) × HasAtLeast (size_left (body_of request).kind) least × (read : Result (List ℕ) DohFault) × (first : First) × ReadsHead request read × Begins read least first × StandsAt first answering.stage) };
+
     fn call(&self, request: Request<Incoming<I>>) -> Self::Future {
         let least = request.body().size_hint().lower();
         let stage = stage_of(first_of(self.alloc, &request, least));
@@ -106,7 +121,9 @@ fn shared_again<S>(shared: &Option<Arc<S>>) -> Option<Arc<S>> {
 }
 
 /// What a request waits for first.
-fn stage_of<R: Wait + Drop>(first: First) -> Stage<R> {
+fn stage_of<R: Wait + Drop>(first: First) -> Stage<R>
+    ensures { StandsAt first result }
+{
     match first {
         First::Message(message) => Stage::Message(message),
         First::Body => Stage::Body(None),
@@ -119,37 +136,65 @@ impl<R: Wait + Clock + Copy + Drop, T: Taker, O: Outside, W: Waker, F> Answering
     fn message_of<E: Drop>(
         &self,
         body: Result<Collected, LimitedError<E>>,
-    ) -> Result<Result<Octets, DohFault>, Cut> {
+    ) -> Result<Result<Octets, DohFault>, Cut>
+        ensures { Comes body result }
+    {
         let bytes = match body {
             Ok(collected) => collected.to_bytes()?,
             Err(LimitedError::LengthLimit) => return Ok(Err(DohFault::TooLong)),
             Err(LimitedError::Body(_)) => return Err(Cut::Body),
         };
+        self.read_octets(bytes.as_slice())
+    }
+
+    /// What the octets of a body are read as.
+    fn read_octets(&self, bytes: &[u8]) -> Result<Result<Octets, DohFault>, Cut>
+        ensures read { IfOk result (ReadsOctets bytes.now) }
+        ensures cut { IfErr result (λ cut. cut ≡ cuts.NoMemory) }
+    {
         if bytes.len() > MAX_MESSAGE {
             return Ok(Err(DohFault::TooLong));
         }
-        let octets = Octets::from_vec(Vec::from_slice(self.alloc, bytes.as_slice())?);
+        let octets = Octets::from_vec(Vec::from_slice(self.alloc, bytes)?);
         Ok(read_body(self.alloc, octets))
     }
 
     /// Asks the desk. The request stands among those that wait before its message goes there.
-    fn ask(&self, message: Octets) -> Result<Asked<R>, Cut> {
+    fn ask(&self, message: Octets) -> Result<Asked<R>, Cut>
+        ensures asked { IfOk result (IsAskedFor self.now.client message) }
+        ensures cut { IfErr result IsUnasked }
+    {
         let Some(shared) = &self.shared else {
             return Ok(Asked::Response(built(self.alloc, unavailable())?));
         };
-        let (ticket, brought) = Ticket::taken(
-            self.rt,
-            self.alloc,
-            Arc::try_clone(&shared.requests)?,
-        )?;
-        let origin = self.client.origin(ticket.number());
-        let answered = match &mut *shared.asker.lock(&self.rt) {
-            Some(asker) => asker.ask(&self.rt, origin, message),
-            None => Some(unavailable()),
-        };
-        match answered {
+        let requests = Arc::try_clone(&shared.requests)?;
+        let (ticket, brought) = Ticket::taken(self.rt, self.alloc, requests)?;
+        match self.said_to(shared, ticket.number(), message) {
             Some(response) => Ok(Asked::Response(built(self.alloc, response)?)),
             None => Ok(Asked::Waits(brought, ticket)),
+        }
+    }
+
+    /// What the desk says to a message that is asked under this number. The front's part of it is behind its lock.
+    fn said_to(&self, shared: &Shared<T, O, W>, number: u64, message: Octets) -> Option<DohResponse>
+        ensures { IsSaidUnder self.now.client message number result }
+    {
+        let mut asker = shared.asker.lock(&self.rt);
+        self.said_by(&mut asker, number, message)
+    }
+
+    /// What this part of the desk says to a message that is asked under this number; 503 where it was given back. None: the request waits.
+    fn said_by(
+        &self,
+        asker: &mut Option<Asker<T, O, W>>,
+        number: u64,
+        message: Octets,
+    ) -> Option<DohResponse>
+        ensures { Says (origin_of self.now.client number) message asker.old asker.new result }
+    {
+        match asker {
+            Some(asker) => asker.ask(&self.rt, self.client.origin(number), message),
+            None => Some(unavailable()),
         }
     }
 
@@ -172,6 +217,122 @@ fn is_over(late: &mut Option<Sleep>, cx: &mut Context<'_>) -> bool
     }
 }
 
+impl<R, T, O, W, F, E> Answering<R, T, O, W, F>
+where
+    R: Wait + Clock + Copy + Drop,
+    T: Taker,
+    O: Outside,
+    W: Waker,
+    F: Future<Output = Result<Collected, LimitedError<E>>>,
+    E: Drop,
+{
+    /// Reads the body on, for which there is so much time. Once it has come, goes on with what it is read as.
+    fn poll_body(&mut self, late: Option<Sleep>, cx: &mut Context<'_>) -> Poll<Ended>
+        requires { IfSome self.old.reading F.can_poll }
+        ensures value { IfReady result (GivesBody F.gives self.old.client self.old.reading) }
+        ensures again { OnPending result (IfSome self.new.reading F.can_poll) }
+        ensures same { OnPending result ((x : _) → Gives F.gives self.new.client self.new.reading self.new.stage x → GivesBody F.gives self.old.client self.old.reading x) }
+        ensures registered { OnPending result (Covers cx.new (λ _. ⊥)) }
+        ensures kept { Keeps cx.old cx.new }
+    {
+        let Some(mut reading) = self.reading.take() else {
+            return Poll::Ready(Err(Cut::Body));
+        };
+        match reading.poll(cx) {
+            Poll::Ready(body) => {
+                let read = self.message_of(body);
+                self.poll_read(read, cx)
+            }
+            Poll::Pending => self.wait_for_body(reading, late, cx),
+        }
+    }
+
+    /// Waits for the rest of a body that was polled, unless it takes too long.
+    fn wait_for_body(
+        &mut self,
+        reading: F,
+        mut late: Option<Sleep>,
+        cx: &mut Context<'_>,
+    ) -> Poll<Ended>
+        requires can_poll { F.can_poll reading }
+        requires registered { Covers cx.old (λ _. ⊥) }
+        ensures value { IfReady result (λ x. x ≡ Err cuts.Body) }
+        ensures waits { OnPending result ((self.new.client ≡ self.old.client) × (self.new.reading ≡ Some reading) × IsBody self.new.stage) }
+        ensures registered { OnPending result (Covers cx.new (λ _. ⊥)) }
+        ensures kept { Keeps cx.old cx.new }
+    {
+        if late.is_none() {
+            late = self.limit();
+        }
+        if is_over(&mut late, cx) {
+            return Poll::Ready(Err(Cut::Body));
+        }
+        self.reading = Some(reading);
+        self.stage = Stage::Body(late);
+        Poll::Pending
+    }
+
+    /// Goes on with what a body was read as.
+    fn poll_read(
+        &mut self,
+        read: Result<Result<Octets, DohFault>, Cut>,
+        cx: &mut Context<'_>,
+    ) -> Poll<Ended>
+        requires { IfSome self.old.reading F.can_poll }
+        ensures value { IfReady result (FromRead self.old.client read) }
+        ensures again { OnPending result (IfSome self.new.reading F.can_poll) }
+        ensures same { OnPending result ((x : _) → Gives F.gives self.new.client self.new.reading self.new.stage x → FromRead self.old.client read x) }
+        ensures registered { OnPending result (Covers cx.new (λ _. ⊥)) }
+        ensures kept { Keeps cx.old cx.new }
+    {
+        match read {
+            Ok(Ok(message)) => self.poll_message(message, cx),
+            Ok(Err(fault)) => Poll::Ready(built(self.alloc, refused(fault))),
+            Err(cut) => Poll::Ready(Err(cut)),
+        }
+    }
+
+    /// Asks the desk for a message, and waits for the answer where there is none at once.
+    fn poll_message(&mut self, message: Octets, cx: &mut Context<'_>) -> Poll<Ended>
+        requires { IfSome self.old.reading F.can_poll }
+        ensures value { IfReady result (FromMessage self.old.client message) }
+        ensures again { OnPending result (IfSome self.new.reading F.can_poll) }
+        ensures same { OnPending result ((x : _) → Gives F.gives self.new.client self.new.reading self.new.stage x → FromMessage self.old.client message x) }
+        ensures registered { OnPending result (Covers cx.new (λ _. ⊥)) }
+        ensures kept { Keeps cx.old cx.new }
+    {
+        match self.ask(message) {
+            Ok(Asked::Response(response)) => Poll::Ready(Ok(response)),
+            Ok(Asked::Waits(brought, ticket)) => self.poll_answer(brought, ticket, cx),
+            Err(cut) => Poll::Ready(Err(cut)),
+        }
+    }
+
+    /// Looks whether the answer was brought, and waits for it where it was not.
+    fn poll_answer(
+        &mut self,
+        mut brought: Brought,
+        ticket: Ticket<R>,
+        cx: &mut Context<'_>,
+    ) -> Poll<Ended>
+        requires { IfSome self.old.reading F.can_poll }
+        ensures value { IfReady result FromAnswer }
+        ensures again { OnPending result (IfSome self.new.reading F.can_poll) }
+        ensures same { OnPending result ((x : _) → Gives F.gives self.new.client self.new.reading self.new.stage x → FromAnswer x) }
+        ensures registered { OnPending result (Covers cx.new (λ _. ⊥)) }
+        ensures kept { Keeps cx.old cx.new }
+    {
+        match brought.poll(cx) {
+            Poll::Ready(Ok(octets)) => Poll::Ready(built(self.alloc, carrying(octets))),
+            Poll::Ready(Err(_)) => Poll::Ready(Err(Cut::Unanswered)),
+            Poll::Pending => {
+                self.stage = Stage::Answer(brought, ticket);
+                Poll::Pending
+            }
+        }
+    }
+}
+
 impl<R, T, O, W, F, E> Future for Answering<R, T, O, W, F>
 where
     R: Wait + Clock + Copy + Drop,
@@ -185,51 +346,15 @@ where
 
     ghost can_poll = { λ a. IfSome a.reading F.can_poll };
 
-    fn poll(&mut self, cx: &mut Context<'_>) -> Poll<Result<HttpResponse, Cut>> {
-        let mut stage = mem::replace(&mut self.stage, Stage::Over);
-        if let Stage::Body(mut late) = stage {
-            let Some(mut reading) = self.reading.take() else {
-                return Poll::Ready(Err(Cut::Body));
-            };
-            match reading.poll(cx) {
-                Poll::Ready(body) => {
-                    stage = match self.message_of(body) {
-                        Ok(Ok(message)) => Stage::Message(message),
-                        Ok(Err(fault)) => Stage::Refused(fault),
-                        Err(cut) => return Poll::Ready(Err(cut)),
-                    };
-                }
-                Poll::Pending => {
-                    if late.is_none() {
-                        late = self.limit();
-                    }
-                    if is_over(&mut late, cx) {
-                        return Poll::Ready(Err(Cut::Body));
-                    }
-                    self.reading = Some(reading);
-                    self.stage = Stage::Body(late);
-                    return Poll::Pending;
-                }
-            }
-        }
-        if let Stage::Message(message) = stage {
-            match self.ask(message) {
-                Ok(Asked::Response(response)) => return Poll::Ready(Ok(response)),
-                Ok(Asked::Waits(brought, ticket)) => stage = Stage::Answer(brought, ticket),
-                Err(cut) => return Poll::Ready(Err(cut)),
-            }
-        }
-        match stage {
-            Stage::Answer(mut brought, ticket) => match brought.poll(cx) {
-                Poll::Ready(Ok(octets)) => Poll::Ready(built(self.alloc, carrying(octets))),
-                Poll::Ready(Err(_)) => Poll::Ready(Err(Cut::Unanswered)),
-                Poll::Pending => {
-                    self.stage = Stage::Answer(brought, ticket);
-                    Poll::Pending
-                }
-            },
+    ghost gives = { λ a. Gives F.gives a.client a.reading a.stage };
+
+    fn poll(&mut self, cx: &mut Context<'_>) -> Poll<Ended> {
+        match mem::replace(&mut self.stage, Stage::Over) {
+            Stage::Body(late) => self.poll_body(late, cx),
+            Stage::Message(message) => self.poll_message(message, cx),
+            Stage::Answer(brought, ticket) => self.poll_answer(brought, ticket, cx),
             Stage::Refused(fault) => Poll::Ready(built(self.alloc, refused(fault))),
-            _ => Poll::Ready(Err(Cut::Unanswered)),
+            Stage::Over => Poll::Ready(Err(Cut::Unanswered)),
         }
     }
 }

@@ -1,7 +1,7 @@
 //! Responses as hyper sends them.
 
-ghost use Rattle.std.specs.Prelude.{IfOk, None, Some};
-ghost use Rattle.lb_front.specs.Response.{IsBuilt};
+ghost use Rattle.std.specs.Prelude.{IfErr, IfOk, None, Some};
+ghost use Rattle.lb_front.specs.Response.{IsBuilt, IsUnbuilt};
 
 use crate::cut::Cut;
 use bytes::Bytes;
@@ -16,7 +16,8 @@ pub(crate) type HttpResponse = Response<Full<Bytes>>;
 /// The response with its header lines. One with a message has its media type and how long it may be kept; another has no body, and that of a
 /// method that is not served says which are.
 pub(crate) fn built(alloc: Global, response: DohResponse) -> Result<HttpResponse, Cut>
-    ensures { IfOk result (IsBuilt response) }
+    ensures response { IfOk result (IsBuilt response) }
+    ensures cut { IfErr result IsUnbuilt }
 {
     let DohResponse {
         status,
@@ -36,7 +37,8 @@ fn with_message(
     max_age: u32,
     message: Vec<u8>,
 ) -> Result<HttpResponse, Cut>
-    ensures { IfOk result (IsBuilt (record { status = status; max_age = max_age; body = Some message.items })) }
+    ensures response { IfOk result (IsBuilt (record { status = status; max_age = max_age; body = Some message.items })) }
+    ensures cut { IfErr result IsUnbuilt }
 {
     let kept = format!(in alloc; "max-age={max_age}")?;
     let body = match Bytes::from_vec(message) {
@@ -52,7 +54,8 @@ fn with_message(
 
 /// A response without a body. hyper says that its length is 0.
 fn without_body(alloc: Global, status: u16) -> Result<HttpResponse, Cut>
-    ensures { IfOk result (IsBuilt (record { status = status; max_age = 0; body = None })) }
+    ensures response { IfOk result (IsBuilt (record { status = status; max_age = 0; body = None })) }
+    ensures cut { IfErr result IsUnbuilt }
 {
     let nothing = Full::new(Bytes::from_static(b""));
     let response = Response::builder(alloc).status(status);

@@ -6,8 +6,8 @@ use Rattle.http_header.specs.HeaderMap.{append}
 use Rattle.lb_front.proofs.Builders.{given, with_lines}
 use Rattle.lb_front.proofs.response.with_message.Goals as goal
 
-pub returns : goal.returns
-returns c =
+pub returns-clause-response : goal.returns-clause-response
+returns-clause-response c =
     let media = plain_value (codes "application/dns-message") in
     let text : c.as_str.result.now ≡ codes "max-age=" ++ decimal c.args.max_age = search rules in
     let lines = with_lines c.args.status (codes "content-type") (codes "cache-control") media (plain_value c.as_str.result.now) c.builder.result.inner c.status.result.inner c.header.result.inner c.header-response.result.inner
