@@ -1,6 +1,6 @@
 //! A walk over pairs in their order.
 
-ghost use Rattle.std.specs.Prelude.{◌≡◌, ◌≤◌, drop, length, option_copied, slice_get};
+ghost use Rattle.std.specs.Prelude.{◌≡◌, ◌≤◌, drop, length, option_copied, option_map, slice_get};
 ghost use Rattle.std.specs.List.{All};
 ghost use Rattle.lb_ranks.specs.Cursor.{left_below, next_below as next_below_of};
 ghost use Rattle.lb_ranks.specs.Chunk.{back_of, IsFilled, IsPlace};
@@ -67,6 +67,19 @@ impl<'a> Cursor<'a> {
             self.chunks = rest;
             self.place = 0;
         }
+    }
+
+    /// Passes the next pair and gives its rank.
+    pub fn next(&mut self) -> Option<u64>
+        ensures rank { result ≡ option_map (λ f. f.rank) (slice_get self.old 0) }
+        ensures left { self.new ≡ drop 1 self.old }
+    {
+        let rank = match self.head() {
+            Some(filed) => filed.rank(),
+            None => return None,
+        };
+        self.pass();
+        Some(rank)
     }
 
     /// Passes the next pair and gives its rank, where its key stands before this one.
