@@ -1,6 +1,6 @@
 -- What the list of a chain keeps true, and what it keeps true as it is seen at a moment.
-use Rattle.std.proofs.Common.{◌≡◌, ℕ, ◌+◌, ◌<◌, ◌≤◌, ◌==◌, cond, true, List, [], ◌∷◌, length, get_or, inl, inr, refl, ◌∙◌, ap, arith, eq-eqb}
-use Rattle.std.specs.List.{All, sum_by}
+use Rattle.std.proofs.Common.{◌≡◌, ℕ, ◌+◌, ◌<◌, ◌≤◌, cond, List, [], ◌∷◌, length, get_or, inl, inr, refl, ap, arith, eq-eqb}
+use Rattle.std.specs.List.{All}
 use Rattle.std.proofs.lemmas.Bool.{cases_lt}
 use Rattle.std.proofs.lemmas.List.{length-map}
 use Rattle.std.proofs.lemmas.List.Elements.{All-cons, All-head, All-map, All-nil, All-tail, All-weaker}
@@ -9,7 +9,7 @@ use Rattle.lb_limits.specs.Laws.{RecentArePasses}
 use Rattle.lb_limits.specs.Window.{ArePasses, Limits}
 use Rattle.lb_chain.specs.declared.numbered.Numbered.{Numbered}
 use Rattle.lb_chain.specs.Chain.{AreRules, HasPasses, IsChain, SeenAreRules, with_id}
-use Rattle.lb_chain.specs.Edits.{Rules, limiters_in}
+use Rattle.lb_chain.specs.Edits.{limiters_in}
 use Rattle.lb_chain.specs.Seen.{seen_limits, seen_rule, seen_rules}
 use Rattle.lb_chain.proofs.Chains.{has_id, passes_of_each}
 

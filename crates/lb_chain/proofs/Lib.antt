@@ -13,3 +13,13 @@ pub mod Counted
 pub mod CountedFrom
 pub mod Listings
 pub mod Crosses
+pub mod PassedBy
+pub mod Reordered
+pub mod Filed
+pub mod Asked
+pub mod Shapes
+pub mod Rising
+pub mod PairsOf
+pub mod Edited
+pub mod Offered
+pub mod Renumbered

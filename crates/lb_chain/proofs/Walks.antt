@@ -2,6 +2,7 @@
 use Rattle.std.proofs.Common.{◌≡◌, Bool, true, false, ℕ, ◌+◌, ◌<◌, ◌≤◌, ◌&&◌, ◌||◌, if◌then◌else◌, List, [], ◌∷◌, ◌++◌, length, get_or, drop, Option, Some, None, refl, sym, ap, subst, ◌∙◌, arith, append_assoc, length-append}
 use Rattle.std.specs.List.{All}
 use Rattle.std.proofs.lemmas.List.{append-nil, drop_more, length-map}
+use Rattle.std.proofs.Math.Seq.{drop-length}
 use Rattle.std.proofs.lemmas.List.Concat.{flat_map-cons}
 use Rattle.std.proofs.lemmas.Grind.{flat_map-append}
 use Rattle.std.proofs.lemmas.List.Elements.{All-head, All-tail}
@@ -168,3 +169,25 @@ pub no_rule_allows : (rules : List Numbered) (view : QueryView) (addr : Addr) (k
 no_rule_allows [] view addr kind now is = refl
 no_rule_allows (n ∷ rules) view addr kind now is =
     allowed_past n (truth_of n view addr now) (ending_of n.rule.action view kind) (passes_of n view addr now) (walk_of rules view addr kind now) (no_rule_allows rules view addr kind now) is
+
+-- the walk ends at a rule
+pub ends_here : (rules : List Numbered) (i : ℕ) (n : Numbered) (verdict : Verdict) (view : QueryView) (addr : Addr) (kind : Kind) (now : ℕ) (a b : Bool) (ps qs : List Passed) (whole : Walked) → i < length rules → n ≡ get_or rules i n → truth_of n view addr now ≡ true → ending_of n.rule.action view kind ≡ Some verdict → qs ≡ ps ++ passes_of n view addr now → with_before a b ps (walk_of (drop i rules) view addr kind now) ≡ whole → record { rule = Some n.id; verdict = verdict; no_recurse = a; skip_cache = b; passes = qs } ≡ whole
+ends_here rules i n verdict view addr kind now a b ps qs whole lt is holds ends next before =
+    let after : Walked = walk_of (drop (i + 1) rules) view addr kind now in
+    let own : List Passed = passes_of n view addr now in
+    let end : Walked = record { rule = Some n.id; verdict = verdict; no_recurse = false; skip_cache = false; passes = own } in
+    ap (λ (x : List Passed). record end { no_recurse = a; skip_cache = b; passes = x }) next
+    ∙ sym (with_flags a b ps end refl refl)
+    ∙ sym (ap (λ (ending : Option Verdict). with_before a b ps (ended_by n ending own after)) ends)
+    ∙ sym (ap (λ (truth : Bool). with_before a b ps (tested_by n truth (ending_of n.rule.action view kind) own after)) holds)
+    ∙ sym (ap (with_before a b ps) (walk_more rules i n view addr kind now lt is))
+    ∙ before
+
+-- or behind the last
+pub ends_behind : (rules : List Numbered) (i : ℕ) (view : QueryView) (addr : Addr) (kind : Kind) (now : ℕ) (a b : Bool) (ps : List Passed) (whole : Walked) → i ≡ length rules → with_before a b ps (walk_of (drop i rules) view addr kind now) ≡ whole → record { rule = None; verdict = verdicts.Allow; no_recurse = a; skip_cache = b; passes = ps } ≡ whole
+ends_behind rules i view addr kind now a b ps whole at before =
+    let none : drop i rules ≡ [] = ap (λ (k : ℕ). drop k rules) at ∙ drop-length rules in
+    ap (λ (x : List Passed). record no_rule { no_recurse = a; skip_cache = b; passes = x }) (sym (append-nil ps))
+    ∙ sym (with_flags a b ps no_rule refl refl)
+    ∙ sym (ap (λ (ns : List Numbered). with_before a b ps (walk_of ns view addr kind now)) none)
+    ∙ before

@@ -12,3 +12,5 @@ pub mod Listed
 pub mod Chain
 pub mod Places
 pub mod Addrs
+pub mod Offers
+pub mod Filing

@@ -16,6 +16,7 @@ use crate::edits::{insert_rule, move_rule, place_of};
 use crate::fault::ChainFault;
 use crate::listed::{Listed, list_rules, list_rules_at};
 use crate::numbered::Numbered;
+use crate::offers::Offers;
 use crate::places::Places;
 use crate::rule::Rule;
 use crate::walk::walk_rules;
@@ -40,9 +41,12 @@ pub struct Chain {
     moment: u64,
     /// How many limiters the rules have.
     limiters: usize,
+    /// The rules, in the order in which they are tested.
     rules: Vec<Numbered>,
     /// Where the rules stand that have limiters; found anew after each edit.
     places: Places,
+    /// Which rules may hold of a query, by what they ask first; a walk tests these alone.
+    offers: Offers,
 }
 
 impl Model for Chain {
@@ -50,6 +54,7 @@ impl Model for Chain {
     ghost use Rattle.lb_chain.specs.Edits.{Rules};
     ghost use Rattle.lb_chain.specs.Chain.{IsChain};
     ghost use Rattle.lb_chain.specs.Places.{places_of};
+    ghost use Rattle.lb_chain.specs.Offers.{AreOffers, terms_of};
     ghost use Rattle.std.specs.Prelude.{◌≡◌};
 
     ghost Value = { Rules };
@@ -61,7 +66,7 @@ impl Model for Chain {
 
     ghost view = { λ c. record { next = c.last_rule + 1; moment = c.moment; rules = c.rules.items } };
 
-    ghost invariant = { λ c. IsChain c.last_rule c.moment c.limiters c.rules.items × (c.places ≡ places_of c.rules.items) };
+    ghost invariant = { λ c. IsChain c.last_rule c.moment c.limiters c.rules.items × (c.places ≡ places_of c.rules.items) × AreOffers c.offers (terms_of c.rules.items) };
 }
 
 impl Chain {
@@ -75,6 +80,7 @@ impl Chain {
             limiters: 0,
             rules: Vec::new(alloc),
             places: Places::new(),
+            offers: Offers::new(alloc),
         }
     }
 
@@ -151,7 +157,7 @@ impl Chain {
             return Err(ChainFault::NoMoreIds);
         }
         let id = self.last_rule + 1;
-        match insert_rule(&mut self.rules, place, id, rule) {
+        match insert_rule(&mut self.rules, &mut self.offers, place, id, rule) {
             Ok(()) => {
                 self.limiters += count;
                 self.last_rule = id;
@@ -170,6 +176,7 @@ impl Chain {
             return Err(ChainFault::NoSuchRule);
         };
         let gone = self.rules.remove(at);
+        self.offers.remove(at, &gone.rule.term);
         self.limiters -= gone.limits.len();
         self.places = Places::of(self.rules.as_slice());
         Ok(())
@@ -187,7 +194,7 @@ impl Chain {
         if place >= self.rules.len() {
             return Err(ChainFault::BadPlace);
         }
-        move_rule(&mut self.rules, at, place);
+        move_rule(&mut self.rules, &mut self.offers, at, place)?;
         self.places = Places::of(self.rules.as_slice());
         Ok(())
     }
@@ -198,7 +205,7 @@ impl Chain {
         requires { self.now.moment ≤ now }
         ensures { result ≡ walk_of self.now.rules view.now addr.now kind now }
     {
-        walk_rules(self.rules.as_slice(), view, addr, kind, now)
+        walk_rules(self.rules.as_slice(), &self.offers, view, addr, kind, now)
     }
 
     /// Takes the memory for counting the passes of a walk of this chain for that address and moment. Where it is refused,

@@ -5,10 +5,12 @@ ghost use Rattle.std.specs.List.{All, list_any};
 ghost use Rattle.lb_wire.specs.Answer.{fits_type as fits_type_of};
 ghost use Rattle.lb_terms.specs.Truth.{limiters_of};
 ghost use Rattle.lb_chain.specs.Edits.{limiters_in};
+ghost use Rattle.lb_chain.specs.Offers.{AreOffers, terms_of};
 ghost use Rattle.lb_chain.specs.Walk.{answers as answers_of, ending_of as ending_of_action, is_no_recurse as is_no_recurse_of, is_skip_cache as is_skip_cache_of, passes_of, truth_of, walk_of};
 
 use crate::action::Action;
 use crate::numbered::Numbered;
+use crate::offers::Offers;
 use crate::walked::{Passed, PassedList, Verdict, Walked};
 use arrayvec::ArrayVec;
 use lb_terms::holds;
@@ -98,9 +100,10 @@ fn test_rule(n: &Numbered, view: &QueryView, addr: &Addr, now: u64, passes: &mut
     tested.truth
 }
 
-/// Walks the rules for a query.
+/// Walks the rules for a query. Those alone are tested that may hold by what they ask first, as no other changes anything.
 pub(crate) fn walk_rules(
     rules: &[Numbered],
+    offers: &Offers,
     view: &QueryView,
     addr: &Addr,
     kind: Kind,
@@ -109,6 +112,7 @@ pub(crate) fn walk_rules(
     requires limiters { All (λ n. length n.limits ≡ limiters_of n.rule.term) rules.now }
     requires few { limiters_in rules.now ≤ 16 }
     requires moments { All (λ n. All (λ l. l.moment ≤ now) n.limits) rules.now }
+    requires offers { AreOffers offers.now (terms_of rules.now) }
     ensures { result ≡ walk_of rules.now view.now addr.now kind now }
 {
     let mut no_recurse = false;
@@ -116,7 +120,9 @@ pub(crate) fn walk_rules(
     let mut passes = PassedList {
         items: ArrayVec::new(),
     };
-    for n in rules {
+    let mut at = 0;
+    'rules: while let Some(place) = offers.next(at, view, addr) {
+        let n = &rules[place];
         if test_rule(n, view, addr, now, &mut passes) {
             match ending_of(&n.rule.action, view, kind) {
                 Some(verdict) => {
@@ -134,6 +140,7 @@ pub(crate) fn walk_rules(
                 }
             }
         }
+        at = place + 1;
     }
     Walked {
         rule: None,

@@ -10,4 +10,4 @@ of-self-inside-requires c =
 
 pub invariant_of-self : goal.invariant_of-self
 invariant_of-self c =
-    (kept_inserted c.self.inside.last_rule c.self.inside.moment c.self.inside.limiters c.limiter_count-count.result c.args.place c.self.inside.rules.items c.insert_rule.new.rules.items c.args.rule c.self.invariant.0 (omega arith) (omega arith) (omega arith) c.limiter_count-count.ensures.count c.in-Ok.ensures.count c.in-Ok.ensures.moments c.in-Ok.ensures.ok, c.of-self-inside.ensures ∙ ap places_of c.as_slice.ensures.value)
+    (kept_inserted c.self.inside.last_rule c.self.inside.moment c.self.inside.limiters c.limiter_count-count.result c.args.place c.self.inside.rules.items c.insert_rule.new.rules.items c.args.rule c.self.invariant.0 (omega arith) (omega arith) (omega arith) c.limiter_count-count.ensures.count c.in-Ok.ensures.count c.in-Ok.ensures.moments c.in-Ok.ensures.ok, c.of-self-inside.ensures ∙ ap places_of c.as_slice.ensures.value, c.insert_rule.ensures.offers)

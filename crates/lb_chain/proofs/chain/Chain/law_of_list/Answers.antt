@@ -1,6 +1,5 @@
 use Rattle.std.proofs.Common.{subst}
 use Rattle.lb_chain.specs.Chain.{AreRules}
-use Rattle.lb_chain.specs.Edits.{Rules}
 use Rattle.lb_chain.proofs.Kept.{are_rules}
 use Rattle.lb_chain.proofs.chain.Chain.law_of_list.Goals as goal
 

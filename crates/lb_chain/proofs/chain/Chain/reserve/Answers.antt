@@ -2,6 +2,7 @@ use Rattle.std.proofs.Common.{◌≡◌, ◌+◌, ◌≤◌, List, [], sym, ap, 
 use Rattle.std.proofs.lemmas.Result.{on_ok_weaker}
 use Rattle.lb_chain.specs.Edits.{Rules}
 use Rattle.lb_chain.specs.Counting.{reserved_rules, RulesReady}
+use Rattle.lb_chain.specs.Offers.{AreOffers, terms_of}
 use Rattle.lb_chain.specs.Seen.{seen_rules}
 use Rattle.lb_chain.specs.Walk.{walk_of}
 use Rattle.lb_chain.specs.declared.walked.Passed.{Passed}
@@ -10,6 +11,7 @@ use Rattle.lb_chain.proofs.Chains.{kept_later}
 use Rattle.lb_chain.proofs.Counted.{found_empty, kept_reserved, ready_reserved, reserved_idle}
 use Rattle.lb_chain.proofs.PartlyReserved.{partly_seen}
 use Rattle.lb_chain.proofs.RulesReady.{ready_idle}
+use Rattle.lb_chain.proofs.Reordered.{terms_partly}
 use Rattle.lb_chain.proofs.chain.Chain.reserve.Goals as goal
 
 pub returns-then-is_empty-clause-ok : goal.returns-then-is_empty-clause-ok
@@ -27,13 +29,16 @@ pub invariant_of-self : goal.invariant_of-self
 invariant_of-self c =
     let same = ap (λ (chain : Rules). chain.moment) c.self.view_is in
     let le : c.self.inside.moment ≤ c.args.now = omega (arith, same, c.requires.moment) in
-    (kept_later c.self.inside.last_rule c.self.inside.moment c.args.now c.self.inside.limiters c.self.inside.rules.items le c.self.invariant.0, c.self.invariant.1)
+    (kept_later c.self.inside.last_rule c.self.inside.moment c.args.now c.self.inside.limiters c.self.inside.rules.items le c.self.invariant.0, c.self.invariant.1, c.self.invariant.2)
 
 pub invariant_of-self-2 : goal.invariant_of-self-2
 invariant_of-self-2 c =
     let same = ap (λ (chain : Rules). chain.moment) c.self.view_is in
     let le : c.self.inside.moment ≤ c.args.now = omega (arith, same, c.requires.moment) in
-    kept_reserved c.recent_are_passes.ensures c.self.inside.last_rule c.self.inside.moment c.args.now c.self.inside.limiters c.self.inside.places c.as_slice-passes.result.now c.args.addr.now c.self.inside.rules.items c.reserve_rules.new.rules.items le c.self.invariant c.reserve_rules.ensures.partly
+    let rules = c.self.inside.rules.items in
+    let kept = kept_reserved c.recent_are_passes.ensures c.self.inside.last_rule c.self.inside.moment c.args.now c.self.inside.limiters c.self.inside.places c.as_slice-passes.result.now c.args.addr.now rules c.reserve_rules.new.rules.items le (c.self.invariant.0, c.self.invariant.1) c.reserve_rules.ensures.partly in
+    let same_terms : terms_of c.reserve_rules.new.rules.items ≡ terms_of rules = terms_partly c.as_slice-passes.result.now c.args.addr.now c.args.now rules c.reserve_rules.new.rules.items c.reserve_rules.ensures.partly in
+    (kept.0, kept.1, subst (AreOffers c.self.inside.offers) (sym same_terms) c.self.invariant.2)
 
 pub returns-clause-ready : goal.returns-clause-ready
 returns-clause-ready c =

@@ -1,0 +1,9 @@
+use Rattle.std.proofs.Common.{List, drop}
+use Rattle.lb_mask_index.specs.Index.{Pair}
+use Rattle.lb_chain.specs.Offers.{at_masks}
+use Rattle.lb_chain.specs.Filing.{AreWith}
+use Rattle.lb_chain.proofs.Filed.{AreMore}
+use Rattle.lb_chain.proofs.filing.file_masks.Given as goal
+
+abbrev pub invariant-loop-mask : goal.invariant-loop-mask
+invariant-loop-mask l = ((new : List Pair) → AreWith l.masks (at_masks (drop l.mask-index l.set) l.rank) new → AreWith l.fn.masks (at_masks l.set l.rank) new) × AreMore l.fn.masks (at_masks l.set l.rank) l.masks

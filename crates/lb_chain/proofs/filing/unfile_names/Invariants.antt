@@ -1,0 +1,8 @@
+use Rattle.std.proofs.Common.{List, drop}
+use Rattle.lb_suffix.specs.Index.{Pair}
+use Rattle.lb_chain.specs.Offers.{at_names}
+use Rattle.lb_chain.specs.Filing.{AreWithout}
+use Rattle.lb_chain.proofs.filing.unfile_names.Given as goal
+
+abbrev pub invariant-loop-name : goal.invariant-loop-name
+invariant-loop-name l = (new : List Pair) → AreWithout l.names (at_names (drop l.name-index l.set) l.rank) new → AreWithout l.fn.names (at_names l.set l.rank) new
