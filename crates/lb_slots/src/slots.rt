@@ -1,6 +1,6 @@
 //! Values in numbered slots.
 
-ghost use Rattle.std.specs.Prelude.{◌≡◌, ◌≤◌, ◌<◌, ◌+◌, ◌-◌, ◌/◌, ◌%◌, ◌^◌, ℕ, None, Some, IfErr, IfOk, IfSome, OnErr, OnOk, length, option_map};
+ghost use Rattle.std.specs.Prelude.{◌≡◌, ◌≤◌, ◌<◌, ◌+◌, ◌-◌, ◌/◌, ◌%◌, ◌^◌, ℕ, None, Some, IfErr, IfOk, IfSome, IsSome, OnErr, OnOk, length, option_map};
 ghost use Rattle.std.specs.Bool.{OnTrue};
 ghost use Rattle.lb_slots.specs.Slots.{Updates, chunk_at, get};
 
@@ -135,13 +135,21 @@ impl<T: Drop> Slots<T> {
         ensures back { IfErr result (λ back. back.1 ≡ value) }
         ensures kept { OnErr result ((slot : ℕ) → get self.new slot ≡ get self.old slot) }
     {
-        let slot = self.free;
-        if let Some(next) = freed(&self.chunks, slot) {
-            fill(&mut self.chunks, slot, value);
+        let free = self.free;
+        if let Some(next) = freed(&self.chunks, free) {
+            fill(&mut self.chunks, free, value);
             self.free = next;
-            return Ok(slot);
+            return Ok(free);
         }
         push(&mut self.chunks, self.alloc, value)
+    }
+
+    /// Puts a value in the place of the one in a slot. It takes no memory.
+    pub fn set(&mut self, slot: usize, value: T)
+        requires there { IsSome (get self.old slot) }
+        ensures { Updates self.old self.new slot (Some value) }
+    {
+        fill(&mut self.chunks, slot, value);
     }
 
     /// Takes the value out of a slot. It takes no memory.
