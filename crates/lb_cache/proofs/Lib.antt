@@ -1,5 +1,5 @@
 mod AreShelves
-mod Keys
+mod KeyOrder
 mod IsKeepable
 mod KeptIn
 mod KeptOf
@@ -9,3 +9,13 @@ mod Expunged
 mod Questions
 mod WithCache
 pub mod AreKept
+mod Members
+mod Entries
+mod Sides
+mod MarkOrder
+mod Listed
+mod Marked
+mod Shelved
+mod Views
+mod Stores
+mod Whole

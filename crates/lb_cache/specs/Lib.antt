@@ -3,6 +3,9 @@ pub use Rattle.lb_wire.specs.Message
 pub use Rattle.lb_wire.specs.Aging
 pub use Rattle.lb_name.specs.Name
 pub mod Reply
+pub mod Keys
+pub mod Ends
+pub mod Store
 pub mod Question
 pub mod Cache
 pub mod Caches

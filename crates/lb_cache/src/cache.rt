@@ -1,18 +1,18 @@
 //! The cache.
 
-ghost use Rattle.std.specs.Prelude.{◌≡◌, ◌<◌, ◌≤◌, true, false, not, [], length, None, Some, IfOk, IfErr, IfSome, option_map, set, slice_get, vec_len};
-ghost use Rattle.std.specs.List.{count_by, filter, find, insert, list_any};
-ghost use Rattle.std.specs.List.Sorted.{IsPartitionPoint};
-ghost use Rattle.std.specs.Vec.{vec_capacity};
+ghost use Rattle.std.specs.Prelude.{◌≡◌, ℕ, ◌+◌, ◌≤◌, true, IfOk, IfSome, None, Some, length, option_map};
+ghost use Rattle.std.specs.FinMap.Entries.{find};
+ghost use Rattle.std.specs.List.{filter, list_any};
 ghost use Rattle.lb_wire.specs.Octets.{max_message};
-ghost use Rattle.lb_cache.specs.Cache.{AreReplies, Ascends, empty_cache, expunged, kept_for, kept_with, lacks, looked, placed, written};
+ghost use Rattle.lb_cache.specs.Cache.{AreReplies, empty_cache, expunged, kept_with, lacks, looked, placed, written};
 ghost use Rattle.lb_cache.specs.Question.{covers_all, covers_name, covers_suffix};
-ghost use Rattle.lb_cache.specs.Reply.{has_key, has_other, is_before, is_dead, lives, renewed};
-ghost use Rattle.lb_cache.specs.declared.reply.CachedReply.{CachedReply};
+ghost use Rattle.lb_cache.specs.Reply.{cmp_key, has_other, is_dead, lives};
+ghost use Rattle.lb_cache.specs.Store.{goes, in_slot, others, replies_at, replies_of, stays};
 
 use crate::limits::{MaxEntries, MaxTtl, Shards};
 use crate::question::{asks_name, asks_under};
 use crate::reply::{CachedReply, Hit};
+use crate::store::{Store, purge, purge_but};
 use lb_name::Name;
 use lb_wire::{Kept, Key, Octets, RecordType};
 use std::alloc::{AllocError, Global};
@@ -21,133 +21,178 @@ use std::marker::Model;
 /// The replies kept for one pool. A contract sees them as a list by key, at most one for each key.
 #[derive(Debug, Drop)]
 pub struct Cache {
+    alloc: Global,
     max: MaxEntries,
     shards: Shards,
     max_ttl: MaxTtl,
-    replies: Vec<CachedReply>,
+    store: Store,
 }
 
 impl Model for Cache {
     ghost use Rattle.std.specs.Prelude.{◌≤◌, length};
-    ghost use Rattle.lb_cache.specs.Cache.{Ascends, Caching};
+    ghost use Rattle.lb_cache.specs.Cache.{Caching};
+    ghost use Rattle.lb_cache.specs.Store.{replies_of};
 
     ghost Value = { Caching };
 
-    ghost view = { λ c. record { max = c.max; shards = c.shards; max_ttl = c.max_ttl; replies = c.replies.items } };
+    ghost view = { λ c. record { max = c.max; shards = c.shards; max_ttl = c.max_ttl; replies = replies_of c.store } };
 
-    ghost invariant = { λ c. Ascends c.replies.items × (length c.replies.items ≤ c.max) };
+    ghost invariant = { λ c. length c.store.keys ≤ c.max };
 }
 
-/// The place of a key in the list: behind the replies that stand before it.
-fn place_by_key(replies: &[CachedReply], key: &Key) -> usize
-    requires { Ascends replies.now }
-    ensures within { result ≤ length replies.now }
-    ensures parted { IsPartitionPoint (λ r. is_before key.now r ≡ true) (λ r. is_before key.now r ≡ false) replies.now result }
-    ensures inserted { (r : CachedReply) → r.key ≡ key.now → insert replies.now result r ≡ placed r replies.now }
+/// A reply with these octets under its key.
+fn made(
+    alloc: Global,
+    key: Key,
+    bytes: &[u8],
+    life: u32,
+    now: u64,
+) -> Result<CachedReply, AllocError>
+    requires { length bytes.now ≤ max_message }
+    ensures { IfOk result (λ r. r ≡ record { key = key; bytes = bytes.now; moment = now; life = life }) }
 {
-    replies.partition_point(|reply| reply.is_before(key))
+    let bytes = Vec::from_slice(alloc, bytes)?;
+    Ok(CachedReply {
+        key,
+        bytes: Octets::from_vec(bytes),
+        moment: now,
+        life,
+    })
 }
 
-/// Where in the list the reply with a key stands; in `Err`, where one goes.
-fn place_of(replies: &[CachedReply], key: &Key) -> Result<usize, usize>
-    requires { Ascends replies.now }
-    ensures there { IfOk result (λ at. at < length replies.now) }
-    ensures within { IfErr result (λ at. at ≤ length replies.now) }
-    ensures found { IfOk result (λ at. kept_for replies.now key.now ≡ slice_get replies.now at) }
-    ensures none { IfErr result (λ at. kept_for replies.now key.now ≡ None) }
-    ensures old { IfOk result (λ at. list_any (has_key key.now) replies.now ≡ true) }
-    ensures new { IfErr result (λ at. list_any (has_key key.now) replies.now ≡ false) }
-    ensures key { IfOk result (λ at. (o : CachedReply) → slice_get replies.now at ≡ Some o → o.key ≡ key.now) }
-    ensures replaced { IfOk result (λ at. (r : CachedReply) → r.key ≡ key.now → set replies.now at r ≡ placed r (filter (has_other key.now) replies.now)) }
-    ensures inserted { IfErr result (λ at. (r : CachedReply) → r.key ≡ key.now → insert replies.now at r ≡ placed r replies.now) }
-{
-    let at = place_by_key(replies, key);
-    match replies.get(at) {
-        Some(reply) if reply.has_key(key) => Ok(at),
-        _ => Err(at),
-    }
-}
-
-/// Whether a reply is dead at a moment.
-fn any_dead(replies: &[CachedReply], now: u64) -> bool
-    ensures { result ≡ list_any (is_dead now) replies.now }
-{
-    replies.iter().any(|reply| !reply.lives(now))
-}
-
-/// Puts new octets in the place of a kept reply's, under its own key.
-fn replace(replies: &mut Vec<CachedReply>, at: usize, bytes: &[u8], life: u32, now: u64) -> Kept
-    requires there { at < vec_len replies.old }
-    requires short { length bytes.now ≤ max_message }
-    ensures { (o : CachedReply) → slice_get replies.old.items at ≡ Some o → (replies.new.items, result) ≡ written (lacks result) replies.old.items (set replies.old.items at (renewed o bytes.now life now)) }
-{
-    let bytes = match Vec::from_slice(*replies.allocator(), bytes) {
-        Ok(bytes) => bytes,
-        Err(refused) => return Kept::from(refused),
-    };
-    replies[at].renew(Octets::from_vec(bytes), life, now);
-    Kept::Yes
-}
-
-/// Puts a reply at a place of the list.
-fn add(
-    replies: &mut Vec<CachedReply>,
-    at: usize,
+/// Puts a reply in the place of the one in a slot, which has its key.
+fn renew(
+    store: &mut Store,
+    alloc: Global,
+    slot: u64,
     key: Key,
     bytes: &[u8],
     life: u32,
     now: u64,
 ) -> Kept
-    requires within { at ≤ vec_len replies.old }
+    requires there { find cmp_key key store.old.keys ≡ Some slot }
     requires short { length bytes.now ≤ max_message }
-    ensures { (replies.new.items, result) ≡ written (lacks result) replies.old.items (insert replies.old.items at (record { key = key; bytes = bytes.now; moment = now; life = life })) }
+    ensures list { (replies_of store.new, result) ≡ written (lacks result) (replies_of store.old) (placed (record { key = key; bytes = bytes.now; moment = now; life = life }) (filter (has_other key) (replies_of store.old))) }
+    ensures few { length store.new.keys ≡ length store.old.keys }
 {
-    let bytes = match Vec::from_slice(*replies.allocator(), bytes) {
-        Ok(bytes) => bytes,
+    // Laws, which do nothing: before and after.
+    store.law_of_store();
+    let reply = match made(alloc, key, bytes, life, now) {
+        Ok(reply) => reply,
         Err(refused) => return Kept::from(refused),
     };
-    let reply = CachedReply {
-        key,
-        bytes: Octets::from_vec(bytes),
-        moment: now,
-        life,
+    if let Err(refused) = store.renew(slot, reply) {
+        return Kept::from(refused);
+    }
+    store.law_of_store();
+    Kept::Yes
+}
+
+/// Puts a reply whose key no other has.
+fn add(store: &mut Store, alloc: Global, key: Key, bytes: &[u8], life: u32, now: u64) -> Kept
+    requires new { find cmp_key key store.old.keys ≡ None }
+    requires few { length store.old.keys ≤ 1000000 }
+    requires short { length bytes.now ≤ max_message }
+    ensures list { (replies_of store.new, result) ≡ written (lacks result) (replies_of store.old) (placed (record { key = key; bytes = bytes.now; moment = now; life = life }) (replies_of store.old)) }
+    ensures few { length store.new.keys ≤ length store.old.keys + 1 }
+{
+    // Laws, which do nothing: before and after.
+    store.law_of_store();
+    let reply = match made(alloc, key, bytes, life, now) {
+        Ok(reply) => reply,
+        Err(refused) => return Kept::from(refused),
     };
-    match replies.insert(at, reply) {
-        Ok(()) => Kept::Yes,
+    if let Err(refused) = store.add(reply) {
+        return Kept::from(refused);
+    }
+    store.law_of_store();
+    Kept::Yes
+}
+
+/// Puts a reply whose key no other has in the place of the dead. It comes before they go, so that want of memory changes nothing.
+fn add_for_dead(
+    store: &mut Store,
+    alloc: Global,
+    key: Key,
+    bytes: &[u8],
+    life: u32,
+    now: u64,
+) -> Kept
+    requires new { find cmp_key key store.old.keys ≡ None }
+    requires few { length store.old.keys ≤ 1000000 }
+    requires dead { list_any (is_dead now) (replies_of store.old) ≡ true }
+    requires short { length bytes.now ≤ max_message }
+    ensures list { (replies_of store.new, result) ≡ written (lacks result) (replies_of store.old) (placed (record { key = key; bytes = bytes.now; moment = now; life = life }) (filter (lives now) (replies_of store.old))) }
+    ensures few { length store.new.keys ≤ length store.old.keys }
+{
+    // Laws, which do nothing: here and after each change.
+    store.law_of_store();
+    let reply = match made(alloc, key, bytes, life, now) {
+        Ok(reply) => reply,
+        Err(refused) => return Kept::from(refused),
+    };
+    match store.add(reply) {
+        Ok(slot) => {
+            store.law_of_store();
+            purge_but(store, now, slot);
+            store.law_of_store();
+            Kept::Yes
+        }
         Err(refused) => Kept::from(refused),
     }
 }
 
-/// Gives up the dead replies.
-fn purge(replies: &mut Vec<CachedReply>, now: u64)
-    ensures living { replies.new.items ≡ filter (lives now) replies.old.items }
-    ensures capacity { vec_capacity replies.new ≡ vec_capacity replies.old }
+/// Whether a reply is dead at a moment.
+fn any_dead(store: &Store, now: u64) -> bool
+    ensures { result ≡ list_any (is_dead now) (replies_of store.now) }
 {
-    replies.retain(|reply| reply.lives(now));
+    // A law, which does nothing.
+    store.law_of_store();
+    store.first_dead(now).is_some()
 }
 
-/// Puts a reply in the place of the dead ones.
-fn add_for_dead(replies: &mut Vec<CachedReply>, key: Key, bytes: &[u8], life: u32, now: u64) -> Kept
-    requires order { Ascends replies.old.items }
-    requires dead { list_any (is_dead now) replies.old.items ≡ true }
-    requires short { length bytes.now ≤ max_message }
-    ensures { (replies.new.items, result) ≡ written (lacks result) replies.old.items (placed (record { key = key; bytes = bytes.now; moment = now; life = life }) (filter (lives now) replies.old.items)) }
+/// Whether the reply in a slot is one that an expunge by name takes out.
+fn has_name(store: &Store, slot: u64, name: &Name, qtype: Option<RecordType>) -> bool
+    ensures { result ≡ goes (covers_name name.now qtype) (in_slot store.now slot) }
 {
-    let bytes = match Vec::from_slice(*replies.allocator(), bytes) {
-        Ok(bytes) => bytes,
-        Err(refused) => return Kept::from(refused),
-    };
-    purge(replies, now);
-    let at = place_by_key(replies.as_slice(), &key);
-    let reply = CachedReply {
-        key,
-        bytes: Octets::from_vec(bytes),
-        moment: now,
-        life,
-    };
-    // a dead reply has left its place
-    replies.insert(at, reply).unwrap();
-    Kept::Yes
+    match store.get(slot) {
+        Some(reply) => asks_name(reply.key.octets.as_slice(), name, qtype),
+        None => false,
+    }
+}
+
+/// Whether the reply in a slot is one that an expunge by suffix takes out.
+fn has_suffix(store: &Store, slot: u64, name: &Name) -> bool
+    ensures { result ≡ goes (covers_suffix name.now) (in_slot store.now slot) }
+{
+    match store.get(slot) {
+        Some(reply) => asks_under(reply.key.octets.as_slice(), name),
+        None => false,
+    }
+}
+
+/// Takes out what an expunge by name covers.
+fn take_name(store: &mut Store, name: &Name, qtype: Option<RecordType>)
+    ensures left { (s : ℕ) → in_slot store.new s ≡ stays (others (covers_name name.now qtype)) (in_slot store.old s) }
+    ensures few { length store.new.keys ≤ length store.old.keys }
+{
+    for slot in 0..store.top() {
+        if has_name(store, slot, name, qtype) {
+            store.remove(slot);
+        }
+    }
+}
+
+/// Takes out what an expunge by suffix covers.
+fn take_suffix(store: &mut Store, name: &Name)
+    ensures left { (s : ℕ) → in_slot store.new s ≡ stays (others (covers_suffix name.now)) (in_slot store.old s) }
+    ensures few { length store.new.keys ≤ length store.old.keys }
+{
+    for slot in 0..store.top() {
+        if has_suffix(store, slot, name) {
+            store.remove(slot);
+        }
+    }
 }
 
 impl Cache {
@@ -161,10 +206,11 @@ impl Cache {
         ensures { IfOk result (λ cache. cache ≡ empty_cache max shards max_ttl) }
     {
         Ok(Cache {
+            alloc,
             max,
             shards,
             max_ttl,
-            replies: Vec::new(alloc),
+            store: Store::new(alloc),
         })
     }
 
@@ -186,7 +232,9 @@ impl Cache {
     pub fn len(&self) -> usize
         ensures { result ≡ length self.now.replies }
     {
-        self.replies.len()
+        // A law, which does nothing.
+        self.store.law_of_store();
+        self.store.len()
     }
 
     /// A law: the replies are by key, datagrams first, then by octets, no key is there twice, and there are no more of them than
@@ -194,15 +242,15 @@ impl Cache {
     pub fn law_of_list(&self)
         ensures { AreReplies self.now }
     {
-        // Read, so that what the cache keeps true is at hand.
-        let _ = self.replies.len();
+        self.store.law_of_store();
     }
 
     /// The replies in the order of `law_of_list`, dead ones too. The one error is want of memory.
     pub fn list(&self, alloc: Global) -> Result<Vec<CachedReply>, AllocError>
         ensures { IfOk result (λ list. list.items ≡ self.now.replies) }
     {
-        list_replies(alloc, self.replies.as_slice())
+        let slots = self.store.slot_list(alloc)?;
+        list_replies(alloc, &self.store, slots.as_slice())
     }
 
     /// The octets that are kept under a key and live at a moment, in milliseconds, and how many whole seconds ago they came:
@@ -211,10 +259,10 @@ impl Cache {
         ensures found { option_map (λ hit. (hit.bytes.now, hit.secs)) result ≡ looked self.now.replies key.now now }
         ensures short { IfSome result (λ hit. length hit.bytes.now ≤ max_message) }
     {
-        match place_of(self.replies.as_slice(), key) {
-            Ok(at) => self.replies[at].hit(now),
-            Err(_) => None,
-        }
+        // A law, which does nothing.
+        self.store.law_of_store();
+        let slot = self.store.find(key)?;
+        self.store.get(slot)?.hit(now)
     }
 
     /// Keeps a reply that came at a moment, in milliseconds, and lives so many seconds. One with its key is replaced. A full
@@ -223,13 +271,15 @@ impl Cache {
         requires { length bytes.now ≤ max_message }
         ensures { (self.new, result) ≡ kept_with (lacks result) self.old (record { key = key; bytes = bytes.now; moment = now; life = life }) now }
     {
-        match place_of(self.replies.as_slice(), &key) {
-            Ok(at) => replace(&mut self.replies, at, bytes, life, now),
-            Err(at) => {
-                if self.replies.len() < self.max.get() as usize {
-                    add(&mut self.replies, at, key, bytes, life, now)
-                } else if any_dead(self.replies.as_slice(), now) {
-                    add_for_dead(&mut self.replies, key, bytes, life, now)
+        // A law, which does nothing.
+        self.store.law_of_store();
+        match self.store.find(&key) {
+            Some(slot) => renew(&mut self.store, self.alloc, slot, key, bytes, life, now),
+            None => {
+                if self.store.len() < self.max.get() as usize {
+                    add(&mut self.store, self.alloc, key, bytes, life, now)
+                } else if any_dead(&self.store, now) {
+                    add_for_dead(&mut self.store, self.alloc, key, bytes, life, now)
                 } else {
                     Kept::NoRoom
                 }
@@ -242,9 +292,12 @@ impl Cache {
     pub fn expunge_name(&mut self, name: &Name, qtype: Option<RecordType>) -> usize
         ensures { (self.new, result) ≡ expunged (covers_name name.now qtype) self.old }
     {
-        let before = self.replies.len();
-        self.replies.retain(|reply| !asks_name(reply.key.octets.as_slice(), name, qtype));
-        before - self.replies.len()
+        // Laws, which do nothing: before and after.
+        self.store.law_of_store();
+        let before = self.store.len();
+        take_name(&mut self.store, name, qtype);
+        self.store.law_of_store();
+        before - self.store.len()
     }
 
     /// Takes the replies out whose question has this name or one below it, by whole labels and without regard to case; and
@@ -252,18 +305,22 @@ impl Cache {
     pub fn expunge_suffix(&mut self, name: &Name) -> usize
         ensures { (self.new, result) ≡ expunged (covers_suffix name.now) self.old }
     {
-        let before = self.replies.len();
-        self.replies
-            .retain(|reply| !asks_under(reply.key.octets.as_slice(), name));
-        before - self.replies.len()
+        // Laws, which do nothing: before and after.
+        self.store.law_of_store();
+        let before = self.store.len();
+        take_suffix(&mut self.store, name);
+        self.store.law_of_store();
+        before - self.store.len()
     }
 
     /// Takes all replies out, and counts them, dead ones too. It takes no memory.
     pub fn expunge_all(&mut self) -> usize
         ensures { (self.new, result) ≡ expunged covers_all self.old }
     {
-        let count = self.replies.len();
-        self.replies.clear();
+        // A law, which does nothing.
+        self.store.law_of_store();
+        let count = self.store.len();
+        self.store = Store::new(self.alloc);
         count
     }
 
@@ -271,19 +328,24 @@ impl Cache {
     pub fn purge_dead(&mut self, now: u64) -> usize
         ensures { (self.new, result) ≡ expunged (is_dead now) self.old }
     {
-        let before = self.replies.len();
-        self.replies.retain(|reply| reply.lives(now));
-        before - self.replies.len()
+        // Laws, which do nothing: before and after.
+        self.store.law_of_store();
+        let before = self.store.len();
+        purge(&mut self.store, now);
+        self.store.law_of_store();
+        before - self.store.len()
     }
 }
 
-/// Copies of the replies, in order.
-fn list_replies(alloc: Global, replies: &[CachedReply]) -> Result<Vec<CachedReply>, AllocError>
-    ensures { IfOk result (λ list. list.items ≡ replies.now) }
+/// Copies of the replies in these slots, one after the other.
+fn list_replies(alloc: Global, store: &Store, slots: &[u64]) -> Result<Vec<CachedReply>, AllocError>
+    ensures { IfOk result (λ list. list.items ≡ replies_at slots.now store.now.cells) }
 {
-    let mut list = Vec::with_capacity(alloc, replies.len())?;
-    for reply in replies {
-        list.push(reply.copy(alloc)?)?;
+    let mut list = Vec::with_capacity(alloc, slots.len())?;
+    for slot in slots {
+        if let Some(reply) = store.get(*slot) {
+            list.push(reply.copy(alloc)?)?;
+        }
     }
     Ok(list)
 }

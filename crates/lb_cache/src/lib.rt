@@ -4,9 +4,12 @@
 mod cache;
 mod cached;
 mod caches;
+mod ends;
+mod keys;
 mod limits;
 mod question;
 mod reply;
+mod store;
 
 pub use cache::Cache;
 pub use cached::{AttachedCache, Covered, KeptReply};

@@ -1,11 +1,16 @@
-use Rattle.std.proofs.Common.{◌≡◌, ◌∙◌, subst}
+use Rattle.std.proofs.Common.{◌≡◌, ◌∙◌, sym, ap, subst, List, ℕ}
+use Rattle.lb_wire.specs.declared.key.Key.{Key}
 use Rattle.lb_cache.specs.Cache.{Caching, expunged}
+use Rattle.lb_cache.specs.Keys.{slots_of}
 use Rattle.lb_cache.specs.Question.{covers_all}
+use Rattle.lb_cache.specs.Store.{replies_at, replies_of}
 use Rattle.lb_cache.proofs.Expunged.{all_expunged}
+use Rattle.lb_cache.proofs.Views.{length_view}
+use Rattle.lb_cache.proofs.Whole.{cached}
 use Rattle.lb_cache.proofs.cache.Cache.expunge_all.Goals as goal
 
 pub returns : goal.returns
 returns c =
-    let inside : Caching = record { max = c.self.inside.max; shards = c.self.inside.shards; max_ttl = c.self.inside.max_ttl; replies = c.self.inside.replies.items } in
-    subst (λ (cache : Caching). (record inside { replies = c.clear.new.self.items }, c.len-count.result) ≡ expunged covers_all cache) c.self.view_is
-    (all_expunged inside c.clear.new.self.items c.len-count.result c.clear.ensures.items (c.len-count.ensures ∙ c.self.inside.replies.ok.0))
+    let inside : Caching = cached c.self.inside.max c.self.inside.shards c.self.inside.max_ttl c.self.inside.store in
+    subst (λ (cache : Caching). (record inside { replies = replies_of c.new.result }, c.len-count.result) ≡ expunged covers_all cache) c.self.view_is
+    (all_expunged inside (replies_of c.new.result) c.len-count.result (ap (λ (es : List (Key × ℕ)). replies_at (slots_of es) c.new.result.cells) c.new.ensures) (c.len-count.ensures ∙ sym (length_view c.self.inside.store c.law_of_store.ensures)))

@@ -1,20 +1,10 @@
-use Rattle.std.proofs.Common.{◌≡◌, ◌-◌, ◌∙◌, not, rules, tests, subst}
-use Rattle.std.specs.List.{filter}
-use Rattle.std.proofs.lemmas.Fn.{filter_same}
-use Rattle.lb_cache.specs.declared.reply.CachedReply.{CachedReply}
+use Rattle.std.proofs.Common.{◌≡◌, ◌-◌, subst}
 use Rattle.lb_cache.specs.Cache.{Caching, expunged}
-use Rattle.lb_cache.specs.Reply.{is_dead, lives}
-use Rattle.lb_cache.proofs.Expunged.{expunged_is, left_keeps, living_left}
+use Rattle.lb_cache.specs.Reply.{is_dead}
+use Rattle.lb_cache.proofs.Whole.{cached, purged}
 use Rattle.lb_cache.proofs.cache.Cache.purge_dead.Goals as goal
-
-left : (c : goal.After-len) → c.retain.new.self.items ≡ filter (λ (r : CachedReply). not (is_dead c.args.now r)) c.self.inside.replies.items
-left c = filter_same _ (lives c.args.now) _ (λ x b f' k. search (rules, tests)) _ _ c.retain.ensures.filtered ∙ living_left c.args.now c.self.inside.replies.items
-
-pub invariant_of-self : goal.invariant_of-self
-invariant_of-self c = left_keeps (λ r. not (is_dead c.args.now r)) c.self.inside.max c.self.inside.replies.items c.retain.new.self.items (left c) c.self.invariant
 
 pub returns : goal.returns
 returns c =
-    let inside : Caching = record { max = c.self.inside.max; shards = c.self.inside.shards; max_ttl = c.self.inside.max_ttl; replies = c.self.inside.replies.items } in
-    subst (λ (cache : Caching). (record inside { replies = c.retain.new.self.items }, c.len-before.result - c.len.result) ≡ expunged (is_dead c.args.now) cache) c.self.view_is
-    (expunged_is (is_dead c.args.now) inside c.retain.new.self.items c.len-before.result c.len.result (left c) (c.len-before.ensures ∙ c.self.inside.replies.ok.0) (c.len.ensures ∙ c.retain.new.self.ok.0))
+    subst (λ (cache : Caching). (cached c.self.inside.max c.self.inside.shards c.self.inside.max_ttl c.purge.new.store, c.len-before.result - c.len.result) ≡ expunged (is_dead c.args.now) cache) c.self.view_is
+    (purged c.args.now c.self.inside.max c.self.inside.shards c.self.inside.max_ttl c.self.inside.store c.purge.new.store c.len-before.result c.len.result c.law_of_store.ensures c.law_of_store-2.ensures c.purge.ensures.left c.len-before.ensures c.len.ensures)

@@ -1,11 +1,10 @@
 -- The order of keys.
-use Rattle.std.proofs.Common.{◌≡◌, Bool, true, false, ◌==◌, ◌&&◌, bytes_eq, inl, inr, refl, sym, ap, ◌∙◌}
+use Rattle.std.proofs.Common.{◌≡◌, Bool, true, false, ◌==◌, ◌&&◌, bytes_eq, refl, ap, ◌∙◌}
 use Rattle.std.specs.Cmp.{IsTotalOrder, tied_then, unsigned_ties}
 use Rattle.std.specs.Cmp.Lexicographic.{nat_list_cmp_total, slice_cmp, texts_ties}
-use Rattle.std.specs.Ordering.{is_lt, is_eq, nat_cmp, ordering_reverse}
+use Rattle.std.specs.Ordering.{is_lt, is_eq, nat_cmp}
 use Rattle.std.specs.declared.cmp.Ordering.{Ordering}
 use Rattle.std.specs.declared.cmp.Ordering.TheVariants.{Less, Equal, Greater}
-use Rattle.std.proofs.lemmas.Bool.{cases_Bool}
 use Rattle.std.proofs.lemmas.Bool.Decides.{Decides-and, Decides-eqb}
 use Rattle.std.proofs.lemmas.Cmp.{nat_cmp_total, on_total, then_total}
 use Rattle.std.proofs.lemmas.Slice.Eq.{bytes_eq-Decides}
@@ -14,11 +13,11 @@ use Rattle.lb_wire.specs.declared.transport.Kind.{Kind}
 use Rattle.lb_wire.specs.declared.transport.Kind.TheVariants.{Datagram, Stream}
 use Rattle.lb_cache.specs.Reply.{before_key, cmp_key, kind_number, same_key}
 
-key_total : IsTotalOrder cmp_key
+pub key_total : IsTotalOrder cmp_key
 key_total = then_total (on_total (λ (k : Key). kind_number k.kind) nat_cmp_total) (on_total (λ (k : Key). k.octets) nat_list_cmp_total)
 
 -- keys that the order does not tell apart are the same
-key_ties : (a b : Key) → same_key a b ≡ is_eq (cmp_key a b)
+pub key_ties : (a b : Key) → same_key a b ≡ is_eq (cmp_key a b)
 key_ties a b =
     ap (λ (x : Bool). x && bytes_eq a.octets b.octets) (unsigned_ties (kind_number a.kind) (kind_number b.kind))
     ∙ ap (λ (x : Bool). is_eq (nat_cmp (kind_number a.kind) (kind_number b.kind)) && x) (texts_ties a.octets b.octets)
@@ -51,33 +50,9 @@ less_not_equal Less is = refl
 less_not_equal Equal is = absurd (cc)
 less_not_equal Greater is = absurd (cc)
 
-less_not_back : (o : Ordering) → is_lt o ≡ true → is_eq (ordering_reverse o) ≡ false
-less_not_back Less is = refl
-less_not_back Equal is = absurd (cc)
-less_not_back Greater is = absurd (cc)
-
-third : (o : Ordering) → is_lt o ≡ false → is_eq o ≡ false → is_lt (ordering_reverse o) ≡ true
-third Less fails differs = absurd (cc)
-third Equal fails differs = absurd (cc)
-third Greater fails differs = refl
-
 -- a key before another one is not the same
 pub before_differs : (a b : Key) → before_key a b ≡ true → same_key a b ≡ false
 before_differs a b before = key_ties a b ∙ less_not_equal (cmp_key a b) before
 
-pub before_differs_back : (a b : Key) → before_key a b ≡ true → same_key b a ≡ false
-before_differs_back a b before = key_ties b a ∙ ap is_eq (key_total.antisymm b a) ∙ less_not_back (cmp_key a b) before
-
--- one that is neither before another one nor the same is behind it
-pub behind : (a b : Key) → before_key a b ≡ false → same_key a b ≡ false → before_key b a ≡ true
-behind a b fails differs = ap is_lt (key_total.antisymm b a) ∙ third (cmp_key a b) fails (sym (key_ties a b) ∙ differs)
-
 pub before_trans : (a b c : Key) → before_key a b ≡ true → before_key b c ≡ true → before_key a c ≡ true
 before_trans a b c p q = ap is_lt (key_total.trans a b c (less_is (cmp_key a b) p) (less_is (cmp_key b c) q))
-
--- a key is not before one that is the same
-pub not_before_same : (a b : Key) → same_key a b ≡ true → before_key a b ≡ false
-not_before_same a b same = elim (cases_Bool (before_key a b)) [
-  | inl before ↦ let differs : same_key a b ≡ false = before_differs a b before in absurd (cc)
-  | inr behind ↦ behind
-]

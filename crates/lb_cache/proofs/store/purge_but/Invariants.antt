@@ -1,0 +1,10 @@
+use Rattle.std.proofs.Common.{◌≡◌, ◌≢◌, ℕ, ◌≤◌, length}
+use Rattle.lb_cache.specs.Reply.{lives}
+use Rattle.lb_cache.specs.Store.{in_slot, stays}
+use Rattle.lb_cache.proofs.store.purge_but.Given as goal
+
+abbrev pub invariant-loop-slot : goal.invariant-loop-slot
+invariant-loop-slot l = ((s : ℕ) → s ≢ l.but → stays (lives l.now) (in_slot l.store s) ≡ stays (lives l.now) (in_slot l.fn.store s)) × (in_slot l.store l.but ≡ in_slot l.fn.store l.but) × (length l.store.keys ≤ length l.fn.store.keys)
+
+abbrev pub decreases-loop-slot : goal.decreases-loop-slot
+decreases-loop-slot l = length l.store.keys

@@ -1,0 +1,262 @@
+//! Replies in slots, and what finds them.
+
+ghost use Rattle.std.specs.Prelude.{◌≡◌, ◌≢◌, ◌+◌, ◌<◌, ◌≤◌, ◌^◌, ℕ, [], None, Some, IfNone, IfOk, IfSome, IsSome, OnErr, OnOk, cond, false, length, option_map, true};
+ghost use Rattle.std.specs.FinMap.Entries.{find, put};
+ghost use Rattle.lb_slots.specs.Slots.{Updates, get};
+ghost use Rattle.lb_cache.specs.Ends.{has, is_mark};
+ghost use Rattle.lb_cache.specs.Keys.{slots_of};
+ghost use Rattle.lb_cache.specs.Reply.{cmp_key, is_dead, lives};
+ghost use Rattle.lb_cache.specs.Store.{AreFiled, end_of, in_slot, stays};
+ghost use Rattle.lb_cache.specs.declared.reply.CachedReply.{CachedReply};
+
+use crate::ends::Ends;
+use crate::keys::Keys;
+use crate::reply::CachedReply;
+use lb_slots::Slots;
+use lb_wire::Key;
+use std::alloc::{AllocError, Global};
+use std::marker::Model;
+
+/// When a reply is dead, in milliseconds.
+fn end_of(reply: &CachedReply) -> u128
+    ensures { result ≡ end_of reply.now }
+{
+    u128::from(reply.moment) + 1000 * u128::from(reply.life)
+}
+
+/// The greater of two numbers.
+fn greater(a: u64, b: u64) -> u64
+    ensures first { a ≤ result }
+    ensures second { b ≤ result }
+{
+    if a < b { b } else { a }
+}
+
+/// Replies in slots, at most one for each key. A contract sees the keys with their slots, and the slots.
+#[derive(Debug, Drop)]
+pub(crate) struct Store {
+    cells: Slots<CachedReply>,
+    keys: Keys,
+    ends: Ends,
+    /// No slot from here on was ever in use.
+    top: u64,
+    len: usize,
+}
+
+impl Model for Store {
+    ghost use Rattle.lb_cache.specs.Store.{IsStore, Stored, stored};
+
+    ghost Value = { Stored };
+
+    ghost view = { λ s. stored s.keys s.cells };
+
+    ghost invariant = { λ s. IsStore s.keys s.cells s.ends s.top s.len };
+}
+
+/// Puts a reply in a slot that had none.
+fn put_cell(cells: &mut Slots<CachedReply>, reply: CachedReply) -> Result<u64, AllocError>
+    ensures free { IfOk result (λ slot. get cells.old slot ≡ None) }
+    ensures bound { IfOk result (λ slot. slot + 2 < 2 ^ 64) }
+    ensures put { IfOk result (λ slot. Updates cells.old cells.new slot (Some reply)) }
+    ensures kept { OnErr result ((slot : ℕ) → get cells.new slot ≡ get cells.old slot) }
+{
+    match cells.put(reply) {
+        Ok(slot) => Ok(slot as u64),
+        Err((refused, _reply)) => Err(refused),
+    }
+}
+
+/// Takes the reply out of a slot.
+fn empty_cell(cells: &mut Slots<CachedReply>, slot: u64)
+    ensures { Updates cells.old cells.new slot None }
+{
+    let _ = cells.take(slot as usize);
+}
+
+/// Files the key of the reply in a slot.
+fn file_key(keys: &mut Keys, cells: &Slots<CachedReply>, slot: u64) -> Result<(), AllocError>
+    requires new { (r : CachedReply) → get cells.now slot ≡ Some r → find cmp_key r.key keys.old ≡ None }
+    ensures put { OnOk result ((r : CachedReply) → get cells.now slot ≡ Some r → keys.new ≡ put cmp_key r.key slot keys.old) }
+    ensures kept { OnErr result (keys.new ≡ keys.old) }
+{
+    match cells.get(slot as usize) {
+        Some(reply) => keys.put(&reply.key, slot),
+        None => Ok(()),
+    }
+}
+
+/// When the reply in a slot is dead, in milliseconds.
+fn end_in(cells: &Slots<CachedReply>, slot: u64) -> u128
+    ensures { (r : CachedReply) → get cells.now slot ≡ Some r → result ≡ end_of r }
+{
+    match cells.get(slot as usize) {
+        Some(reply) => end_of(reply),
+        None => 0,
+    }
+}
+
+/// Marks a slot by another moment in the place of the one that it is marked by.
+fn move_end(ends: &mut Ends, old: u128, new: u128, slot: u64) -> Result<(), AllocError>
+    requires there { has ends.old old slot ≡ true }
+    ensures moved { OnOk result ((v s : ℕ) → has ends.new v s ≡ cond (is_mark new slot v s) true (cond (is_mark old slot v s) false (has ends.old v s))) }
+    ensures kept { OnErr result ((v s : ℕ) → has ends.new v s ≡ has ends.old v s) }
+{
+    if new != old {
+        ends.put(new, slot)?;
+        ends.take(old, slot);
+    }
+    Ok(())
+}
+
+impl Store {
+    /// No reply. It takes no memory.
+    pub(crate) fn new(alloc: Global) -> Store
+        ensures { result.keys ≡ [] }
+    {
+        Store {
+            cells: Slots::new(alloc),
+            keys: Keys::new(alloc),
+            ends: Ends::new(alloc),
+            top: 0,
+            len: 0,
+        }
+    }
+
+    /// How many replies there are.
+    pub(crate) fn len(&self) -> usize
+        ensures { result ≡ length self.now.keys }
+    {
+        self.len
+    }
+
+    /// A law: each key's slot holds the reply with that key, and each reply's key is there with its slot. It does nothing.
+    pub(crate) fn law_of_store(&self)
+        ensures { AreFiled self.now }
+    {
+        // Read, so that what the store keeps true is at hand.
+        let _ = &self.keys;
+    }
+
+    /// The slot of the reply with a key. It takes no memory.
+    pub(crate) fn find(&self, key: &Key) -> Option<u64>
+        ensures { result ≡ find cmp_key key.now self.now.keys }
+    {
+        self.keys.get(key)
+    }
+
+    /// The reply in a slot.
+    pub(crate) fn get(&self, slot: u64) -> Option<&CachedReply>
+        ensures { option_map (λ r. r.now) result ≡ in_slot self.now slot }
+    {
+        self.cells.get(slot as usize)
+    }
+
+    /// All replies are in slots before this one.
+    pub(crate) fn top(&self) -> u64
+        ensures { (s : ℕ) → IsSome (in_slot self.now s) → s < result }
+    {
+        self.top
+    }
+
+    /// The slots in the order of the keys. The one error is want of memory.
+    pub(crate) fn slot_list(&self, alloc: Global) -> Result<Vec<u64>, AllocError>
+        ensures { IfOk result (λ list. list.items ≡ slots_of self.now.keys) }
+    {
+        self.keys.slot_list(alloc)
+    }
+
+    /// Puts a reply, whose key no other has, in a slot of its own, and gives that. The one error is want of memory.
+    pub(crate) fn add(&mut self, reply: CachedReply) -> Result<u64, AllocError>
+        requires new { find cmp_key reply.key self.old.keys ≡ None }
+        requires few { length self.old.keys ≤ 1000000 }
+        ensures free { IfOk result (λ slot. in_slot self.old slot ≡ None) }
+        ensures put { IfOk result (λ slot. Updates self.old.cells self.new.cells slot (Some reply)) }
+        ensures more { OnOk result (length self.new.keys ≡ length self.old.keys + 1) }
+        ensures keys { OnErr result (self.new.keys ≡ self.old.keys) }
+        ensures kept { OnErr result ((s : ℕ) → in_slot self.new s ≡ in_slot self.old s) }
+    {
+        let end = end_of(&reply);
+        let slot = put_cell(&mut self.cells, reply)?;
+        if let Err(refused) = self.ends.put(end, slot) {
+            empty_cell(&mut self.cells, slot);
+            return Err(refused);
+        }
+        if let Err(refused) = file_key(&mut self.keys, &self.cells, slot) {
+            self.ends.take(end, slot);
+            empty_cell(&mut self.cells, slot);
+            return Err(refused);
+        }
+        self.top = greater(self.top, slot + 1);
+        self.len += 1;
+        Ok(slot)
+    }
+
+    /// Puts a reply in the place of the one in a slot, which has its key. The one error is want of memory.
+    pub(crate) fn renew(&mut self, slot: u64, reply: CachedReply) -> Result<(), AllocError>
+        requires there { find cmp_key reply.key self.old.keys ≡ Some slot }
+        ensures keys { self.new.keys ≡ self.old.keys }
+        ensures put { OnOk result (Updates self.old.cells self.new.cells slot (Some reply)) }
+        ensures kept { OnErr result (self.new.cells ≡ self.old.cells) }
+    {
+        let old = end_in(&self.cells, slot);
+        move_end(&mut self.ends, old, end_of(&reply), slot)?;
+        self.cells.set(slot as usize, reply);
+        Ok(())
+    }
+
+    /// Takes the reply out of a slot. It takes no memory.
+    pub(crate) fn remove(&mut self, slot: u64)
+        ensures cells { Updates self.old.cells self.new.cells slot None }
+        ensures less { IsSome (in_slot self.old slot) → length self.new.keys + 1 ≡ length self.old.keys }
+        ensures few { length self.new.keys ≤ length self.old.keys }
+    {
+        if let Some(reply) = self.cells.take(slot as usize) {
+            self.keys.remove(&reply.key, slot);
+            self.ends.take(end_of(&reply), slot);
+            self.len -= 1;
+        }
+    }
+
+    /// The slot of a reply that is dead, if there is one. It takes no memory.
+    pub(crate) fn first_dead(&self, now: u64) -> Option<u64>
+        ensures dead { IfSome result (λ slot. (r : CachedReply) × (in_slot self.now slot ≡ Some r) × (is_dead now r ≡ true)) }
+        ensures none { IfNone result ((s : ℕ) (r : CachedReply) → in_slot self.now s ≡ Some r → is_dead now r ≡ false) }
+    {
+        match self.ends.least() {
+            Some((end, slot)) if end <= u128::from(now) => Some(slot),
+            _ => None,
+        }
+    }
+
+    /// The slot of a reply that is dead, if there is one in another slot than this. It takes no memory.
+    pub(crate) fn first_dead_but(&self, now: u64, but: u64) -> Option<u64>
+        ensures dead { IfSome result (λ slot. (r : CachedReply) × (in_slot self.now slot ≡ Some r) × (is_dead now r ≡ true)) }
+        ensures other { IfSome result (λ slot. slot ≢ but) }
+        ensures none { IfNone result ((s : ℕ) (r : CachedReply) → in_slot self.now s ≡ Some r → s ≢ but → is_dead now r ≡ false) }
+    {
+        match self.ends.least_but(but) {
+            Some((end, slot)) if end <= u128::from(now) => Some(slot),
+            _ => None,
+        }
+    }
+}
+
+/// Takes the dead out. It takes no memory.
+pub(crate) fn purge(store: &mut Store, now: u64)
+    ensures left { (s : ℕ) → in_slot store.new s ≡ stays (lives now) (in_slot store.old s) }
+    ensures few { length store.new.keys ≤ length store.old.keys }
+{
+    while let Some(slot) = store.first_dead(now) {
+        store.remove(slot);
+    }
+}
+
+/// Takes the dead out but for the reply in one slot. It takes no memory.
+pub(crate) fn purge_but(store: &mut Store, now: u64, but: u64)
+    ensures left { (s : ℕ) → s ≢ but → in_slot store.new s ≡ stays (lives now) (in_slot store.old s) }
+    ensures own { in_slot store.new but ≡ in_slot store.old but }
+{
+    while let Some(slot) = store.first_dead_but(now, but) {
+        store.remove(slot);
+    }
+}
