@@ -31,6 +31,13 @@ returns-clause-caches g c none_outstanding none_kept =
 pub returns-clause-hits : goal.returns-clause-hits
 returns-clause-hits g c = ∥∥₁_map c.closed.ensures.told (hits_told c.hits_come_from_replies.ensures _ _ _ _ _)
 
+pub returns-clause-receipts : goal.returns-clause-receipts
+returns-clause-receipts g c =
+    let seats = c.args.seats.items in
+    let log = c.closed.result.log.items in
+    let kept : All (λ (s : Seated). s.receipts ≡ receipts_of s.number log) seats = search rules in
+    kept
+
 pub returns-clause-whole : goal.returns-clause-whole
 returns-clause-whole g c within =
     let seats = c.args.seats.items in
