@@ -18,4 +18,4 @@ pub use lb_doh::{
     Ticket, Waiting, carrying, next_of, one_outcome, posts_cross_threads, query_of, read_request,
     refused, response_of, unavailable,
 };
-pub use serving::{Bound, FrontEnded, FrontParts, run_front};
+pub use serving::{Bound, FrontEnded, FrontParts, front_runtime, run_front};

@@ -1,6 +1,6 @@
 //! The front, in a thread.
 
-ghost use Rattle.std.specs.Prelude.{Ok, length, ◌≡◌};
+ghost use Rattle.std.specs.Prelude.{IfOk, IsSome, None, Ok, length, ◌<◌, ◌≡◌};
 
 use crate::connections::{Connections, Maker};
 use crate::cut::FrontFault;
@@ -52,6 +52,8 @@ pub struct Bound {
 pub struct FrontParts<T, O, W> {
     /// Its listeners, which may be bound by whoever makes them.
     pub listeners: Vec<Bound>,
+    /// Its runtime, of `front_runtime`; it makes one where there is none.
+    pub runtime: Option<LocalRuntime>,
     /// Its event handler.
     pub taker: T,
     /// Sender one of the outbox.
@@ -73,6 +75,21 @@ pub struct FrontEnded<T> {
     pub sender: Sender,
 }
 
+/// A runtime for these listeners; none where nothing listens. It takes descriptors: made before any client is answered, it finds them, where a process
+/// may have few.
+pub fn front_runtime<R: Clock + Net + RandomSource + AllocGlobal>(
+    rt: &R,
+    listeners: &[Bound],
+) -> Result<Option<LocalRuntime>, FrontFault>
+    ensures none { length listeners.now ≡ 0 → result ≡ Ok None }
+    ensures some { 0 < length listeners.now → IfOk result (λ runtime. IsSome runtime) }
+{
+    if listeners.is_empty() {
+        return Ok(None);
+    }
+    Ok(Some(LocalRuntime::new(rt)?))
+}
+
 /// Serves DNS on HTTP until the flag is set; then the connections that stand, and the requests that wait, have 300 ms, and end. Where nothing
 /// listens, it ends at once.
 pub fn run_front<
@@ -85,6 +102,7 @@ pub fn run_front<
 {
     let FrontParts {
         listeners,
+        runtime,
         taker,
         sender,
         outside,
@@ -95,7 +113,10 @@ pub fn run_front<
     if listeners.is_empty() {
         return Ok(FrontEnded { taker, sender });
     }
-    let mut runtime = LocalRuntime::new(&rt)?;
+    let mut runtime = match runtime {
+        Some(runtime) => runtime,
+        None => LocalRuntime::new(&rt)?,
+    };
     runtime.set_shutdown_timeout(Some(Duration::from_millis(END)));
     let asker = Asker::new(taker, sender, outside, streams);
     let shared = shared_by(alloc, runtime.handle().time(), asker, requests)?;

@@ -16,7 +16,7 @@ use crate::threads::{FrontEnd, Fronting, LoopParts, LoopsEnd, Over, run_beside};
 use lb_core::Balancer;
 use lb_desk::{CloseFault, Desk, Naming, Seat};
 use lb_doh::{HttpPosts, Waiting, posts_cross_threads};
-use lb_front::FrontParts;
+use lb_front::{FrontParts, front_runtime};
 use lb_loops::{
     Caller, ClockParts, DatagramParts, Ended, Front, Outbox, Parts, Receiver, Roster, Sender,
     StreamParts, callers_cross_threads,
@@ -288,7 +288,10 @@ fn run_prepared<
 {
     match write_line(output, b"ready\n") {
         Ok(()) => left_of(rt, alloc, loops, console, over, front),
-        Err(error) => Err(Fault::Output(error)),
+        Err(error) => {
+            drop(front);
+            Err(Fault::Output(error))
+        }
     }
 }
 
@@ -375,6 +378,7 @@ fn prepared<'a, J: Naming, R: Wait + Net + Clock + RandomSource>(
     let (sender, second_sender, receiver) = Outbox::made(alloc, JOBS)?;
     let front = Fronting {
         parts: FrontParts {
+            runtime: front_runtime(&(rt, alloc), http.as_slice()).map_err(Fault::Front)?,
             listeners: http,
             taker: Caller::new(rt, desk, fifth),
             sender,
