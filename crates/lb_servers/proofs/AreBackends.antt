@@ -1,12 +1,12 @@
 -- What the lists of servers and pools keep true, through each edit.
-use Rattle.std.proofs.Common.{◌≡◌, ℕ, zero, suc, ◌+◌, ◌<◌, ◌≤◌, ◌==◌, Bool, true, false, not, cond, List, [], ◌∷◌, ◌++◌, length, map, Option, None, Some, Result, Ok, Err, inl, inr, refl, sym, ap, subst, ◌∙◌, arith, length-append}
-use Rattle.std.specs.Prelude.{OnErr, OnOk, bytes_eq, is_some, is_none, nat_lt, option_map, slice_get}
+use Rattle.std.proofs.Common.{◌≡◌, ℕ, zero, suc, ◌+◌, ◌<◌, ◌≤◌, ◌==◌, Bool, true, false, not, cond, List, [], ◌∷◌, ◌++◌, length, get_or, set, map, Option, None, Some, Ok, inl, inr, refl, sym, ap, subst, ◌∙◌, arith}
+use Rattle.std.specs.Prelude.{bytes_eq, is_some, is_none, nat_lt, option_map, slice_get}
 use Rattle.std.specs.List.{AllByRecursion, cons_option, count_by, filter, filter_map, find, fold, list_any, position, position_or_len}
 use Rattle.std.proofs.lemmas.Bool.{cases_Bool, eqb-true, ltb-true, or_parts}
 use Rattle.std.proofs.lemmas.List.{length-map, length_push, with_items_is}
 use Rattle.std.specs.Vec.{with_items}
 use Rattle.std.specs.declared.vec.Vec.{Vec}
-use Rattle.std.proofs.lemmas.List.Sums.{sum_by-append, sum_by-cons}
+use Rattle.std.proofs.lemmas.List.Sums.{sum_by-cons}
 use Rattle.std.proofs.lemmas.Bool.Decides.{nat_tests}
 use Rattle.std.proofs.lemmas.Slice.Eq.{bytes_eq-Decides}
 use Rattle.lb_wire.specs.declared.ids.CacheId.{CacheId}
@@ -19,11 +19,16 @@ use Rattle.lb_servers.specs.declared.pool.PoolName.TheVariants.{Default, Named}
 use Rattle.lb_servers.specs.declared.pool.Pool.{Pool}
 use Rattle.lb_servers.specs.declared.server.Loaded.{Loaded}
 use Rattle.lb_servers.specs.declared.spec.ServerSpec.{ServerSpec}
-use Rattle.lb_servers.specs.Park.{AreBackends, ArePools, AreServers, Backends, ByNumber, IsPark, IsGiven, StandsIn, has_cache, has_name, is_cache, no_backends, server_fault}
+use Rattle.lb_servers.specs.Park.{AreBackends, AreServers, Backends, IsPark, IsGiven, StandsIn, has_cache, changed_server, has_name, is_cache, no_backends, server_fault}
 use Rattle.lb_servers.specs.Pool.{change_at, is_named, new_pool, pool_named, same_name, same_pool, with_cache}
-use Rattle.lb_servers.specs.Server.{change_if, change_server, is_server, server_named}
+use Rattle.lb_servers.specs.Pick.{AreRemade, AreUps, IsRemade, up_servers}
+use Rattle.lb_servers.specs.Ranks.{StandAt, by_order}
+use Rattle.lb_servers.specs.Server.{ByNumber, IsPlaceOf, change_if, change_server, is_in, is_server, is_up_in, marked, server_named}
 use Rattle.lb_servers.specs.Spec.{joined, lacks_pool, new_server, pools_named, stated_pools}
+use Rattle.lb_servers.proofs.ByNumber.{each_at, place_changed}
 use Rattle.lb_servers.proofs.IsPark.{fewer, park_changed, keeps_if}
+use Rattle.lb_servers.proofs.Places.{stand_changed}
+use Rattle.lb_servers.proofs.UpServers.{ups_kept, ups_pushed}
 
 -- what holds of each element, through the changes of a list
 each_map : {X Y : Type 0} (P : X → Type 0) (Q : Y → Type 0) (f : X → Y) → ((x : X) → P x → Q (f x)) → (xs : List X) → AllByRecursion P xs → AllByRecursion Q (map f xs)
@@ -418,48 +423,119 @@ at_first = record {
   };
 }
 
--- what a park keeps true of its lists, with the places of its servers
-abbrev pub Whole : ℕ → ℕ → List Loaded → List Pool → List ℕ → Type 0
-Whole next next_cache servers pools ranks = IsPark servers pools ranks × AreBackends (record { next = next; next_cache = next_cache; servers = servers; pools = pools })
+-- what a park keeps true of its lists, with the places of its servers, and of the up ones of each pool
+abbrev pub Whole : ℕ → ℕ → List Loaded → List Pool → List ℕ → List (List ℕ) → Type 0
+Whole next next_cache servers pools ranks ups = IsPark servers pools ranks ups × AreBackends (record { next = next; next_cache = next_cache; servers = servers; pools = pools })
 
 -- a list that is written back in place
 back : {X Z : Type 0} (P : List X → Type 0) (v : Vec X Z) (new wanted : List X) → new ≡ wanted → length wanted ≡ length v.items → P wanted → P (with_items v new).items
 back P v new wanted is long holds = subst P (sym (with_items_is v new (ap length is ∙ long ∙ sym v.ok.0) ∙ is)) holds
 
--- a change of one server that leaves its number, name, pools and order
-pub servers_back : (id : ServerId) (change : Loaded → Loaded) → ((l : Loaded) → (change l).server.order ≡ l.server.order) → ((l : Loaded) → shape (change l) ≡ shape l) →
-    {Z : Type 0} (servers : Vec Loaded Z) (new : List Loaded) (next next_cache : ℕ) (pools : List Pool) (ranks : List ℕ) → new ≡ change_server id change servers.items →
-    Whole next next_cache servers.items pools ranks → Whole next next_cache (with_items servers new).items pools ranks
-servers_back id change ordered same servers new next next_cache pools ranks is whole =
+up_if : (b : Bool) (change : Loaded → Loaded) (pool : PoolId) → ((l : Loaded) → is_up_in pool (change l) ≡ is_up_in pool l) → (l : Loaded) → is_up_in pool (change_if b change l) ≡ is_up_in pool l
+up_if true change pool same l = same l
+up_if false change pool same l = refl
+
+-- a change of one server that leaves its number, name, pools, order and whether it is up
+pub servers_back : (id : ServerId) (change : Loaded → Loaded) → ((l : Loaded) → (change l).server.order ≡ l.server.order) → ((l : Loaded) → shape (change l) ≡ shape l) → ((pool : PoolId) (l : Loaded) → is_up_in pool (change l) ≡ is_up_in pool l) →
+    {Z : Type 0} (servers : Vec Loaded Z) (new : List Loaded) (next next_cache : ℕ) (pools : List Pool) (ranks : List ℕ) (ups : List (List ℕ)) → new ≡ change_server id change servers.items →
+    Whole next next_cache servers.items pools ranks ups → Whole next next_cache (with_items servers new).items pools ranks ups
+servers_back id change ordered same up servers new next next_cache pools ranks ups is whole =
     let f : Loaded → Loaded = λ l. change_if (is_server id l) change l in
-    back (λ (ls : List Loaded). Whole next next_cache ls pools ranks) servers new (change_server id change servers.items) is (length-map servers.items f) (
-      park_changed f (λ l. keeps_if (is_server id l) change ordered l) servers.items pools ranks whole.0,
+    let keeps : (l : Loaded) → (f l).server.order ≡ l.server.order = λ l. keeps_if (is_server id l) change ordered l in
+    back (λ (ls : List Loaded). Whole next next_cache ls pools ranks ups) servers new (change_server id change servers.items) is (length-map servers.items f) (
+      park_changed f keeps servers.items pools ranks ups ups whole.0 refl (λ number places there. ups_kept f keeps (record { 0 = number }) (λ l. up_if (is_server id l) change (record { 0 = number }) (up (record { 0 = number })) l) servers.items places (whole.0.up number places there)),
       server_changed id change same (record { next = next; next_cache = next_cache; servers = servers.items; pools = pools }) whole.1,
     )
 
+-- the up servers found anew
+pub with_ups : {Y : Type 0} (next next_cache : ℕ) (servers : List Loaded) (pools : List Pool) (ranks : List ℕ) (ups : Vec (List ℕ) Y) (made : List (List ℕ)) → length made ≡ length ups.items → Whole next next_cache servers pools ranks made → Whole next next_cache servers pools ranks (with_items ups made).items
+with_ups next next_cache servers pools ranks ups made each whole = back (λ (us : List (List ℕ)). Whole next next_cache servers pools ranks us) ups made made refl each whole
+
+-- a change of one server that leaves its number, name, pools and order, through which the up servers are found anew
+changed_back : (id : ServerId) (change : Loaded → Loaded) {Z : Type 0} (servers : Vec Loaded Z) (new : List Loaded) → new ≡ change_server id change servers.items → (with_items servers new).items ≡ change_server id change servers.items
+changed_back id change servers new is = with_items_is servers new (ap length is ∙ length-map servers.items (λ l. change_if (is_server id l) change l) ∙ sym servers.ok.0) ∙ is
+
+pub still_ranked : (id : ServerId) (change : Loaded → Loaded) → ((l : Loaded) → (change l).server.order ≡ l.server.order) →
+    {Z : Type 0} (servers : Vec Loaded Z) (new seen : List Loaded) (ranks : List ℕ) → new ≡ change_server id change servers.items → seen ≡ (with_items servers new).items → StandAt servers.items ranks (by_order servers.items) → StandAt seen ranks (by_order seen)
+still_ranked id change ordered servers new seen ranks is sight stand =
+    subst (λ (ls : List Loaded). StandAt ls ranks (by_order ls)) (sym (sight ∙ changed_back id change servers new is)) (stand_changed (λ l. change_if (is_server id l) change l) (λ l. keeps_if (is_server id l) change ordered l) servers.items ranks stand)
+
+-- the places of the up servers of a pool that the changed server does not stand in
+in_none : (b : Bool) (change : Loaded → Loaded) (pool : PoolId) (l : Loaded) → is_in pool l.server ≡ b → shape (change l) ≡ shape l → is_up_in pool (change_if (not b) change l) ≡ is_up_in pool l
+in_none true change pool l is same = refl
+in_none false change pool l is same =
+    let still : is_in pool (change l).server ≡ false = ap (λ (s : Shape). list_any (same_pool pool) s.2) same ∙ is in
+    rw (still, is) refl
+
+order_unless : (b : Bool) (change : Loaded → Loaded) (l : Loaded) → (change l).server.order ≡ l.server.order → (change_if b change l).server.order ≡ l.server.order
+order_unless true change l ordered = ordered
+order_unless false change l ordered = refl
+
+other_pool : (id : ServerId) (change : Loaded → Loaded) → ((l : Loaded) → (change l).server.order ≡ l.server.order) → ((l : Loaded) → shape (change l) ≡ shape l) →
+    (pool : PoolId) (ls : List Loaded) (at : ℕ) (d : Loaded) (places : List ℕ) → IsPlaceOf id ls at → is_in pool (get_or ls at d).server ≡ false → StandAt ls places (up_servers pool ls) → StandAt (change_server id change ls) places (up_servers pool (change_server id change ls))
+other_pool id change ordered same pool ls at d places placed out stand =
+    let there : Loaded → Loaded = λ l. change_if (not (is_in pool l.server)) change l in
+    let alike : change_server id there ls ≡ change_server id change ls = sym (place_changed id there ls at d placed) ∙ ap (λ (b : Bool). set ls at (change_if (not b) change (get_or ls at d))) out ∙ place_changed id change ls at d placed in
+    subst (λ (os : List Loaded). StandAt os places (up_servers pool os)) alike
+    (ups_kept (λ l. change_if (is_server id l) there l) (λ l. order_unless (is_server id l) there l (order_unless (not (is_in pool l.server)) change l (ordered l))) pool
+    (λ l. up_if (is_server id l) there pool (λ o. in_none (is_in pool o.server) change pool o refl (same o)) l) ls places stand)
+
+one_pool : (id : ServerId) (change : Loaded → Loaded) → ((l : Loaded) → (change l).server.order ≡ l.server.order) → ((l : Loaded) → shape (change l) ≡ shape l) →
+    (b : Bool) (pool : PoolId) (ls seen : List Loaded) (at : ℕ) (d : Loaded) (was : Option (List ℕ)) (places : List ℕ) → IsPlaceOf id ls at → is_in pool (get_or ls at d).server ≡ b → seen ≡ change_server id change ls → (was ≡ Some places → StandAt ls places (up_servers pool ls)) → IsRemade b pool seen was places → StandAt seen places (up_servers pool seen)
+one_pool id change ordered same true pool ls seen at d was places placed is sight are remade = remade
+one_pool id change ordered same false pool ls seen at d was places placed is sight are remade =
+    subst (λ (os : List Loaded). StandAt os places (up_servers pool os)) (sym sight) (other_pool id change ordered same pool ls at d places placed is (are remade))
+
+pub servers_made : (id : ServerId) (change : Loaded → Loaded) → ((l : Loaded) → (change l).server.order ≡ l.server.order) → ((l : Loaded) → shape (change l) ≡ shape l) →
+    {Y Z : Type 0} (servers : Vec Loaded Z) (new seen : List Loaded) (next next_cache : ℕ) (pools : List Pool) (ranks : List ℕ) (ups : Vec (List ℕ) Y) (lent made : List (List ℕ)) (at : ℕ) (d : Loaded) (ids : List PoolId) → IsPlaceOf id servers.items at → ids ≡ (get_or servers.items at d).server.pools →
+    new ≡ change_server id change servers.items → seen ≡ (with_items servers new).items → lent ≡ ups.items → length made ≡ length lent → AreRemade ids seen lent made →
+    Whole next next_cache servers.items pools ranks ups.items → Whole next next_cache (with_items servers new).items pools ranks (with_items ups made).items
+servers_made id change ordered same servers new seen next next_cache pools ranks ups lent made at d ids placed stood is sight loan each remade whole =
+    let f : Loaded → Loaded = λ l. change_if (is_server id l) change l in
+    let there : (with_items servers new).items ≡ change_server id change servers.items = changed_back id change servers new is in
+    let size : length made ≡ length ups.items = each ∙ ap length loan in
+    let up : AreUps seen made = λ number places has. one_pool id change ordered same (list_any (same_pool (record { 0 = number })) ids) (record { 0 = number }) servers.items seen at d (slice_get lent number) places placed
+    (ap (list_any (same_pool (record { 0 = number }))) (sym stood)) (sight ∙ there) (λ was. whole.0.up number places (ap (λ (us : List (List ℕ)). slice_get us number) (sym loan) ∙ was)) (remade number places has) in
+    with_ups next next_cache (with_items servers new).items pools ranks ups made size (subst (λ (ls : List Loaded). Whole next next_cache ls pools ranks made) (sym there) (
+      park_changed f (λ l. keeps_if (is_server id l) change ordered l) servers.items pools ranks ups.items made whole.0 size (subst (λ (ls : List Loaded). AreUps ls made) (sight ∙ there) up),
+      server_changed id change same (record { next = next; next_cache = next_cache; servers = servers.items; pools = pools }) whole.1,
+    ))
+
+-- a mark that the server has changes nothing
+pub mark_stays : (park : Backends) (id : ServerId) (up : Bool) → list_any (is_server id) park.servers ≡ true → change_server id (marked up) park.servers ≡ park.servers → (park, Ok tt) ≡ changed_server (marked up) park id
+mark_stays park id up there same = rw (there, same) refl
+
+-- the pools of a server are there, each with its up servers
+pub pools_there : (next next_cache : ℕ) (servers : List Loaded) (pools : List Pool) (ranks : List ℕ) (ups lent : List (List ℕ)) (at : ℕ) (d : Loaded) (ids : List PoolId) → Whole next next_cache servers pools ranks ups → at < length servers → ids ≡ (get_or servers at d).server.pools → lent ≡ ups → AllByRecursion (λ id. id.0 < length lent) ids
+pools_there next next_cache servers pools ranks ups lent at d ids whole lt stood loan =
+    let size : length pools ≡ length lent = sym (ap length loan ∙ whole.0.ups_each) in
+    let in_them : StandsIn (length pools) (get_or servers at d).server.pools = each_at (λ l. StandsIn (length pools) l.server.pools) servers at d lt whole.1.servers.stand in
+    subst (λ (n : ℕ). AllByRecursion (λ id. id.0 < n) ids) size (subst (λ (xs : List PoolId). AllByRecursion (λ id. id.0 < length pools) xs) (sym stood) in_them.there)
+
 -- a change of one pool
-pub pools_back : (change : Pool → Pool) (at : ℕ) {Z : Type 0} (pools : Vec Pool Z) (new : List Pool) (next next_cache given : ℕ) (servers : List Loaded) (ranks : List ℕ) → new ≡ change_at change at pools.items →
+pub pools_back : (change : Pool → Pool) (at : ℕ) {Z : Type 0} (pools : Vec Pool Z) (new : List Pool) (next next_cache given : ℕ) (servers : List Loaded) (ranks : List ℕ) (ups : List (List ℕ)) → new ≡ change_at change at pools.items →
     (AreBackends (record { next = next; next_cache = next_cache; servers = servers; pools = pools.items }) → AreBackends (record { next = next; next_cache = given; servers = servers; pools = change_at change at pools.items })) →
-    Whole next next_cache servers pools.items ranks → Whole next given servers (with_items pools new).items ranks
-pools_back change at pools new next next_cache given servers ranks is made whole =
-    back (λ (ps : List Pool). Whole next given servers ps ranks) pools new (change_at change at pools.items) is (changed_long change at pools.items) (
-      record { servers_few = whole.0.servers_few; pools_few = omega (arith, changed_long change at pools.items, whole.0.pools_few); ranked = whole.0.ranked },
+    Whole next next_cache servers pools.items ranks ups → Whole next given servers (with_items pools new).items ranks ups
+pools_back change at pools new next next_cache given servers ranks ups is made whole =
+    back (λ (ps : List Pool). Whole next given servers ps ranks ups) pools new (change_at change at pools.items) is (changed_long change at pools.items) (
+      record { servers_few = whole.0.servers_few; pools_few = omega (arith, changed_long change at pools.items, whole.0.pools_few); ranked = whole.0.ranked; ups_each = whole.0.ups_each ∙ sym (changed_long change at pools.items); up = whole.0.up },
       made whole.1,
     )
 
--- a list with one more, or as it was
-either : {X E : Type 0} (P : List X → Type 0) (r : Result (Unit {0}) E) (new more same : List X) → OnOk r (new ≡ more) → OnErr r (new ≡ same) → P more → P same → P new
-either P (Ok done) new more same ok err first second = subst P (sym ok) first
-either P (Err fault) new more same ok err first second = subst P (sym err) second
-
--- a pool put behind the others, or not
-pub pool_pushed : (name : PoolName) (r : Result (Unit {0}) ParkFault) (next next_cache : ℕ) (servers : List Loaded) (pools new : List Pool) (ranks : List ℕ) → OnOk r (new ≡ pools ++ new_pool name ∷ []) → OnErr r (new ≡ pools) →
-    list_any (is_named name) pools ≡ false → length pools < 64 → Whole next next_cache servers pools ranks → Whole next next_cache servers new ranks
-pool_pushed name r next next_cache servers pools new ranks ok err free few whole =
-    either (λ (ps : List Pool). Whole next next_cache servers ps ranks) r new (pools ++ new_pool name ∷ []) pools ok err (
-      record { servers_few = whole.0.servers_few; pools_few = omega (arith, length_push pools (new_pool name), few); ranked = whole.0.ranked },
+-- a pool put behind the others, with its up servers
+pub pool_pushed : (name : PoolName) (next next_cache : ℕ) (servers : List Loaded) (pools new : List Pool) (ranks : List ℕ) (ups made : List (List ℕ)) (places : List ℕ) → new ≡ pools ++ new_pool name ∷ [] → made ≡ ups ++ places ∷ [] → StandAt servers places (up_servers (record { 0 = length pools }) servers) →
+    list_any (is_named name) pools ≡ false → length pools < 64 → Whole next next_cache servers pools ranks ups → Whole next next_cache servers new ranks made
+pool_pushed name next next_cache servers pools new ranks ups made places is more stand free few whole =
+    subst (λ (ps : List Pool). Whole next next_cache servers ps ranks made) (sym is) (subst (λ (us : List (List ℕ)). Whole next next_cache servers (pools ++ new_pool name ∷ []) ranks us) (sym more) (
+      record {
+        servers_few = whole.0.servers_few;
+        pools_few = omega (arith, length_push pools (new_pool name), few);
+        ranked = whole.0.ranked;
+        ups_each = omega (arith, length_push pools (new_pool name), length_push ups places, whole.0.ups_each);
+        up = ups_pushed servers ups places whole.0.up (subst (λ (k : ℕ). StandAt servers places (up_servers (record { 0 = k }) servers)) (sym whole.0.ups_each) stand);
+      },
       pool_added name (record { next = next; next_cache = next_cache; servers = servers; pools = pools }) whole.1 free few,
-    ) whole
+    ))
 
 -- where no refusal applies
 none_if : (b : Bool) (fault : ParkFault) (rest : Option ParkFault) → None ≡ cond b (Some fault) rest → (b ≡ false) × (None ≡ rest)

@@ -1,9 +1,9 @@
-pub mod Mapped
+pub mod ByNumber
 pub mod ByOrder
 pub mod Places
 pub mod Taken
-pub mod Ups
 pub mod Joined
 pub mod ChangeAt
 pub mod IsPark
+pub mod UpServers
 pub mod AreBackends

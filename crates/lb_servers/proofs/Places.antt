@@ -34,11 +34,12 @@ stand_next servers places seen at place d lt same is stand =
     let there : place ≡ place_or_end (λ k. behind l.server.order (slice_get servers k)) places = is ∙ ap (place_or_end (λ k. behind l.server.order (slice_get servers k))) same in
     rw (there, fold_more put_by_order [] servers at d lt) (stand_put servers places (by_order (take at servers)) at l (slice_get-get_or servers at d lt) stand)
 
-gets_map : (f : Loaded → Loaded) (servers : List Loaded) (places : List ℕ) → map (slice_get (map f servers)) places ≡ map (option_map f) (map (slice_get servers) places)
+-- by places that stay, of changed servers
+pub gets_map : (f : Loaded → Loaded) (servers : List Loaded) (places : List ℕ) → map (slice_get (map f servers)) places ≡ map (option_map f) (map (slice_get servers) places)
 gets_map f servers [] = refl
 gets_map f servers (place ∷ places) = rw (slice_get-map f servers place, gets_map f servers places) refl
 
-somes_map : (f : Loaded → Loaded) (servers : List Loaded) → map (option_map f) (map Some servers) ≡ map Some (map f servers)
+pub somes_map : (f : Loaded → Loaded) (servers : List Loaded) → map (option_map f) (map Some servers) ≡ map Some (map f servers)
 somes_map f [] = refl
 somes_map f (l ∷ servers) = rw (somes_map f servers) refl
 

@@ -11,9 +11,10 @@ use Rattle.lb_servers.specs.declared.pool.PoolName.TheVariants as names
 use Rattle.lb_servers.specs.declared.pool.Pool.{Pool}
 use Rattle.lb_servers.specs.declared.server.Loaded.{Loaded}
 use Rattle.lb_servers.specs.declared.spec.ServerSpec.{ServerSpec}
+use Rattle.lb_servers.specs.Pick.{AreUps}
 use Rattle.lb_servers.specs.Pool.{cache_at, change_at, is_named, new_pool, same_pool, with_cache}
 use Rattle.lb_servers.specs.Ranks.{StandAt, by_order}
-use Rattle.lb_servers.specs.Server.{change_server, is_server, server_named}
+use Rattle.lb_servers.specs.Server.{ByNumber, change_server, is_server, server_named}
 use Rattle.lb_servers.specs.Spec.{lacks_pool, new_server, stated_pools}
 
 -- the next server and cache numbers (2^64 once all are given), the servers by number, each with how many queries it has
@@ -108,16 +109,14 @@ abbrev pub lacks : {A : Type 0} → Result A ParkFault → Bool
 lacks (Err faults.NoMemory) = true
 lacks _ = false
 
--- what the table keeps true: no more servers and pools than may be, and the places of the servers by order
-pub record IsPark (servers : List Loaded) (pools : List Pool) (ranks : List ℕ) : Type 0 where
+-- what the table keeps true: no more servers and pools than may be, the places of the servers by order, and those of the up servers
+-- of each pool
+pub record IsPark (servers : List Loaded) (pools : List Pool) (ranks : List ℕ) (ups : List (List ℕ)) : Type 0 where
   pub servers_few : length servers ≤ 256
   pub pools_few : length pools ≤ 64
   pub ranked : StandAt servers ranks (by_order servers)
-
--- the servers stand by number, each number once
-abbrev pub ByNumber : List Loaded → Type 0
-ByNumber [] = Unit {0}
-ByNumber (l ∷ servers) = AllByRecursion (λ o. l.server.id.0 < o.server.id.0) servers × ByNumber servers
+  pub ups_each : length ups ≡ length pools
+  pub up : AreUps servers ups
 
 -- whether a server has a name
 abbrev pub has_name : List ℕ → Loaded → Bool

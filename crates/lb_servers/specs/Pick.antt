@@ -1,6 +1,6 @@
 -- The choice of a server in a pool, by the pool's policy.
-use Rattle.std.specs.Prelude.{ℕ, ◌%◌, nat_lt, List, length, Option, None, Some, option_map, slice_get, if◌then◌else◌}
-use Rattle.std.specs.List.{filter, filter_map, reduce}
+use Rattle.std.specs.Prelude.{◌≡◌, ℕ, ◌%◌, nat_lt, Bool, true, false, List, length, Option, None, Some, option_map, slice_get, if◌then◌else◌}
+use Rattle.std.specs.List.{filter, filter_map, list_any, reduce}
 use Rattle.std.specs.Option.{option_and_then}
 use Rattle.lb_wire.specs.declared.ids.PoolId.{PoolId}
 use Rattle.lb_wire.specs.declared.ids.ServerId.{ServerId}
@@ -8,8 +8,9 @@ use Rattle.lb_servers.specs.declared.pool.Policy.{Policy}
 use Rattle.lb_servers.specs.declared.pool.Policy.TheVariants.{FirstAvailable, LeastOutstanding, RoundRobin}
 use Rattle.lb_servers.specs.declared.pool.Pool.{Pool}
 use Rattle.lb_servers.specs.declared.server.Loaded.{Loaded}
+use Rattle.lb_servers.specs.Pool.{same_pool}
 use Rattle.lb_servers.specs.Server.{is_up_in}
-use Rattle.lb_servers.specs.Ranks.{by_order}
+use Rattle.lb_servers.specs.Ranks.{StandAt, by_order}
 
 -- the up servers of a pool, by order, then age
 abbrev pub up_servers : PoolId → List Loaded → List Loaded
@@ -30,17 +31,34 @@ chosen RoundRobin turn ups = slice_get ups (turn % length ups)
 abbrev pub picked : List Loaded → List Pool → PoolId → Option ServerId
 picked servers pools pool = option_and_then (λ p. option_map (λ l. l.server.id) (chosen p.policy p.turn (up_servers pool servers))) (slice_get pools pool.0)
 
--- a server that may be there, where it stands in a pool and is up
-abbrev pub up_one : PoolId → Option Loaded → Option Loaded
-up_one pool None = None
-up_one pool (Some l) = if is_up_in pool l then Some l else None
+-- whether a server that may be there stands in a pool and is up
+abbrev pub is_up_at : PoolId → Option Loaded → Bool
+is_up_at pool None = false
+is_up_at pool (Some l) = is_up_in pool l
 
--- the servers of a pool that are up, among those at some places of the list; and their numbers
-abbrev pub ups_at : PoolId → List Loaded → List ℕ → List Loaded
-ups_at pool servers places = filter_map (λ at. up_one pool (slice_get servers at)) places
+-- those of some places of the list where servers of a pool stand that are up
+abbrev pub up_places : PoolId → List Loaded → List ℕ → List ℕ
+up_places pool servers places = filter (λ at. is_up_at pool (slice_get servers at)) places
 
-abbrev pub up_ids : PoolId → List Loaded → List ℕ → List ServerId
-up_ids pool servers places = filter_map (λ at. option_map (λ l. l.server.id) (up_one pool (slice_get servers at))) places
+-- of each pool, by number, the places of its up servers, by order, then age
+abbrev pub AreUps : List Loaded → List (List ℕ) → Type 0
+AreUps servers ups = (number : ℕ) (places : List ℕ) → slice_get ups number ≡ Some places → StandAt servers places (up_servers (record { 0 = number }) servers)
+
+-- the places of the up servers of one pool, found anew or as they were
+abbrev pub IsRemade : Bool → PoolId → List Loaded → Option (List ℕ) → List ℕ → Type 0
+IsRemade true pool servers was places = StandAt servers places (up_servers pool servers)
+IsRemade false pool servers was places = was ≡ Some places
+
+-- those of these pools found anew, those of the others as they were
+abbrev pub AreRemade : List PoolId → List Loaded → List (List ℕ) → List (List ℕ) → Type 0
+AreRemade pools servers was ups = (number : ℕ) (places : List ℕ) → slice_get ups number ≡ Some places → IsRemade (list_any (same_pool (record { 0 = number })) pools) (record { 0 = number }) servers (slice_get was number) places
+
+-- the servers at some places of the list
+abbrev pub servers_at : List Loaded → List ℕ → List Loaded
+servers_at servers places = filter_map (slice_get servers) places
+
+abbrev pub server_at : List Loaded → Option ℕ → Option Loaded
+server_at servers place = option_and_then (slice_get servers) place
 
 -- the less loaded of the best server so far and the next one, where they are there
 abbrev pub best_of : Option Loaded → Option Loaded → Option Loaded

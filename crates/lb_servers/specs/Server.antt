@@ -1,6 +1,6 @@
 -- Servers, and which of them are up.
-use Rattle.std.specs.Prelude.{ℕ, ◌+◌, ◌-◌, Bool, true, false, ◌==◌, ◌&&◌, List, map, Option, option_map, bytes_eq, if◌then◌else◌}
-use Rattle.std.specs.List.{find, list_any}
+use Rattle.std.specs.Prelude.{◌≡◌, ℕ, ◌+◌, ◌-◌, ◌<◌, Bool, true, false, ◌==◌, ◌&&◌, List, [], ◌∷◌, map, Option, None, Some, option_map, bytes_eq, if◌then◌else◌}
+use Rattle.std.specs.List.{AllByRecursion, find, list_any, position}
 use Rattle.lb_wire.specs.declared.ids.ServerId.{ServerId}
 use Rattle.lb_wire.specs.declared.ids.PoolId.{PoolId}
 use Rattle.lb_servers.specs.declared.server.Mode.{Mode}
@@ -29,6 +29,20 @@ is_up_in pool l = is_in pool l.server && is_up l.server
 -- whether this is the server with a number
 abbrev pub is_server : ServerId → Loaded → Bool
 is_server id l = l.server.id.0 == id.0
+
+-- the servers stand by number, each number once
+abbrev pub ByNumber : List Loaded → Type 0
+ByNumber [] = Unit {0}
+ByNumber (l ∷ servers) = AllByRecursion (λ o. l.server.id.0 < o.server.id.0) servers × ByNumber servers
+
+-- a place, where the server that may stand there has a number
+abbrev pub place_if : ServerId → ℕ → Option Loaded → Option ℕ
+place_if id at None = None
+place_if id at (Some l) = if is_server id l then Some at else None
+
+-- where, among servers by number, the server with a number stands
+abbrev pub IsPlaceOf : ServerId → List Loaded → ℕ → Type 0
+IsPlaceOf id servers at = ByNumber servers × (position (is_server id) servers ≡ Some at)
 
 -- the number of the server with a name
 abbrev pub server_named : List Loaded → List ℕ → Option ServerId

@@ -9,6 +9,7 @@ mod pool;
 mod ranks;
 mod server;
 mod spec;
+mod ups;
 
 pub use fault::ParkFault;
 pub use ident::Ident;

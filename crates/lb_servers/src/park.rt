@@ -8,16 +8,16 @@ ghost use Rattle.lb_servers.specs.declared.fault.ParkFault.{ParkFault};
 ghost use Rattle.lb_servers.specs.declared.server.Loaded.{Loaded};
 ghost use Rattle.lb_servers.specs.Pool.{cache_at, pool_named, turned, with_policy};
 ghost use Rattle.lb_servers.specs.Server.{is_server, marked, server_named, with_mode, with_one_less, with_one_more};
-ghost use Rattle.lb_servers.specs.Pick.{picked};
+ghost use Rattle.lb_servers.specs.Pick.{chosen, picked, up_servers};
 ghost use Rattle.lb_servers.specs.Park.{AreBackends, added_pool, added_server, attached, cache_ready_of, changed_pool, detached, changed_server, lacks, no_backends, removed_server, server_fault, with_pool, with_server};
 
 use crate::fault::ParkFault;
 use crate::ident::Ident;
-use crate::pick;
 use crate::pool::{self, MAX_POOLS, Policy, Pool, PoolName};
 use crate::ranks::{MAX_SERVERS, Ranks};
 use crate::server::{self, Loaded, Mode};
 use crate::spec::{self, ServerSpec};
+use crate::{pick, ups};
 use lb_wire::{CacheId, PoolId, ServerId};
 use std::alloc::{AllocError, Global};
 use std::marker::Model;
@@ -34,6 +34,9 @@ pub struct Park {
     pools: Vec<Pool>,
     /// The places of the servers by order, made anew after each edit that adds or removes one.
     ranks: Ranks,
+    /// Of each pool, by number, the places of its servers that are up, by order, made anew after each edit that may change
+    /// them: so that a query finds them and no others.
+    ups: Vec<Ranks>,
 }
 
 impl Model for Park {
@@ -44,7 +47,7 @@ impl Model for Park {
 
     ghost view = { λ p. record { next = p.last_server + 1; next_cache = p.last_cache + 1; servers = p.servers.items; pools = p.pools.items } };
 
-    ghost invariant = { λ p. IsPark p.servers.items p.pools.items p.ranks × AreBackends (record { next = p.last_server + 1; next_cache = p.last_cache + 1; servers = p.servers.items; pools = p.pools.items }) };
+    ghost invariant = { λ p. IsPark p.servers.items p.pools.items p.ranks p.ups.items × AreBackends (record { next = p.last_server + 1; next_cache = p.last_cache + 1; servers = p.servers.items; pools = p.pools.items }) };
 }
 
 impl Park {
@@ -54,12 +57,15 @@ impl Park {
     {
         let mut pools = Vec::new(alloc);
         pools.push(Pool::new(PoolName::Default))?;
+        let mut ups = Vec::new(alloc);
+        ups.push(Ranks::new())?;
         Ok(Park {
             last_server: 0,
             last_cache: 0,
             servers: Vec::new(alloc),
             pools,
             ranks: Ranks::new(),
+            ups,
         })
     }
 
@@ -150,10 +156,13 @@ impl Park {
         if at >= MAX_POOLS {
             return Err(ParkFault::TooMany);
         }
-        match pool::push(&mut self.pools, name) {
-            Ok(()) => Ok(PoolId(at as u8)),
-            Err(fault) => Err(fault),
-        }
+        // Room for both is taken before either is changed.
+        self.ups.reserve(1)?;
+        pool::push(&mut self.pools, name)?;
+        let pool = PoolId(at as u8);
+        let ups = self.ranks.up_in(self.servers.as_slice(), pool);
+        self.ups.push(ups).unwrap();
+        Ok(pool)
     }
 
     /// Adds a server, in mode auto and marked up. The refusals, in their order: `NoSuchPool` where a pool that the spec
@@ -171,6 +180,11 @@ impl Park {
             Ok(()) => {
                 self.last_server = id;
                 self.ranks = Ranks::of(self.servers.as_slice());
+                ups::remake(
+                    self.ups.as_mut_slice(),
+                    &self.ranks,
+                    self.servers.as_slice(),
+                );
                 Ok(ServerId(id))
             }
             Err(fault) => Err(fault),
@@ -213,11 +227,16 @@ impl Park {
     pub fn remove_server(&mut self, id: ServerId) -> Result<(), ParkFault>
         ensures { (self.new, result) ≡ removed_server self.old id }
     {
-        if !server::has_server(self.servers.as_slice(), id) {
+        let Some(at) = server::place_of(self.servers.as_slice(), id) else {
             return Err(ParkFault::NoSuchServer);
-        }
-        server::remove(&mut self.servers, id);
+        };
+        server::remove(&mut self.servers, at);
         self.ranks = Ranks::of(self.servers.as_slice());
+        ups::remake(
+            self.ups.as_mut_slice(),
+            &self.ranks,
+            self.servers.as_slice(),
+        );
         Ok(())
     }
 
@@ -226,10 +245,17 @@ impl Park {
     pub fn set_mode(&mut self, id: ServerId, mode: Mode) -> Result<(), ParkFault>
         ensures { (self.new, result) ≡ changed_server (with_mode mode) self.old id }
     {
-        if !server::has_server(self.servers.as_slice(), id) {
+        let Some(at) = server::place_of(self.servers.as_slice(), id) else {
             return Err(ParkFault::NoSuchServer);
-        }
-        server::set_mode(self.servers.as_mut_slice(), id, mode);
+        };
+        let pools = self.servers[at].server.pools.copy();
+        server::set_mode(self.servers.as_mut_slice(), at, mode);
+        ups::remake_of(
+            self.ups.as_mut_slice(),
+            &self.ranks,
+            self.servers.as_slice(),
+            pools.as_slice(),
+        );
         Ok(())
     }
 
@@ -238,10 +264,20 @@ impl Park {
     pub fn mark(&mut self, id: ServerId, up: bool) -> Result<(), ParkFault>
         ensures { (self.new, result) ≡ changed_server (marked up) self.old id }
     {
-        if !server::has_server(self.servers.as_slice(), id) {
+        let Some(at) = server::place_of(self.servers.as_slice(), id) else {
             return Err(ParkFault::NoSuchServer);
+        };
+        if self.servers[at].server.marked_up == up {
+            return Ok(());
         }
-        server::mark(self.servers.as_mut_slice(), id, up);
+        let pools = self.servers[at].server.pools.copy();
+        server::mark(self.servers.as_mut_slice(), at, up);
+        ups::remake_of(
+            self.ups.as_mut_slice(),
+            &self.ranks,
+            self.servers.as_slice(),
+            pools.as_slice(),
+        );
         Ok(())
     }
 
@@ -306,13 +342,16 @@ impl Park {
         ensures { result ≡ picked self.now.servers self.now.pools pool }
     {
         let found = self.pools.get(usize::from(pool.0))?;
-        pick::pick(
-            self.servers.as_slice(),
-            self.ranks.as_slice(),
-            pool,
-            found.policy,
-            found.turn,
-        )
+        self.pick_by(pool, found.policy, found.turn)
+    }
+
+    /// The server that a policy picks for a query among those of a pool that are up.
+    fn pick_by(&self, pool: PoolId, policy: Policy, turn: u64) -> Option<ServerId>
+        requires { pool.0 < length self.now.pools }
+        ensures { result ≡ option_map (λ l. l.server.id) (chosen policy turn (up_servers pool self.now.servers)) }
+    {
+        let ups = self.ups[usize::from(pool.0)].as_slice();
+        pick::pick(self.servers.as_slice(), ups, policy, turn)
     }
 
     /// Counts a turn of a pool, where it is there: 2^64-1 is followed by 0.

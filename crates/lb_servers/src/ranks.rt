@@ -3,10 +3,12 @@
 ghost use Rattle.std.specs.Prelude.{◌≡◌, ◌+◌, ◌<◌, ◌≤◌, IfSome, [], length, slice_get, take};
 ghost use Rattle.std.specs.List.{position};
 ghost use Rattle.std.specs.Option.{unwrap_or};
+ghost use Rattle.lb_servers.specs.Pick.{up_servers, is_up_at as is_up_at_of};
 ghost use Rattle.lb_servers.specs.Ranks.{StandAt, behind, by_order};
 
 use crate::server::Loaded;
 use arrayvec::ArrayVec;
+use lb_wire::PoolId;
 use std::marker::Model;
 
 /// The most servers.
@@ -60,11 +62,35 @@ impl Ranks {
         self.items.insert(place, at as u8);
     }
 
+    /// Those of the places where servers of a pool stand that are up.
+    pub(crate) fn up_in(&self, servers: &[Loaded], pool: PoolId) -> Ranks
+        requires { StandAt servers.now self.now (by_order servers.now) }
+        ensures { StandAt servers.now result (up_servers pool servers.now) }
+    {
+        let mut items = ArrayVec::new();
+        for at in self.items.as_slice() {
+            if is_up_at(servers, *at, pool) {
+                items.push(*at);
+            }
+        }
+        Ranks { items }
+    }
+
     /// The places, in order.
     pub(crate) fn as_slice(&self) -> &[u8]
         ensures { result.now ≡ self.now }
     {
         self.items.as_slice()
+    }
+}
+
+/// Whether the server at a place stands in a pool and is up.
+fn is_up_at(servers: &[Loaded], at: u8, pool: PoolId) -> bool
+    ensures { result ≡ is_up_at_of pool (slice_get servers.now at) }
+{
+    match servers.get(usize::from(at)) {
+        Some(l) => l.is_up_in(pool),
+        None => false,
     }
 }
 

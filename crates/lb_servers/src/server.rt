@@ -1,12 +1,13 @@
 //! Servers.
 
-ghost use Rattle.std.specs.Prelude.{◌≡◌, ℕ, ◌+◌, ◌<◌, ◌≤◌, ◌^◌, IfErr, IfOk, IsTrue, OnErr, OnOk, not, [], ◌∷◌, ◌++◌, length, option_map, vec_len};
-ghost use Rattle.std.specs.List.{All, filter, find, list_any};
+ghost use Rattle.std.specs.Prelude.{◌≡◌, ℕ, ◌+◌, ◌<◌, ◌≤◌, ◌^◌, IfErr, IfOk, IfSome, IsTrue, OnErr, OnOk, not, [], ◌∷◌, ◌++◌, is_some, length, option_map, slice_get, vec_len};
+ghost use Rattle.std.specs.List.{All, filter, find, list_any, position};
 ghost use Rattle.std.specs.Vec.{vec_capacity};
+ghost use Rattle.lb_wire.specs.declared.ids.ServerId.{ServerId};
 ghost use Rattle.lb_servers.specs.declared.fault.ParkFault.TheVariants.{NoMemory};
 ghost use Rattle.lb_servers.specs.declared.server.Loaded.{Loaded};
 ghost use Rattle.lb_servers.specs.Pool.{same_pool};
-ghost use Rattle.lb_servers.specs.Server.{change_if, change_server, is_in, is_server, is_up, is_up_by, is_up_in, marked, server_named as number_named, with_mode, with_one_less, with_one_more};
+ghost use Rattle.lb_servers.specs.Server.{ByNumber, IsPlaceOf, change_server, is_in, is_server, is_up, is_up_by, is_up_in, marked, place_if, server_named as number_named, with_mode, with_one_less, with_one_more};
 ghost use Rattle.lb_servers.specs.Spec.{joined};
 
 use crate::fault::ParkFault;
@@ -177,49 +178,57 @@ impl Loaded {
         self.server.id.0 == id.0
     }
 
-    /// Puts it into a mode, where it has this number.
-    fn set_mode(&mut self, id: ServerId, mode: Mode)
-        ensures { self.new ≡ change_if (is_server id self.old) (with_mode mode) self.old }
+    /// Puts it into a mode.
+    fn set_mode(&mut self, mode: Mode)
+        ensures { self.new ≡ with_mode mode self.old }
     {
-        if self.is(id) {
-            self.server.mode = mode;
-        }
+        self.server.mode = mode;
     }
 
-    /// Marks it up or down, where it has this number.
-    fn mark(&mut self, id: ServerId, up: bool)
-        ensures { self.new ≡ change_if (is_server id self.old) (marked up) self.old }
+    /// Marks it up or down.
+    fn mark(&mut self, up: bool)
+        ensures { self.new ≡ marked up self.old }
     {
-        if self.is(id) {
-            self.server.marked_up = up;
-        }
+        self.server.marked_up = up;
     }
 
-    /// Counts a query, where it has this number.
-    fn began(&mut self, id: ServerId)
-        requires { IsTrue (is_server id self.old) → self.old.outstanding + 1 < 2 ^ 64 }
-        ensures { self.new ≡ change_if (is_server id self.old) with_one_more self.old }
+    /// Counts a query.
+    fn began(&mut self)
+        requires { self.old.outstanding + 1 < 2 ^ 64 }
+        ensures { self.new ≡ with_one_more self.old }
     {
-        if self.is(id) {
-            self.outstanding += 1;
-        }
+        self.outstanding += 1;
     }
 
-    /// Counts a query out, where it has this number and one outstanding.
-    fn ended(&mut self, id: ServerId)
-        ensures { self.new ≡ change_if (is_server id self.old) with_one_less self.old }
+    /// Counts a query out, where it has one outstanding.
+    fn ended(&mut self)
+        ensures { self.new ≡ with_one_less self.old }
     {
-        if self.is(id) {
-            self.outstanding = self.outstanding.saturating_sub(1);
-        }
+        self.outstanding = self.outstanding.saturating_sub(1);
     }
 }
 
-/// Whether there is a server with a number.
-pub(crate) fn has_server(servers: &[Loaded], id: ServerId) -> bool
-    ensures { result ≡ list_any (is_server id) servers.now }
+/// Where among servers by number the first one stands that has this number or a greater one.
+fn first_from(servers: &[Loaded], id: ServerId) -> usize
+    requires { ByNumber servers.now }
+    ensures place { place_if id result (slice_get servers.now result) ≡ position (is_server id) servers.now }
+    ensures there { is_some (place_if id result (slice_get servers.now result)) ≡ list_any (is_server id) servers.now }
 {
-    servers.iter().any(|l| l.is(id))
+    servers.partition_point(|l| l.server.id.0 < id.0)
+}
+
+/// Where the server with a number stands, among servers by number.
+pub(crate) fn place_of(servers: &[Loaded], id: ServerId) -> Option<usize>
+    requires { ByNumber servers.now }
+    ensures place { result ≡ position (is_server id) servers.now }
+    ensures there { is_some result ≡ list_any (is_server id) servers.now }
+    ensures within { IfSome result (λ at. at < length servers.now) }
+{
+    let at = first_from(servers, id);
+    match servers.get(at) {
+        Some(l) if l.is(id) => Some(at),
+        _ => None,
+    }
 }
 
 /// The number of the server with a name.
@@ -232,48 +241,49 @@ pub(crate) fn server_named(servers: &[Loaded], name: &Ident) -> Option<ServerId>
         .map(|l| l.server.id)
 }
 
-/// Puts the server with a number into a mode.
-pub(crate) fn set_mode(servers: &mut [Loaded], id: ServerId, mode: Mode)
-    ensures { servers.new ≡ change_server id (with_mode mode) servers.old }
+/// Puts the server at a place into a mode.
+pub(crate) fn set_mode(servers: &mut [Loaded], at: usize, mode: Mode)
+    requires { at < length servers.old }
+    ensures { (id : ServerId) → IsPlaceOf id servers.old at → servers.new ≡ change_server id (with_mode mode) servers.old }
 {
-    for server in servers.iter_mut() {
-        server.set_mode(id, mode);
-    }
+    servers[at].set_mode(mode);
 }
 
-/// Marks the server with a number up or down.
-pub(crate) fn mark(servers: &mut [Loaded], id: ServerId, up: bool)
-    ensures { servers.new ≡ change_server id (marked up) servers.old }
+/// Marks the server at a place up or down.
+pub(crate) fn mark(servers: &mut [Loaded], at: usize, up: bool)
+    requires { at < length servers.old }
+    ensures { (id : ServerId) → IsPlaceOf id servers.old at → servers.new ≡ change_server id (marked up) servers.old }
 {
-    for server in servers.iter_mut() {
-        server.mark(id, up);
-    }
+    servers[at].mark(up);
 }
 
 /// Counts a query of the server with a number.
 pub(crate) fn began(servers: &mut [Loaded], id: ServerId)
-    requires { All (λ l. IsTrue (is_server id l) → l.outstanding + 1 < 2 ^ 64) servers.old }
+    requires by_number { ByNumber servers.old }
+    requires room { All (λ l. IsTrue (is_server id l) → l.outstanding + 1 < 2 ^ 64) servers.old }
     ensures { servers.new ≡ change_server id with_one_more servers.old }
 {
-    for server in servers.iter_mut() {
-        server.began(id);
+    if let Some(at) = place_of(servers, id) {
+        servers[at].began();
     }
 }
 
 /// Counts a query of the server with a number out.
 pub(crate) fn ended(servers: &mut [Loaded], id: ServerId)
+    requires { ByNumber servers.old }
     ensures { servers.new ≡ change_server id with_one_less servers.old }
 {
-    for server in servers.iter_mut() {
-        server.ended(id);
+    if let Some(at) = place_of(servers, id) {
+        servers[at].ended();
     }
 }
 
-/// Takes the server with a number out.
-pub(crate) fn remove(servers: &mut Vec<Loaded>, id: ServerId)
-    ensures { servers.new.items ≡ filter (λ l. not (is_server id l)) servers.old.items }
+/// Takes the server at a place out.
+pub(crate) fn remove(servers: &mut Vec<Loaded>, at: usize)
+    requires { at < vec_len servers.old }
+    ensures { (id : ServerId) → IsPlaceOf id servers.old.items at → servers.new.items ≡ filter (λ l. not (is_server id l)) servers.old.items }
 {
-    servers.retain(|l| !l.is(id));
+    servers.remove(at);
 }
 
 /// Puts a server behind the others. Memory is wanting only where there is no room left for one more.

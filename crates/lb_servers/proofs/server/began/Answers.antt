@@ -1,10 +1,18 @@
-use Rattle.std.proofs.Common.{arith}
-use Rattle.lb_servers.specs.Server.{change_if, is_server, with_one_more}
-use Rattle.lb_servers.proofs.Mapped.{mapped_all, mapped_more}
+use Rattle.std.proofs.Common.{◌+◌, ◌<◌, ◌^◌, IsTrue, set, is_some, sym, ap, ◌∙◌}
+use Rattle.std.proofs.lemmas.List.Elements.{All-get_or}
+use Rattle.std.proofs.lemmas.List.Quantifiers.{position-Some}
+use Rattle.lb_servers.specs.declared.server.Loaded.{Loaded}
+use Rattle.lb_servers.specs.Server.{is_server, with_one_more}
+use Rattle.lb_servers.proofs.ByNumber.{place_changed, unchanged}
 use Rattle.lb_servers.proofs.server.began.Goals as goal
 
-pub loop-server-preserved : goal.loop-server-preserved
-loop-server-preserved c = mapped_more (λ s. change_if (is_server c.args.id s) with_one_more s) c.args.servers.now c.loop-server.servers c.loop-server.server-index c.server-item.result c.began.new.self c.loop-server-test.true c.loop-server.invariant c.began.ensures
+pub began-requires : goal.began-requires
+began-requires c =
+    let there = position-Some (is_server c.args.id) c.args.servers.now c.in-Some.at c.index-servers-at.result (sym c.place_of.ensures.place ∙ c.in-Some.is) in
+    All-get_or (λ l. IsTrue (is_server c.args.id l) → l.outstanding + 1 < 2 ^ 64) c.args.servers.now c.in-Some.at c.index-servers-at.result there.0 c.requires.room there.1
 
-pub returns : goal.returns
-returns c = mapped_all (λ s. change_if (is_server c.args.id s) with_one_more s) c.args.servers.now c.loop-server.servers c.loop-server.server-index (omega arith) c.loop-server.invariant
+pub returns-in-Some : goal.returns-in-Some
+returns-in-Some c = ap (λ (l : Loaded). set c.args.servers.now c.in-Some.at l) c.began.ensures ∙ place_changed c.args.id with_one_more c.args.servers.now c.in-Some.at c.index-servers-at.result (c.requires.by_number, sym c.place_of.ensures.place ∙ c.in-Some.is)
+
+pub returns-in_default : goal.returns-in_default
+returns-in_default c = sym (unchanged c.args.id with_one_more c.args.servers.now (sym c.place_of.ensures.there ∙ ap is_some c.in_default.is))

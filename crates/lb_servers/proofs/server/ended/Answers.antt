@@ -1,10 +1,11 @@
-use Rattle.std.proofs.Common.{arith}
-use Rattle.lb_servers.specs.Server.{change_if, is_server, with_one_less}
-use Rattle.lb_servers.proofs.Mapped.{mapped_all, mapped_more}
+use Rattle.std.proofs.Common.{set, is_some, sym, ap, ◌∙◌}
+use Rattle.lb_servers.specs.declared.server.Loaded.{Loaded}
+use Rattle.lb_servers.specs.Server.{with_one_less}
+use Rattle.lb_servers.proofs.ByNumber.{place_changed, unchanged}
 use Rattle.lb_servers.proofs.server.ended.Goals as goal
 
-pub loop-server-preserved : goal.loop-server-preserved
-loop-server-preserved c = mapped_more (λ s. change_if (is_server c.args.id s) with_one_less s) c.args.servers.now c.loop-server.servers c.loop-server.server-index c.server-item.result c.ended.new.self c.loop-server-test.true c.loop-server.invariant c.ended.ensures
+pub returns-in-Some : goal.returns-in-Some
+returns-in-Some c = ap (λ (l : Loaded). set c.args.servers.now c.in-Some.at l) c.ended.ensures ∙ place_changed c.args.id with_one_less c.args.servers.now c.in-Some.at c.index-servers-at.result (c.requires, sym c.place_of.ensures.place ∙ c.in-Some.is)
 
-pub returns : goal.returns
-returns c = mapped_all (λ s. change_if (is_server c.args.id s) with_one_less s) c.args.servers.now c.loop-server.servers c.loop-server.server-index (omega arith) c.loop-server.invariant
+pub returns-in_default : goal.returns-in_default
+returns-in_default c = sym (unchanged c.args.id with_one_less c.args.servers.now (sym c.place_of.ensures.there ∙ ap is_some c.in_default.is))

@@ -1,10 +1,8 @@
-use Rattle.std.proofs.Common.{arith}
-use Rattle.lb_servers.specs.Server.{change_if, is_server, marked}
-use Rattle.lb_servers.proofs.Mapped.{mapped_all, mapped_more}
+use Rattle.std.proofs.Common.{set, ap, ◌∙◌}
+use Rattle.lb_servers.specs.declared.server.Loaded.{Loaded}
+use Rattle.lb_servers.specs.Server.{marked}
+use Rattle.lb_servers.proofs.ByNumber.{place_changed}
 use Rattle.lb_servers.proofs.server.mark.Goals as goal
 
-pub loop-server-preserved : goal.loop-server-preserved
-loop-server-preserved c = mapped_more (λ s. change_if (is_server c.args.id s) (marked c.args.up) s) c.args.servers.now c.loop-server.servers c.loop-server.server-index c.server-item.result c.mark.new.self c.loop-server-test.true c.loop-server.invariant c.mark.ensures
-
 pub returns : goal.returns
-returns c = mapped_all (λ s. change_if (is_server c.args.id s) (marked c.args.up) s) c.args.servers.now c.loop-server.servers c.loop-server.server-index (omega arith) c.loop-server.invariant
+returns c = λ id is. ap (λ (l : Loaded). set c.args.servers.now c.args.at l) c.mark.ensures ∙ place_changed id (marked c.args.up) c.args.servers.now c.args.at c.index-servers-at.result is
