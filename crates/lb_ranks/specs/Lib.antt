@@ -3,4 +3,3 @@ pub mod Filed
 pub mod Chunk
 pub mod Cursor
 pub mod Front
-pub mod Rest

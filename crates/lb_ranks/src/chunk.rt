@@ -17,6 +17,9 @@ const MAX_PAIRS: usize = 128;
 /// How many pairs stay in a chunk that is divided.
 const HALF: usize = MAX_PAIRS / 2;
 
+/// For how many pairs more a chunk takes room where it has none left: no more, so that little of what chunks take is unused.
+const STEP: usize = 16;
+
 /// Some pairs in order. A contract sees them as their list.
 #[derive(Debug, Drop)]
 pub(crate) struct Chunk {
@@ -88,6 +91,9 @@ impl Chunk {
         ensures ok { OnOk result (self.new ≡ insert self.old place filed) }
         ensures err { OnErr result (self.new ≡ self.old) }
     {
+        if self.items.len() == self.items.capacity() {
+            self.items.reserve_exact(STEP)?;
+        }
         self.items.insert(place, filed)?;
         Ok(())
     }
@@ -109,13 +115,14 @@ impl Chunk {
         ensures upper { IfOk result (λ upper. IsFilled upper × (self.old ≡ self.new ++ upper)) }
         ensures err { OnErr result (self.new ≡ self.old) }
     {
-        let mut upper = Vec::with_capacity(*self.items.allocator(), self.items.len())?;
+        let mut upper = Vec::with_capacity(*self.items.allocator(), self.items.len() - HALF)?;
         'pairs: while self.items.len() > HALF {
             match self.items.pop() {
                 Some(filed) => upper.push_reserved(filed),
                 None => unreachable!(),
             }
         }
+        self.items.shrink_to_fit();
         upper.reverse();
         Ok(Chunk { items: upper })
     }

@@ -6,7 +6,6 @@ ghost use Rattle.std.specs.Ordering.{nat_cmp};
 ghost use Rattle.lb_ranks.specs.Filed.{filed_at};
 
 use crate::front::{FRONT, Front};
-use crate::rest::Rest;
 use std::alloc::{AllocError, Global};
 use std::cmp::Ordering;
 use std::marker::Model;
@@ -16,7 +15,8 @@ use std::marker::Model;
 #[derive(Debug, Drop)]
 pub(crate) struct Key {
     front: Front,
-    rest: Rest,
+    /// The octets behind the front, in a block of their own where there are any.
+    rest: Vec<u8>,
 }
 
 impl Model for Key {
@@ -25,9 +25,9 @@ impl Model for Key {
 
     ghost Value = { List ℕ };
 
-    ghost view = { λ k. key_from k.front k.rest };
+    ghost view = { λ k. key_from k.front k.rest.items };
 
-    ghost invariant = { λ k. IsPacked k.front k.rest };
+    ghost invariant = { λ k. IsPacked k.front k.rest.items };
 }
 
 /// A key and a rank that are looked for. A contract sees them as their pair.
@@ -73,7 +73,7 @@ impl Key {
     pub(crate) fn copied(alloc: Global, at: &Probe<'_>) -> Result<Key, AllocError>
         ensures { IfOk result (λ key. key ≡ at.now.key) }
     {
-        let rest = Rest::from_slice(alloc, at.rest)?;
+        let rest = Vec::from_slice(alloc, at.rest)?;
         Ok(Key {
             front: at.front,
             rest,

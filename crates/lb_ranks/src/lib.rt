@@ -8,7 +8,6 @@ mod front;
 mod key;
 mod least;
 mod ranks;
-mod rest;
 mod spot;
 
 pub use cursor::Cursor;

@@ -14,9 +14,9 @@ returns-then-is c =
     let rests = bytes_eq-Decides c.as_slice-rest.result.now other.rest.now in (
       λ yes_rest.
           let front : own.front ≡ other.front = c.is.ensures.0 (search rules) in
-          let rest : own.rest ≡ other.rest.now = sym c.as_slice-rest.ensures ∙ rests.0 (sym c.eq.ensures ∙ yes_rest) in
-          sym c.self.view_is ∙ ap (λ (f : Front). key_from f own.rest) front ∙ ap (λ (xs : List ℕ). key_from other.front xs) rest ∙ key,
+          let rest : own.rest.items ≡ other.rest.now = sym c.as_slice-rest.ensures.value ∙ rests.0 (sym c.eq.ensures ∙ yes_rest) in
+          sym c.self.view_is ∙ ap (λ (f : Front). key_from f own.rest.items) front ∙ ap (λ (xs : List ℕ). key_from other.front xs) rest ∙ key,
       λ same.
-          let both = packed_front own.front other.front own.rest other.rest.now c.self.invariant c.at.invariant (c.self.view_is ∙ same ∙ sym key) in
-          c.eq.ensures ∙ rests.1 (c.as_slice-rest.ensures ∙ both.1),
+          let both = packed_front own.front other.front own.rest.items other.rest.now c.self.invariant c.at.invariant (c.self.view_is ∙ same ∙ sym key) in
+          c.eq.ensures ∙ rests.1 (c.as_slice-rest.ensures.value ∙ both.1),
     )

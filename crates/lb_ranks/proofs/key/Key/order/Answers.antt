@@ -12,9 +12,9 @@ returns-in-Equal c =
     let other = c.at.inside in
     let key : key_from other.front other.rest.now ≡ c.args.at.now.key = ap (λ (f : Filed). f.key) c.at.view_is in
     let fronts : front_cmp own.front other.front ≡ Equal = sym c.order.ensures ∙ c.in-Equal.is in
-    c.cmp.ensures ∙ ap (λ (xs : List ℕ). slice_cmp nat_cmp xs other.rest.now) c.as_slice.ensures
-    ∙ ap (λ (o : Ordering). ordering_then o (slice_cmp nat_cmp own.rest other.rest.now)) (sym fronts)
-    ∙ sym (packed_order own.front other.front own.rest other.rest.now c.self.invariant c.at.invariant)
+    c.cmp.ensures ∙ ap (λ (xs : List ℕ). slice_cmp nat_cmp xs other.rest.now) c.as_slice.ensures.value
+    ∙ ap (λ (o : Ordering). ordering_then o (slice_cmp nat_cmp own.rest.items other.rest.now)) (sym fronts)
+    ∙ sym (packed_order own.front other.front own.rest.items other.rest.now c.self.invariant c.at.invariant)
     ∙ ap (λ (xs : List ℕ). slice_cmp nat_cmp xs (key_from other.front other.rest.now)) c.self.view_is ∙ ap (λ (xs : List ℕ). slice_cmp nat_cmp c.args.self.now xs) key
 
 pub returns-in_default : goal.returns-in_default
@@ -23,6 +23,6 @@ returns-in_default c =
     let other = c.at.inside in
     let key : key_from other.front other.rest.now ≡ c.args.at.now.key = ap (λ (f : Filed). f.key) c.at.view_is in
     c.order.ensures
-    ∙ sym (then_other (front_cmp own.front other.front) (slice_cmp nat_cmp own.rest other.rest.now) (λ same. c.in_default.not-Equal (c.order.ensures ∙ same)))
-    ∙ sym (packed_order own.front other.front own.rest other.rest.now c.self.invariant c.at.invariant)
+    ∙ sym (then_other (front_cmp own.front other.front) (slice_cmp nat_cmp own.rest.items other.rest.now) (λ same. c.in_default.not-Equal (c.order.ensures ∙ same)))
+    ∙ sym (packed_order own.front other.front own.rest.items other.rest.now c.self.invariant c.at.invariant)
     ∙ ap (λ (xs : List ℕ). slice_cmp nat_cmp xs (key_from other.front other.rest.now)) c.self.view_is ∙ ap (λ (xs : List ℕ). slice_cmp nat_cmp c.args.self.now xs) key
