@@ -1,5 +1,5 @@
 -- What the lists of the attached caches and of what they keep keep true.
-use Rattle.std.proofs.Common.{◌≡◌, Bool, true, false, ℕ, ◌<◌, ◌≤◌, ◌==◌, ◌&&◌, ◌||◌, cond, nat_lt, List, [], ◌∷◌, ◌++◌, map, length, get_or, zero, suc, refl, sym, ◌∙◌, ap, subst, arith, eq-eqb}
+use Rattle.std.proofs.Common.{◌≡◌, Bool, true, false, ℕ, ◌<◌, ◌≤◌, ◌==◌, ◌&&◌, ◌||◌, cond, nat_lt, List, [], ◌∷◌, map, length, get_or, suc, refl, ◌∙◌, ap, arith, eq-eqb}
 use Rattle.std.specs.List.{All, AllByRecursion, AllPairs, count_by, flat_map, list_any}
 use Rattle.std.proofs.lemmas.Bool.Decides.{nat_tests}
 use Rattle.std.proofs.lemmas.List.{get_or_default}
@@ -7,11 +7,10 @@ use Rattle.std.proofs.lemmas.List.Elements.{All-cons, All-from_recursion, All-he
 use Rattle.std.proofs.lemmas.List.Kept.{AllPairs-cons}
 use Rattle.std.proofs.lemmas.List.Sums.{sum_by-cons}
 use Rattle.lb_wire.specs.declared.ids.CacheId.{CacheId}
-use Rattle.lb_cache.specs.declared.cached.AttachedCache.{AttachedCache}
 use Rattle.lb_cache.specs.declared.cached.KeptReply.{KeptReply}
 use Rattle.lb_cache.specs.declared.caches.Shelf.{Shelf}
 use Rattle.lb_cache.specs.declared.reply.CachedReply.{CachedReply}
-use Rattle.lb_cache.specs.Cache.{AreReplies, Ascends}
+use Rattle.lb_cache.specs.Cache.{AreReplies}
 use Rattle.lb_cache.specs.Caches.{AreKept, AreShelves, attached_of, goes_before, has_id, held_by, is_of, kept_of, lists_of}
 use Rattle.lb_cache.specs.Reply.{before_key}
 use Rattle.lb_cache.proofs.AreShelves.{behind_higher, before_lower, kept_before, kept_behind, kept_stands, stands_there, StandsAt}

@@ -7,10 +7,10 @@ use Rattle.lb_slots.specs.Slots.{Updates, get}
 use Rattle.lb_wire.specs.declared.key.Key.{Key}
 use Rattle.lb_cache.specs.declared.reply.CachedReply.{CachedReply}
 use Rattle.lb_cache.specs.declared.ends.Ends.{Ends}
-use Rattle.lb_cache.specs.Ends.{has, is_mark}
+use Rattle.lb_cache.specs.Ends.{has, is_end_mark}
 use Rattle.lb_cache.specs.Keys.{without_key}
-use Rattle.lb_cache.specs.Reply.{cmp_key}
-use Rattle.lb_cache.specs.Store.{AreFiled, IsStore, end_of, stored}
+use Rattle.lb_cache.specs.Reply.{cmp_key, end_of}
+use Rattle.lb_cache.specs.Store.{AreFiled, IsStore, stored}
 use Rattle.lb_cache.proofs.KeyOrder.{key_total}
 use Rattle.lb_cache.proofs.Marked.{Cells, marked_moved, marked_put, marked_same, marked_take}
 use Rattle.lb_cache.proofs.Shelved.{apart, filed_added, filed_removed, filed_renewed, filed_same}
@@ -48,7 +48,7 @@ longer keys cells key slot are fresh = length-put cmp_key key_total key slot key
 
 -- with a reply more
 pub store_added : (keys : List (Key × ℕ)) (cells new : Cells) (ends more_ends : Ends) (top higher len : ℕ) (slot : ℕ) (r : CachedReply) → IsStore keys cells ends top len → get cells slot ≡ None → Updates cells new slot (Some r)
-    → find cmp_key r.key keys ≡ None → ((v s : ℕ) → has more_ends v s ≡ cond (is_mark (end_of r) slot v s) true (has ends v s)) → top ≤ higher → slot < higher → IsStore (put cmp_key r.key slot keys) new more_ends higher (len + 1)
+    → find cmp_key r.key keys ≡ None → ((v s : ℕ) → has more_ends v s ≡ cond (is_end_mark (end_of r) slot v s) true (has ends v s)) → top ≤ higher → slot < higher → IsStore (put cmp_key r.key slot keys) new more_ends higher (len + 1)
 store_added keys cells new ends more_ends top higher len slot r was vacant up fresh by_end le lt = record {
   are = filed_added keys cells new slot r was.are vacant up fresh;
   marked = marked_put ends more_ends cells new slot r was.marked vacant up by_end;
@@ -61,7 +61,7 @@ store_added keys cells new ends more_ends top higher len slot r was vacant up fr
 
 -- with another reply in the place of one
 pub store_renewed : (keys : List (Key × ℕ)) (cells new : Cells) (ends new_ends : Ends) (top len : ℕ) (slot : ℕ) (a r : CachedReply) → IsStore keys cells ends top len → get cells slot ≡ Some a → a.key ≡ r.key → Updates cells new slot (Some r)
-    → ((v s : ℕ) → has new_ends v s ≡ cond (is_mark (end_of r) slot v s) true (cond (is_mark (end_of a) slot v s) false (has ends v s))) → IsStore keys new new_ends top len
+    → ((v s : ℕ) → has new_ends v s ≡ cond (is_end_mark (end_of r) slot v s) true (cond (is_end_mark (end_of a) slot v s) false (has ends v s))) → IsStore keys new new_ends top len
 store_renewed keys cells new ends new_ends top len slot a r was there key up by_end = record {
   are = filed_renewed keys cells new slot a r was.are there key up;
   marked = marked_moved ends new_ends cells new slot a r was.marked there up by_end;
@@ -83,7 +83,7 @@ none_some some = absurd (cc)
 
 -- with a reply less
 pub store_removed : (keys : List (Key × ℕ)) (cells new : Cells) (ends less_ends : Ends) (top len less : ℕ) (slot : ℕ) (r : CachedReply) → IsStore keys cells ends top len → get cells slot ≡ Some r → Updates cells new slot None
-    → ((v s : ℕ) → has less_ends v s ≡ cond (is_mark (end_of r) slot v s) false (has ends v s)) → less + 1 ≡ len → IsStore (without_key r.key keys) new less_ends top less
+    → ((v s : ℕ) → has less_ends v s ≡ cond (is_end_mark (end_of r) slot v s) false (has ends v s)) → less + 1 ≡ len → IsStore (without_key r.key keys) new less_ends top less
 store_removed keys cells new ends less_ends top len less slot r was there up by_end minus = record {
   are = filed_removed keys cells new slot r was.are there up;
   marked = marked_take ends less_ends cells new slot r was.marked there up by_end;

@@ -8,9 +8,13 @@ use Rattle.lb_wire.specs.declared.transport.Kind.TheVariants.{Datagram, Stream}
 use Rattle.lb_ranks.specs.declared.filed.Filed.{Filed}
 use Rattle.lb_cache.specs.Reply.{cmp_key}
 
+-- the key of this transport with these octets
+abbrev pub key_with : Kind → List ℕ → Key
+key_with kind octets = record { kind = kind; octets = octets }
+
 -- a filed pair as a key of this transport with its slot
 abbrev pub entry_of : Kind → Filed → Key × ℕ
-entry_of kind f = (record { kind = kind; octets = f.key }, f.rank)
+entry_of kind f = (key_with kind f.key, f.rank)
 
 -- the keys with their slots, datagrams first
 abbrev pub entries_of : List Filed → List Filed → List (Key × ℕ)

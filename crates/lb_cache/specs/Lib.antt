@@ -5,6 +5,7 @@ pub use Rattle.lb_name.specs.Name
 pub mod Reply
 pub mod Keys
 pub mod Ends
+pub mod Packed
 pub mod Store
 pub mod Question
 pub mod Cache

@@ -1,5 +1,5 @@
 -- Replies in slots, and what finds them.
-use Rattle.std.specs.Prelude.{◌≡◌, ℕ, ◌+◌, ◌*◌, ◌<◌, Bool, false, ◌==◌, cond, not, T, List, [], ◌∷◌, length, Option, None, Some, IsSome}
+use Rattle.std.specs.Prelude.{◌≡◌, ℕ, ◌<◌, Bool, false, ◌==◌, cond, not, T, List, [], ◌∷◌, length, Option, None, Some, IsSome}
 use Rattle.std.specs.List.{AllByRecursion}
 use Rattle.std.specs.FinMap.Entries.{find, is_sorted}
 use Rattle.lb_slots.specs.Slots.{get}
@@ -8,7 +8,7 @@ use Rattle.lb_cache.specs.declared.ends.Ends.{Ends}
 use Rattle.lb_cache.specs.Ends.{has}
 use Rattle.lb_cache.specs.Keys.{slots_of}
 use Rattle.lb_cache.specs.declared.reply.CachedReply.{CachedReply}
-use Rattle.lb_cache.specs.Reply.{cmp_key}
+use Rattle.lb_cache.specs.Reply.{cmp_key, end_of}
 
 -- the keys with their slots, in the order of the keys, and the slots, chunk by chunk
 pub record Stored : Type 0 where
@@ -36,9 +36,10 @@ replies_at (slot ∷ slots) cells = with_reply (get cells slot) (replies_at slot
 abbrev pub replies_of : Stored → List CachedReply
 replies_of s = replies_at (slots_of s.keys) s.cells
 
--- when a reply is dead, in milliseconds
-abbrev pub end_of : CachedReply → ℕ
-end_of r = r.moment + 1000 * r.life
+-- whether this is a moment, and that one
+abbrev pub is_at : ℕ → Option ℕ → Bool
+is_at v None = false
+is_at v (Some end) = end == v
 
 -- a key's slot has the reply with that key
 abbrev pub Holds : List (List (Option CachedReply)) → Key × ℕ → Type 0
@@ -53,9 +54,9 @@ pub record AreFiled (s : Stored) : Type 0 where
 -- whether a moment is the end of the slot's reply
 abbrev pub ends_at : ℕ → Option CachedReply → Bool
 ends_at v None = false
-ends_at v (Some r) = end_of r == v
+ends_at v (Some r) = is_at v (end_of r)
 
--- each slot with a reply is marked by its end, and by nothing else
+-- each slot with a reply is marked by its end where that is a moment, and by nothing else
 abbrev pub AreMarked : Ends → List (List (Option CachedReply)) → Type 0
 AreMarked ends cells = (v s : ℕ) → has ends v s ≡ ends_at v (get cells s)
 

@@ -10,11 +10,12 @@ ghost use Rattle.lb_cache.specs.Reply.{cmp_key, has_other, is_dead, lives};
 ghost use Rattle.lb_cache.specs.Store.{goes, in_slot, others, replies_at, replies_of, stays};
 
 use crate::limits::{MaxEntries, MaxTtl, Shards};
+use crate::packed::Packed;
 use crate::question::{asks_name, asks_under};
 use crate::reply::{CachedReply, Hit};
 use crate::store::{Store, purge, purge_but};
 use lb_name::Name;
-use lb_wire::{Kept, Key, Octets, RecordType};
+use lb_wire::{Kept, Key, RecordType};
 use std::alloc::{AllocError, Global};
 use std::marker::Model;
 
@@ -40,44 +41,24 @@ impl Model for Cache {
     ghost invariant = { λ c. length c.store.keys ≤ c.max };
 }
 
-/// A reply with these octets under its key.
-fn made(
-    alloc: Global,
-    key: Key,
-    bytes: &[u8],
-    life: u32,
-    now: u64,
-) -> Result<CachedReply, AllocError>
-    requires { length bytes.now ≤ max_message }
-    ensures { IfOk result (λ r. r ≡ record { key = key; bytes = bytes.now; moment = now; life = life }) }
-{
-    let bytes = Vec::from_slice(alloc, bytes)?;
-    Ok(CachedReply {
-        key,
-        bytes: Octets::from_vec(bytes),
-        moment: now,
-        life,
-    })
-}
-
 /// Puts a reply in the place of the one in a slot, which has its key.
 fn renew(
     store: &mut Store,
     alloc: Global,
     slot: u64,
-    key: Key,
+    key: &Key,
     bytes: &[u8],
     life: u32,
     now: u64,
 ) -> Kept
-    requires there { find cmp_key key store.old.keys ≡ Some slot }
+    requires there { find cmp_key key.now store.old.keys ≡ Some slot }
     requires short { length bytes.now ≤ max_message }
-    ensures list { (replies_of store.new, result) ≡ written (lacks result) (replies_of store.old) (placed (record { key = key; bytes = bytes.now; moment = now; life = life }) (filter (has_other key) (replies_of store.old))) }
+    ensures list { (replies_of store.new, result) ≡ written (lacks result) (replies_of store.old) (placed (record { key = key.now; bytes = bytes.now; moment = now; life = life }) (filter (has_other key.now) (replies_of store.old))) }
     ensures few { length store.new.keys ≡ length store.old.keys }
 {
     // Laws, which do nothing: before and after.
     store.law_of_store();
-    let reply = match made(alloc, key, bytes, life, now) {
+    let reply = match Packed::new(alloc, key, bytes, life, now) {
         Ok(reply) => reply,
         Err(refused) => return Kept::from(refused),
     };
@@ -89,16 +70,16 @@ fn renew(
 }
 
 /// Puts a reply whose key no other has.
-fn add(store: &mut Store, alloc: Global, key: Key, bytes: &[u8], life: u32, now: u64) -> Kept
-    requires new { find cmp_key key store.old.keys ≡ None }
+fn add(store: &mut Store, alloc: Global, key: &Key, bytes: &[u8], life: u32, now: u64) -> Kept
+    requires new { find cmp_key key.now store.old.keys ≡ None }
     requires few { length store.old.keys ≤ 1000000 }
     requires short { length bytes.now ≤ max_message }
-    ensures list { (replies_of store.new, result) ≡ written (lacks result) (replies_of store.old) (placed (record { key = key; bytes = bytes.now; moment = now; life = life }) (replies_of store.old)) }
+    ensures list { (replies_of store.new, result) ≡ written (lacks result) (replies_of store.old) (placed (record { key = key.now; bytes = bytes.now; moment = now; life = life }) (replies_of store.old)) }
     ensures few { length store.new.keys ≤ length store.old.keys + 1 }
 {
     // Laws, which do nothing: before and after.
     store.law_of_store();
-    let reply = match made(alloc, key, bytes, life, now) {
+    let reply = match Packed::new(alloc, key, bytes, life, now) {
         Ok(reply) => reply,
         Err(refused) => return Kept::from(refused),
     };
@@ -113,21 +94,21 @@ fn add(store: &mut Store, alloc: Global, key: Key, bytes: &[u8], life: u32, now:
 fn add_for_dead(
     store: &mut Store,
     alloc: Global,
-    key: Key,
+    key: &Key,
     bytes: &[u8],
     life: u32,
     now: u64,
 ) -> Kept
-    requires new { find cmp_key key store.old.keys ≡ None }
+    requires new { find cmp_key key.now store.old.keys ≡ None }
     requires few { length store.old.keys ≤ 1000000 }
     requires dead { list_any (is_dead now) (replies_of store.old) ≡ true }
     requires short { length bytes.now ≤ max_message }
-    ensures list { (replies_of store.new, result) ≡ written (lacks result) (replies_of store.old) (placed (record { key = key; bytes = bytes.now; moment = now; life = life }) (filter (lives now) (replies_of store.old))) }
+    ensures list { (replies_of store.new, result) ≡ written (lacks result) (replies_of store.old) (placed (record { key = key.now; bytes = bytes.now; moment = now; life = life }) (filter (lives now) (replies_of store.old))) }
     ensures few { length store.new.keys ≤ length store.old.keys }
 {
     // Laws, which do nothing: here and after each change.
     store.law_of_store();
-    let reply = match made(alloc, key, bytes, life, now) {
+    let reply = match Packed::new(alloc, key, bytes, life, now) {
         Ok(reply) => reply,
         Err(refused) => return Kept::from(refused),
     };
@@ -156,7 +137,7 @@ fn has_name(store: &Store, slot: u64, name: &Name, qtype: Option<RecordType>) ->
     ensures { result ≡ goes (covers_name name.now qtype) (in_slot store.now slot) }
 {
     match store.get(slot) {
-        Some(reply) => asks_name(reply.key.octets.as_slice(), name, qtype),
+        Some(reply) => asks_name(reply.key_octets(), name, qtype),
         None => false,
     }
 }
@@ -166,7 +147,7 @@ fn has_suffix(store: &Store, slot: u64, name: &Name) -> bool
     ensures { result ≡ goes (covers_suffix name.now) (in_slot store.now slot) }
 {
     match store.get(slot) {
-        Some(reply) => asks_under(reply.key.octets.as_slice(), name),
+        Some(reply) => asks_under(reply.key_octets(), name),
         None => false,
     }
 }
@@ -274,12 +255,12 @@ impl Cache {
         // A law, which does nothing.
         self.store.law_of_store();
         match self.store.find(&key) {
-            Some(slot) => renew(&mut self.store, self.alloc, slot, key, bytes, life, now),
+            Some(slot) => renew(&mut self.store, self.alloc, slot, &key, bytes, life, now),
             None => {
                 if self.store.len() < self.max.get() as usize {
-                    add(&mut self.store, self.alloc, key, bytes, life, now)
+                    add(&mut self.store, self.alloc, &key, bytes, life, now)
                 } else if any_dead(&self.store, now) {
-                    add_for_dead(&mut self.store, self.alloc, key, bytes, life, now)
+                    add_for_dead(&mut self.store, self.alloc, &key, bytes, life, now)
                 } else {
                     Kept::NoRoom
                 }
@@ -344,7 +325,7 @@ fn list_replies(alloc: Global, store: &Store, slots: &[u64]) -> Result<Vec<Cache
     let mut list = Vec::with_capacity(alloc, slots.len())?;
     for slot in slots {
         if let Some(reply) = store.get(*slot) {
-            list.push(reply.copy(alloc)?)?;
+            list.push(reply.to_reply(alloc)?)?;
         }
     }
     Ok(list)

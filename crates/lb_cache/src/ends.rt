@@ -1,7 +1,7 @@
 //! Slots by the moments at which the replies in them end.
 
 ghost use Rattle.std.specs.Prelude.{◌≡◌, ◌≢◌, ℕ, ◌≤◌, IfNone, IfSome, OnErr, OnOk, cond, false, true};
-ghost use Rattle.lb_cache.specs.Ends.{has, is_mark};
+ghost use Rattle.lb_cache.specs.Ends.{has, is_end_mark};
 
 use std::alloc::{AllocError, Global};
 use std::collections::BTreeSet;
@@ -9,7 +9,7 @@ use std::collections::BTreeSet;
 /// Moments, in milliseconds, each with the slots whose replies end then.
 #[derive(Debug, Drop)]
 pub(crate) struct Ends {
-    marks: BTreeSet<(u128, u64)>,
+    marks: BTreeSet<(u64, u64)>,
 }
 
 impl Ends {
@@ -22,26 +22,31 @@ impl Ends {
         }
     }
 
-    /// Marks a slot by a moment. The one error is want of memory, and only a new mark can want it.
-    pub(crate) fn put(&mut self, end: u128, slot: u64) -> Result<(), AllocError>
-        ensures put { OnOk result ((v s : ℕ) → has self.new v s ≡ cond (is_mark end slot v s) true (has self.old v s)) }
+    /// Marks a slot by a moment, if there is one. The one error is want of memory, and only a new mark can want it.
+    pub(crate) fn put(&mut self, end: Option<u64>, slot: u64) -> Result<(), AllocError>
+        ensures put { OnOk result ((v s : ℕ) → has self.new v s ≡ cond (is_end_mark end slot v s) true (has self.old v s)) }
         ensures kept { OnErr result ((v s : ℕ) → has self.new v s ≡ has self.old v s) }
     {
+        let Some(end) = end else {
+            return Ok(());
+        };
         match self.marks.insert((end, slot)) {
             Ok(_) => Ok(()),
             Err(refused) => Err(AllocError::from(refused)),
         }
     }
 
-    /// Takes a moment's mark off a slot. It takes no memory.
-    pub(crate) fn take(&mut self, end: u128, slot: u64)
-        ensures { (v s : ℕ) → has self.new v s ≡ cond (is_mark end slot v s) false (has self.old v s) }
+    /// Takes a moment's mark, if there is one, off a slot. It takes no memory.
+    pub(crate) fn take(&mut self, end: Option<u64>, slot: u64)
+        ensures { (v s : ℕ) → has self.new v s ≡ cond (is_end_mark end slot v s) false (has self.old v s) }
     {
-        let _ = self.marks.remove(&(end, slot));
+        if let Some(end) = end {
+            let _ = self.marks.remove(&(end, slot));
+        }
     }
 
     /// The slot with the least moment, with that.
-    pub(crate) fn least(&self) -> Option<(u128, u64)>
+    pub(crate) fn least(&self) -> Option<(u64, u64)>
         ensures none { IfNone result ((v s : ℕ) → has self.now v s ≡ false) }
         ensures has { IfSome result (λ m. has self.now m.0 m.1 ≡ true) }
         ensures least { IfSome result (λ m. (v s : ℕ) → has self.now v s ≡ true → m.0 ≤ v) }
@@ -53,7 +58,7 @@ impl Ends {
     }
 
     /// The slot with the least moment but for one slot, with that.
-    pub(crate) fn least_but(&self, slot: u64) -> Option<(u128, u64)>
+    pub(crate) fn least_but(&self, slot: u64) -> Option<(u64, u64)>
         requires one { (v w : ℕ) → has self.now v slot ≡ true → has self.now w slot ≡ true → v ≡ w }
         ensures none { IfNone result ((v s : ℕ) → has self.now v s ≡ true → s ≡ slot) }
         ensures has { IfSome result (λ m. has self.now m.0 m.1 ≡ true) }

@@ -2,12 +2,12 @@
 
 ghost use Rattle.std.specs.Prelude.{◌≡◌, [], ◌++◌, None, Some, T, IfOk, OnErr, OnOk, map};
 ghost use Rattle.std.specs.FinMap.Entries.{find, is_sorted, put};
-ghost use Rattle.lb_cache.specs.Keys.{slots_of, without_key};
+ghost use Rattle.lb_cache.specs.Keys.{key_with, slots_of, without_key};
 ghost use Rattle.lb_cache.specs.Reply.{cmp_key};
 ghost use Rattle.lb_ranks.specs.Filed.{filed_at, AreInOrder, HasBesides, HasBut};
 
 use lb_ranks::Ranks;
-use lb_wire::{Key, Kind};
+use lb_wire::Kind;
 use std::alloc::{AllocError, Global};
 use std::marker::Model;
 
@@ -78,35 +78,35 @@ impl Keys {
     }
 
     /// The slot of a key. It takes no memory.
-    pub(crate) fn get(&self, key: &Key) -> Option<u64>
-        ensures { result ≡ find cmp_key key.now self.now }
+    pub(crate) fn get(&self, kind: Kind, octets: &[u8]) -> Option<u64>
+        ensures { result ≡ find cmp_key (key_with kind octets.now) self.now }
     {
-        match key.kind {
-            Kind::Datagram => self.datagrams.next_at(key.octets.as_slice(), 0),
-            Kind::Stream => self.streams.next_at(key.octets.as_slice(), 0),
+        match kind {
+            Kind::Datagram => self.datagrams.next_at(octets, 0),
+            Kind::Stream => self.streams.next_at(octets, 0),
         }
     }
 
     /// Gives a key its slot. The one error is want of memory, and leaves all as it was.
-    pub(crate) fn put(&mut self, key: &Key, slot: u64) -> Result<(), AllocError>
-        requires { find cmp_key key.now self.old ≡ None }
-        ensures put { OnOk result (self.new ≡ put cmp_key key.now slot self.old) }
+    pub(crate) fn put(&mut self, kind: Kind, octets: &[u8], slot: u64) -> Result<(), AllocError>
+        requires { find cmp_key (key_with kind octets.now) self.old ≡ None }
+        ensures put { OnOk result (self.new ≡ put cmp_key (key_with kind octets.now) slot self.old) }
         ensures kept { OnErr result (self.new ≡ self.old) }
     {
-        match key.kind {
-            Kind::Datagram => file(&mut self.datagrams, key.octets.as_slice(), slot),
-            Kind::Stream => file(&mut self.streams, key.octets.as_slice(), slot),
+        match kind {
+            Kind::Datagram => file(&mut self.datagrams, octets, slot),
+            Kind::Stream => file(&mut self.streams, octets, slot),
         }
     }
 
     /// Takes a key out, which has this slot. It takes no memory.
-    pub(crate) fn remove(&mut self, key: &Key, slot: u64)
-        requires { find cmp_key key.now self.old ≡ Some slot }
-        ensures { self.new ≡ without_key key.now self.old }
+    pub(crate) fn remove(&mut self, kind: Kind, octets: &[u8], slot: u64)
+        requires { find cmp_key (key_with kind octets.now) self.old ≡ Some slot }
+        ensures { self.new ≡ without_key (key_with kind octets.now) self.old }
     {
-        match key.kind {
-            Kind::Datagram => unfile(&mut self.datagrams, key.octets.as_slice(), slot),
-            Kind::Stream => unfile(&mut self.streams, key.octets.as_slice(), slot),
+        match kind {
+            Kind::Datagram => unfile(&mut self.datagrams, octets, slot),
+            Kind::Stream => unfile(&mut self.streams, octets, slot),
         }
     }
 

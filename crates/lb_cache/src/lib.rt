@@ -7,6 +7,7 @@ mod caches;
 mod ends;
 mod keys;
 mod limits;
+mod packed;
 mod question;
 mod reply;
 mod store;

@@ -3,26 +3,19 @@
 ghost use Rattle.std.specs.Prelude.{◌≡◌, ◌≢◌, ◌+◌, ◌<◌, ◌≤◌, ◌^◌, ℕ, [], None, Some, IfNone, IfOk, IfSome, IsSome, OnErr, OnOk, cond, false, length, option_map, true};
 ghost use Rattle.std.specs.FinMap.Entries.{find, put};
 ghost use Rattle.lb_slots.specs.Slots.{Updates, get};
-ghost use Rattle.lb_cache.specs.Ends.{has, is_mark};
-ghost use Rattle.lb_cache.specs.Keys.{slots_of};
-ghost use Rattle.lb_cache.specs.Reply.{cmp_key, is_dead, lives};
-ghost use Rattle.lb_cache.specs.Store.{AreFiled, end_of, in_slot, stays};
+ghost use Rattle.lb_cache.specs.Ends.{has, is_end_mark};
+ghost use Rattle.lb_cache.specs.Keys.{slots_of, without_key};
+ghost use Rattle.lb_cache.specs.Reply.{cmp_key, end_of, is_dead, lives};
+ghost use Rattle.lb_cache.specs.Store.{AreFiled, in_slot, is_at, stays};
 ghost use Rattle.lb_cache.specs.declared.reply.CachedReply.{CachedReply};
 
 use crate::ends::Ends;
 use crate::keys::Keys;
-use crate::reply::CachedReply;
+use crate::packed::Packed;
 use lb_slots::Slots;
 use lb_wire::Key;
 use std::alloc::{AllocError, Global};
 use std::marker::Model;
-
-/// When a reply is dead, in milliseconds.
-fn end_of(reply: &CachedReply) -> u128
-    ensures { result ≡ end_of reply.now }
-{
-    u128::from(reply.moment) + 1000 * u128::from(reply.life)
-}
 
 /// The greater of two numbers.
 fn greater(a: u64, b: u64) -> u64
@@ -35,7 +28,7 @@ fn greater(a: u64, b: u64) -> u64
 /// Replies in slots, at most one for each key. A contract sees the keys with their slots, and the slots.
 #[derive(Debug, Drop)]
 pub(crate) struct Store {
-    cells: Slots<CachedReply>,
+    cells: Slots<Packed>,
     keys: Keys,
     ends: Ends,
     /// No slot from here on was ever in use.
@@ -54,7 +47,7 @@ impl Model for Store {
 }
 
 /// Puts a reply in a slot that had none.
-fn put_cell(cells: &mut Slots<CachedReply>, reply: CachedReply) -> Result<u64, AllocError>
+fn put_cell(cells: &mut Slots<Packed>, reply: Packed) -> Result<u64, AllocError>
     ensures free { IfOk result (λ slot. get cells.old slot ≡ None) }
     ensures bound { IfOk result (λ slot. slot + 2 < 2 ^ 64) }
     ensures put { IfOk result (λ slot. Updates cells.old cells.new slot (Some reply)) }
@@ -67,38 +60,51 @@ fn put_cell(cells: &mut Slots<CachedReply>, reply: CachedReply) -> Result<u64, A
 }
 
 /// Takes the reply out of a slot.
-fn empty_cell(cells: &mut Slots<CachedReply>, slot: u64)
+fn empty_cell(cells: &mut Slots<Packed>, slot: u64)
     ensures { Updates cells.old cells.new slot None }
 {
     let _ = cells.take(slot as usize);
 }
 
 /// Files the key of the reply in a slot.
-fn file_key(keys: &mut Keys, cells: &Slots<CachedReply>, slot: u64) -> Result<(), AllocError>
+fn file_key(keys: &mut Keys, cells: &Slots<Packed>, slot: u64) -> Result<(), AllocError>
     requires new { (r : CachedReply) → get cells.now slot ≡ Some r → find cmp_key r.key keys.old ≡ None }
     ensures put { OnOk result ((r : CachedReply) → get cells.now slot ≡ Some r → keys.new ≡ put cmp_key r.key slot keys.old) }
     ensures kept { OnErr result (keys.new ≡ keys.old) }
 {
     match cells.get(slot as usize) {
-        Some(reply) => keys.put(&reply.key, slot),
+        Some(reply) => keys.put(reply.kind(), reply.key_octets(), slot),
         None => Ok(()),
     }
 }
 
+/// Takes out the key of a reply, which has this slot. It takes no memory.
+fn unfile_key(keys: &mut Keys, reply: &Packed, slot: u64)
+    requires { find cmp_key reply.now.key keys.old ≡ Some slot }
+    ensures { keys.new ≡ without_key reply.now.key keys.old }
+{
+    keys.remove(reply.kind(), reply.key_octets(), slot);
+}
+
 /// When the reply in a slot is dead, in milliseconds.
-fn end_in(cells: &Slots<CachedReply>, slot: u64) -> u128
+fn end_in(cells: &Slots<Packed>, slot: u64) -> Option<u64>
     ensures { (r : CachedReply) → get cells.now slot ≡ Some r → result ≡ end_of r }
 {
     match cells.get(slot as usize) {
-        Some(reply) => end_of(reply),
-        None => 0,
+        Some(reply) => reply.end(),
+        None => None,
     }
 }
 
 /// Marks a slot by another moment in the place of the one that it is marked by.
-fn move_end(ends: &mut Ends, old: u128, new: u128, slot: u64) -> Result<(), AllocError>
-    requires there { has ends.old old slot ≡ true }
-    ensures moved { OnOk result ((v s : ℕ) → has ends.new v s ≡ cond (is_mark new slot v s) true (cond (is_mark old slot v s) false (has ends.old v s))) }
+fn move_end(
+    ends: &mut Ends,
+    old: Option<u64>,
+    new: Option<u64>,
+    slot: u64,
+) -> Result<(), AllocError>
+    requires there { (v : ℕ) → is_at v old ≡ true → has ends.old v slot ≡ true }
+    ensures moved { OnOk result ((v s : ℕ) → has ends.new v s ≡ cond (is_end_mark new slot v s) true (cond (is_end_mark old slot v s) false (has ends.old v s))) }
     ensures kept { OnErr result ((v s : ℕ) → has ends.new v s ≡ has ends.old v s) }
 {
     if new != old {
@@ -141,11 +147,11 @@ impl Store {
     pub(crate) fn find(&self, key: &Key) -> Option<u64>
         ensures { result ≡ find cmp_key key.now self.now.keys }
     {
-        self.keys.get(key)
+        self.keys.get(key.kind, key.octets.as_slice())
     }
 
     /// The reply in a slot.
-    pub(crate) fn get(&self, slot: u64) -> Option<&CachedReply>
+    pub(crate) fn get(&self, slot: u64) -> Option<&Packed>
         ensures { option_map (λ r. r.now) result ≡ in_slot self.now slot }
     {
         self.cells.get(slot as usize)
@@ -166,7 +172,7 @@ impl Store {
     }
 
     /// Puts a reply, whose key no other has, in a slot of its own, and gives that. The one error is want of memory.
-    pub(crate) fn add(&mut self, reply: CachedReply) -> Result<u64, AllocError>
+    pub(crate) fn add(&mut self, reply: Packed) -> Result<u64, AllocError>
         requires new { find cmp_key reply.key self.old.keys ≡ None }
         requires few { length self.old.keys ≤ 1000000 }
         ensures free { IfOk result (λ slot. in_slot self.old slot ≡ None) }
@@ -175,7 +181,7 @@ impl Store {
         ensures keys { OnErr result (self.new.keys ≡ self.old.keys) }
         ensures kept { OnErr result ((s : ℕ) → in_slot self.new s ≡ in_slot self.old s) }
     {
-        let end = end_of(&reply);
+        let end = reply.end();
         let slot = put_cell(&mut self.cells, reply)?;
         if let Err(refused) = self.ends.put(end, slot) {
             empty_cell(&mut self.cells, slot);
@@ -192,14 +198,14 @@ impl Store {
     }
 
     /// Puts a reply in the place of the one in a slot, which has its key. The one error is want of memory.
-    pub(crate) fn renew(&mut self, slot: u64, reply: CachedReply) -> Result<(), AllocError>
+    pub(crate) fn renew(&mut self, slot: u64, reply: Packed) -> Result<(), AllocError>
         requires there { find cmp_key reply.key self.old.keys ≡ Some slot }
         ensures keys { self.new.keys ≡ self.old.keys }
         ensures put { OnOk result (Updates self.old.cells self.new.cells slot (Some reply)) }
         ensures kept { OnErr result (self.new.cells ≡ self.old.cells) }
     {
         let old = end_in(&self.cells, slot);
-        move_end(&mut self.ends, old, end_of(&reply), slot)?;
+        move_end(&mut self.ends, old, reply.end(), slot)?;
         self.cells.set(slot as usize, reply);
         Ok(())
     }
@@ -211,8 +217,8 @@ impl Store {
         ensures few { length self.new.keys ≤ length self.old.keys }
     {
         if let Some(reply) = self.cells.take(slot as usize) {
-            self.keys.remove(&reply.key, slot);
-            self.ends.take(end_of(&reply), slot);
+            unfile_key(&mut self.keys, &reply, slot);
+            self.ends.take(reply.end(), slot);
             self.len -= 1;
         }
     }
@@ -223,7 +229,7 @@ impl Store {
         ensures none { IfNone result ((s : ℕ) (r : CachedReply) → in_slot self.now s ≡ Some r → is_dead now r ≡ false) }
     {
         match self.ends.least() {
-            Some((end, slot)) if end <= u128::from(now) => Some(slot),
+            Some((end, slot)) if end <= now => Some(slot),
             _ => None,
         }
     }
@@ -235,7 +241,7 @@ impl Store {
         ensures none { IfNone result ((s : ℕ) (r : CachedReply) → in_slot self.now s ≡ Some r → s ≢ but → is_dead now r ≡ false) }
     {
         match self.ends.least_but(but) {
-            Some((end, slot)) if end <= u128::from(now) => Some(slot),
+            Some((end, slot)) if end <= now => Some(slot),
             _ => None,
         }
     }

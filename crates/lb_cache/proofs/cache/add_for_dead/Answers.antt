@@ -12,13 +12,13 @@ use Rattle.lb_cache.proofs.Whole.{written_lacks}
 use Rattle.lb_cache.proofs.cache.add_for_dead.Goals as goal
 
 abbrev fresh : goal.After-law_of_store-in-Ok-add-2 → CachedReply
-fresh c = record { key = c.args.key; bytes = c.args.bytes.now; moment = c.args.now; life = c.args.life }
+fresh c = record { key = c.args.key.now; bytes = c.args.bytes.now; moment = c.args.now; life = c.args.life }
 
 left : (c : goal.After-law_of_store-in-Ok-add-2) → replies_of c.purge_but.new.store ≡ placed (fresh c) (filter (lives c.args.now) (replies_of c.args.store.now))
 left c =
     let put : Updates c.args.store.now.cells c.add.new.self.cells c.in-Ok-add.slot (Some (fresh c)) = subst (λ (x : CachedReply). Updates c.args.store.now.cells c.add.new.self.cells c.in-Ok-add.slot (Some x)) c.in-Ok.ensures c.in-Ok-add.ensures.put in
     replies_for_dead (lives c.args.now) c.args.store.now c.add.new.self c.purge_but.new.store c.in-Ok-add.slot (fresh c) c.law_of_store.ensures c.law_of_store-in-Ok-add.ensures c.law_of_store-in-Ok-add-2.ensures c.in-Ok-add.ensures.free put
-    (found_none c.args.store.now c.args.key c.law_of_store.ensures c.requires.new) c.purge_but.ensures.left c.purge_but.ensures.own
+    (found_none c.args.store.now c.args.key.now c.law_of_store.ensures c.requires.new) c.purge_but.ensures.left c.purge_but.ensures.own
 
 pub returns-in-Ok-add-clause-list : goal.returns-in-Ok-add-clause-list
 returns-in-Ok-add-clause-list c = ap (λ (xs : List CachedReply). (xs, Yes)) (left c)
@@ -30,5 +30,5 @@ returns-in-Ok-add-clause-few c =
 
 pub returns-in-Err-add-clause-list : goal.returns-in-Err-add-clause-list
 returns-in-Err-add-clause-list c =
-    let r : CachedReply = record { key = c.args.key; bytes = c.args.bytes.now; moment = c.args.now; life = c.args.life } in
+    let r : CachedReply = record { key = c.args.key.now; bytes = c.args.bytes.now; moment = c.args.now; life = c.args.life } in
     written_lacks (replies_of c.args.store.now) (replies_of c.add.new.self) (placed r (filter (lives c.args.now) (replies_of c.args.store.now))) c.from-in-Err-add.result c.from-in-Err-add.ensures (same_view c.args.store.now c.add.new.self c.in-Err-add.ensures.keys c.in-Err-add.ensures.kept)

@@ -31,8 +31,8 @@ returns-then-any_dead c =
     (among_living inside r c.args.now (replies_of c.add_for_dead.new.store) c.add_for_dead.result (key_absent c.self.inside.store c.args.key c.law_of_store.ensures (sym c.find.ensures ∙ c.in-None.is))
     (le-ltb (length inside.replies) inside.max (omega (arith, length_view c.self.inside.store c.law_of_store.ensures, c.len.ensures, c.get.ensures, c.if-len-get.false))) (sym c.any_dead.ensures ∙ c.if-any_dead.true) c.add_for_dead.ensures.list)
 
-pub returns-else-any_dead : goal.returns-else-any_dead
-returns-else-any_dead c =
+pub returns : goal.returns
+returns c =
     let r : CachedReply = record { key = c.args.key; bytes = c.args.bytes.now; moment = c.args.now; life = c.args.life } in
     let inside : Caching = cached c.self.inside.max c.self.inside.shards c.self.inside.max_ttl c.self.inside.store in
     subst (λ (k : Caching). (k, NoRoom) ≡ kept_with (lacks NoRoom) k r c.args.now) c.self.view_is

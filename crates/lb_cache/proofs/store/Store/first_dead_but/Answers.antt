@@ -10,15 +10,15 @@ use Rattle.lb_cache.proofs.store.Store.first_dead_but.Goals as goal
 pub returns-in-Some-clause-dead : goal.returns-in-Some-clause-dead
 returns-in-Some-clause-dead c =
     subst (λ (s : Stored). (r : CachedReply) × (in_slot s c.in-Some.slot ≡ Some r) × (is_dead c.args.now r ≡ true)) c.self.view_is
-    (dead_at c.args.now c.in-Some.end c.in-Some.slot c.self.inside.ends c.self.inside.cells c.self.invariant.marked c.in-Some.ensures.has (omega (arith, c.if-end-from.true, c.from.ensures)))
+    (dead_at c.args.now c.in-Some.end c.in-Some.slot c.self.inside.ends c.self.inside.cells c.self.invariant.marked c.in-Some.ensures.has (omega (arith, c.if-end-now.true)))
 
 pub returns-in_default-clause-none : goal.returns-in_default-clause-none
 returns-in_default-clause-none c =
     subst (λ (s : Stored). (n : ℕ) (r : CachedReply) → in_slot s n ≡ Some r → n ≢ c.args.but → is_dead c.args.now r ≡ false) c.self.view_is
-    (none_over_but c.args.now c.in-Some.end c.args.but c.self.inside.ends c.self.inside.cells c.self.invariant.marked c.in-Some.ensures.least (omega (arith, c.if-end-from.false, c.from.ensures)))
+    (none_over_but c.args.now c.in-Some.end c.args.but c.self.inside.ends c.self.inside.cells c.self.invariant.marked (omega arith) c.in-Some.ensures.least (omega (arith, c.if-end-now.false)))
 
 pub returns-in_default-2-clause-none : goal.returns-in_default-2-clause-none
 returns-in_default-2-clause-none c =
     let none = subst (λ (o : Option (ℕ × ℕ)). IfNone o ((v s : ℕ) → has c.self.inside.ends v s ≡ true → s ≡ c.args.but)) c.in_default.is c.least_but.ensures.none in
     subst (λ (s : Stored). (n : ℕ) (r : CachedReply) → in_slot s n ≡ Some r → n ≢ c.args.but → is_dead c.args.now r ≡ false) c.self.view_is
-    (none_marked_but c.args.now c.args.but c.self.inside.ends c.self.inside.cells c.self.invariant.marked none)
+    (none_marked_but c.args.now c.args.but c.self.inside.ends c.self.inside.cells c.self.invariant.marked (omega arith) none)
