@@ -2,7 +2,7 @@
 -- name where the crate's tests are proved.
 use denote.Param.Send.{IsSend, IsSync, sendable}
 use Rattle.std.proofs.Crossing.{crosses}
-use Rattle.lb_mask_index.proofs.index.MaskIndex.TheSendSync.{the_send as masks_send}
+use Rattle.lb_masks.proofs.index.MaskIndex.TheSendSync.{the_send as masks_send}
 use Rattle.lb_suffix.proofs.index.SuffixIndex.TheSendSync.{the_send as names_send}
 use Rattle.lb_limits.proofs.limiter.Limiter.TheSendSync.{the_send as limiter_send}
 use Rattle.lb_chain.specs.contracts.chain.Chain as Chain

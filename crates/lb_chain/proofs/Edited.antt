@@ -1,11 +1,11 @@
 -- Selectors stay filed under their ranks where one is put in or taken out.
-use Rattle.std.proofs.Common.{◌≡◌, ◌↔◌, ℕ, ◌<◌, ◌≤◌, List, length, get_or, Contains, inl, inr, refl, sym, subst, ◌∙◌, arith}
+use Rattle.std.proofs.Common.{◌≡◌, ◌↔◌, Bool, true, false, ℕ, ◌<◌, ◌≤◌, List, length, get_or, Contains, inl, inr, refl, sym, subst, ◌∙◌, arith}
 use Rattle.std.specs.List.{insert, remove}
 use Rattle.std.proofs.lemmas.List.Edits.{length-insert, length-remove}
 use Rattle.lb_suffix.specs.Index.{Pair as NamePair, pair_of as name_pair}
-use Rattle.lb_mask_index.specs.Index.{Pair as MaskPair, pair_of as mask_pair}
+use Rattle.lb_masks.specs.Index.{Pair as MaskPair, pair_of as mask_pair}
 use Rattle.lb_terms.specs.Selector.{Selector, All}
-use Rattle.lb_chain.specs.Offers.{AreFiled, AreRising, first_sets, IsOneOf, IsPairOf, mask_pairs, name_pairs}
+use Rattle.lb_chain.specs.FirstAsked.{AreFiled, AreRising, at_loose, first_sets, IsOneOf, IsPairOf, loose_ranks, mask_pairs, name_pairs}
 use Rattle.lb_chain.specs.Filing.{AreNew, AreTakenBack, AreWith, AreWithout, IsFree}
 use Rattle.lb_chain.proofs.PairsOf.{in_inserted, in_removed, inserted_in, one_of_map, place_of, removed_in}
 use Rattle.lb_chain.proofs.Rising.{none_free, none_left, rising_inserted, rising_removed}
@@ -19,6 +19,13 @@ names_rank term rank x one = one_of_map (λ name. name_pair name rank) (λ (p : 
 
 pub masks_rank : HaveRank {X = MaskPair} (λ p. p.rank) mask_pairs
 masks_rank term rank x one = one_of_map (λ mask. mask_pair mask rank) (λ (p : MaskPair). p.rank ≡ rank) (λ y. refl) (first_sets term).masks x one
+
+rank_itself : (is_loose : Bool) (rank x : ℕ) → IsOneOf (at_loose is_loose rank) x → x ≡ rank
+rank_itself true rank x one = elim one [ inl is ↦ is | inr none ↦ absurd none ]
+rank_itself false rank x one = absurd one
+
+pub loose_rank : HaveRank {X = ℕ} (λ r. r) loose_ranks
+loose_rank term rank x one = rank_itself (first_sets term).is_loose rank x one
 
 -- what is filed of these selectors
 abbrev pub AreOf : {X : Type 0} → (Selector → ℕ → List X) → List Selector → List ℕ → List X → Type 0
@@ -46,29 +53,32 @@ of_removed rank_of pairs terms ranks at filed new have within rising each less a
   ),
 )
 
-pub filed_inserted : (names new_names : List NamePair) (masks new_masks : List MaskPair) (terms : List Selector) (ranks : List ℕ) (place rank : ℕ) (term : Selector) → place ≤ length ranks → IsFree ranks place rank → AreWith names (name_pairs term rank) new_names → AreWith masks (mask_pairs term rank) new_masks → AreFiled names masks ranks terms → AreFiled new_names new_masks (insert ranks place rank) (insert terms place term)
-filed_inserted names new_names masks new_masks terms ranks place rank term le free more_names more_masks filed =
+pub filed_inserted : (names new_names : List NamePair) (masks new_masks : List MaskPair) (loose new_loose : List ℕ) (terms : List Selector) (ranks : List ℕ) (place rank : ℕ) (term : Selector) → place ≤ length ranks → IsFree ranks place rank → AreWith names (name_pairs term rank) new_names → AreWith masks (mask_pairs term rank) new_masks → AreWith loose (loose_ranks term rank) new_loose → AreFiled names masks loose ranks terms → AreFiled new_names new_masks new_loose (insert ranks place rank) (insert terms place term)
+filed_inserted names new_names masks new_masks loose new_loose terms ranks place rank term le free more_names more_masks more_loose filed =
     let in_terms : place ≤ length terms = omega (arith, filed.each) in
     record {
       each = omega (arith, filed.each, length-insert ranks place rank le, length-insert terms place term in_terms);
       rising = rising_inserted ranks place rank le free filed.rising;
       by_names = of_inserted name_pairs terms ranks place rank term names new_names in_terms filed.each more_names filed.by_names;
       by_masks = of_inserted mask_pairs terms ranks place rank term masks new_masks in_terms filed.each more_masks filed.by_masks;
+      by_loose = of_inserted loose_ranks terms ranks place rank term loose new_loose in_terms filed.each more_loose filed.by_loose;
     }
 
-pub filed_back : (names new_names : List NamePair) (masks new_masks : List MaskPair) (terms : List Selector) (ranks : List ℕ) (place rank : ℕ) (term : Selector) → IsFree ranks place rank → AreTakenBack names (name_pairs term rank) new_names → AreTakenBack masks (mask_pairs term rank) new_masks → AreFiled names masks ranks terms → AreFiled new_names new_masks ranks terms
-filed_back names new_names masks new_masks terms ranks place rank term free back_names back_masks filed =
+pub filed_back : (names new_names : List NamePair) (masks new_masks : List MaskPair) (loose new_loose : List ℕ) (terms : List Selector) (ranks : List ℕ) (place rank : ℕ) (term : Selector) → IsFree ranks place rank → AreTakenBack names (name_pairs term rank) new_names → AreTakenBack masks (mask_pairs term rank) new_masks → AreTakenBack loose (loose_ranks term rank) new_loose → AreFiled names masks loose ranks terms → AreFiled new_names new_masks new_loose ranks terms
+filed_back names new_names masks new_masks loose new_loose terms ranks place rank term free back_names back_masks back_loose filed =
     let same_names = back_names (are_new (λ (p : NamePair). p.rank) name_pairs terms ranks place rank term names names_rank free filed.by_names) in
     let same_masks = back_masks (are_new (λ (p : MaskPair). p.rank) mask_pairs terms ranks place rank term masks masks_rank free filed.by_masks) in
+    let same_loose = back_loose (are_new (λ (r : ℕ). r) loose_ranks terms ranks place rank term loose loose_rank free filed.by_loose) in
     record {
       each = filed.each;
       rising = filed.rising;
       by_names = λ p. (λ has. (filed.by_names p).0 ((same_names p).0 has), λ has. (same_names p).1 ((filed.by_names p).1 has));
       by_masks = λ p. (λ has. (filed.by_masks p).0 ((same_masks p).0 has), λ has. (same_masks p).1 ((filed.by_masks p).1 has));
+      by_loose = λ r. (λ has. (filed.by_loose r).0 ((same_loose r).0 has), λ has. (same_loose r).1 ((filed.by_loose r).1 has));
     }
 
-pub filed_removed : (names new_names : List NamePair) (masks new_masks : List MaskPair) (terms : List Selector) (ranks : List ℕ) (at rank : ℕ) (term : Selector) → at < length ranks → get_or terms at All ≡ term → get_or ranks at 0 ≡ rank → AreWithout names (name_pairs term rank) new_names → AreWithout masks (mask_pairs term rank) new_masks → AreFiled names masks ranks terms → AreFiled new_names new_masks (remove ranks at) (remove terms at)
-filed_removed names new_names masks new_masks terms ranks at rank term within is_term is_rank less_names less_masks filed =
+pub filed_removed : (names new_names : List NamePair) (masks new_masks : List MaskPair) (loose new_loose : List ℕ) (terms : List Selector) (ranks : List ℕ) (at rank : ℕ) (term : Selector) → at < length ranks → get_or terms at All ≡ term → get_or ranks at 0 ≡ rank → AreWithout names (name_pairs term rank) new_names → AreWithout masks (mask_pairs term rank) new_masks → AreWithout loose (loose_ranks term rank) new_loose → AreFiled names masks loose ranks terms → AreFiled new_names new_masks new_loose (remove ranks at) (remove terms at)
+filed_removed names new_names masks new_masks loose new_loose terms ranks at rank term within is_term is_rank less_names less_masks less_loose filed =
     let in_terms : at < length terms = omega (arith, filed.each) in
     record {
       each = omega (arith, filed.each, length-remove ranks at within, length-remove terms at in_terms);
@@ -79,4 +89,7 @@ filed_removed names new_names masks new_masks terms ranks at rank term within is
       by_masks =
           of_removed (λ (p : MaskPair). p.rank) mask_pairs terms ranks at masks new_masks masks_rank within filed.rising filed.each
           (subst (λ (t : Selector). AreWithout masks (mask_pairs t (get_or ranks at 0)) new_masks) (sym is_term) (subst (λ (r : ℕ). AreWithout masks (mask_pairs term r) new_masks) (sym is_rank) less_masks)) filed.by_masks;
+      by_loose =
+          of_removed (λ (r : ℕ). r) loose_ranks terms ranks at loose new_loose loose_rank within filed.rising filed.each
+          (subst (λ (t : Selector). AreWithout loose (loose_ranks t (get_or ranks at 0)) new_loose) (sym is_term) (subst (λ (r : ℕ). AreWithout loose (loose_ranks term r) new_loose) (sym is_rank) less_loose)) filed.by_loose;
     }

@@ -1,7 +1,7 @@
 -- What is filed, one pair after the other.
 use Rattle.std.proofs.Common.{◌≡◌, ◌⊎◌, ◌↔◌, ℕ, zero, suc, ◌+◌, ◌<◌, ◌≤◌, List, [], ◌∷◌, length, map, get_or, drop, Contains, inl, inr, refl, sym, ap, subst, ◌∙◌, arith}
 use Rattle.std.proofs.lemmas.List.{drop_all, drop_more}
-use Rattle.lb_chain.specs.Offers.{IsOneOf}
+use Rattle.lb_chain.specs.FirstAsked.{IsOneOf}
 use Rattle.lb_chain.specs.Filing.{AreTakenBack, AreWith, AreWithout}
 
 pub with_none : {X : Type 0} (old : List X) → AreWith old [] old

@@ -7,6 +7,7 @@ pub mod PartlyReserved
 pub mod Passes
 pub mod RulesReady
 pub mod Seen
+pub mod FirstFails
 pub mod Walks
 pub mod IsAddrs
 pub mod Counted
@@ -23,3 +24,5 @@ pub mod PairsOf
 pub mod Edited
 pub mod Offered
 pub mod Renumbered
+pub mod Ahead
+pub mod LooseRanks

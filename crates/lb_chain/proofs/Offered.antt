@@ -1,21 +1,21 @@
 -- What the indexes find is what may hold.
-use Rattle.std.proofs.Common.{Option, ◌≡◌, ◌⊎◌, ◌↔◌, IsTrue, nat_lt, ◌||◌, Bool, true, false, ℕ, ◌<◌, ◌≤◌, List, [], ◌∷◌, ◌++◌, length, get_or, slice_index, Some, None, inl, inr, refl, sym, ap, subst, ◌∙◌, arith}
-use Rattle.std.proofs.lemmas.Bool.{cases_Bool, cases_lt}
+use Rattle.std.proofs.Common.{Option, ◌≡◌, ◌⊎◌, ◌↔◌, IsTrue, nat_lt, ◌||◌, Bool, true, false, ℕ, ◌<◌, ◌≤◌, List, [], ◌∷◌, ◌++◌, length, get_or, Some, None, inl, inr, refl, sym, ap, subst, ◌∙◌, arith}
+use Rattle.std.proofs.lemmas.Bool.{cases_Bool}
 use Rattle.std.proofs.lemmas.Bool.Decides.{nat_tests}
-use Rattle.std.proofs.lemmas.List.{append-nil}
 use Rattle.lb_name.specs.Name.{lower_name, IsUnder}
 use Rattle.lb_ranks.specs.Least.{IsLeastFrom, lesser_of}
 use Rattle.lb_masks.specs.Mask.{Covers, Prefix}
 use Rattle.lb_suffix.specs.Index.{Pair as NamePair, pair_of as name_pair}
-use Rattle.lb_mask_index.specs.Index.{Pair as MaskPair, pair_of as mask_pair}
+use Rattle.lb_masks.specs.Index.{Pair as MaskPair, pair_of as mask_pair}
 use Rattle.lb_wire.specs.declared.addr.Addr.{Addr}
 use Rattle.lb_wire.specs.declared.query.QueryView.{QueryView}
 use Rattle.lb_terms.specs.Sets.{covers, in_group, in_suffixes, is_under}
 use Rattle.lb_terms.specs.Selector.{Selector, All, Suffix, Masks, Qtype, And, Or, Not, MaxQps, Selectors, end, more}
-use Rattle.lb_chain.specs.Offers.{AreFiled, AreRising, at_masks, at_names, first_may_hold, first_member_sets, IsNextOffered, IsOneOf, may_hold, may_hold_at, mask_pairs, name_pairs}
-use Rattle.lb_chain.specs.Filing.{IsFiledFor}
+use Rattle.lb_chain.specs.FirstAsked.{AreFiled, at_loose, at_masks, at_names, first_may_hold, first_member_sets, IsOneOf, loose_ranks, may_hold, mask_pairs, name_pairs}
+use Rattle.lb_chain.specs.Offers.{may_hold_at}
+use Rattle.lb_chain.specs.Ahead.{IsOffered}
 use Rattle.lb_chain.proofs.PairsOf.{pair_at, place_of}
-use Rattle.lb_chain.proofs.Edited.{masks_rank, names_rank}
+use Rattle.lb_chain.proofs.Edited.{loose_rank, masks_rank, names_rank}
 
 below_is : (a b : ℕ) → nat_lt a b ≡ true → a < b
 below_is a b is = grind (arith, nat_tests)
@@ -96,10 +96,26 @@ mutual
   first_mask_holds by_mask end view addr rank p one over = refl
   first_mask_holds by_mask (more member members) view addr rank p one over = mask_holds by_mask member view addr rank p one over
 
--- one of the pairs is over the name or covers the address
-abbrev IsFound : List NamePair → List MaskPair → ℕ → QueryView → Addr → Type 0
-IsFound names masks rank view addr =
-    ((name : List (List ℕ)) × IsOneOf names (name_pair name rank) × IsUnder view.name name) ⊎ ((mask : Prefix) × IsOneOf masks (mask_pair mask rank) × Covers mask addr)
+-- and so may one that asks for no set first
+mutual
+  loose_holds : (term : Selector) (view : QueryView) (addr : Addr) (rank x : ℕ) → IsOneOf (loose_ranks term rank) x → may_hold term view addr ≡ true
+  loose_holds All view addr rank x one = refl
+  loose_holds (Suffix names) view addr rank x one = absurd one
+  loose_holds (Masks group) view addr rank x one = absurd one
+  loose_holds (Qtype qtype) view addr rank x one = refl
+  loose_holds (And members) view addr rank x one = first_loose_holds members view addr rank x one
+  loose_holds (Or members) view addr rank x one = refl
+  loose_holds (Not member) view addr rank x one = refl
+  loose_holds (MaxQps qps v4 v6) view addr rank x one = refl
+
+  first_loose_holds : (members : Selectors) (view : QueryView) (addr : Addr) (rank x : ℕ) → IsOneOf (at_loose (first_member_sets members).is_loose rank) x → first_may_hold members view addr ≡ true
+  first_loose_holds end view addr rank x one = refl
+  first_loose_holds (more member members) view addr rank x one = loose_holds member view addr rank x one
+
+-- one of the pairs is over the name or covers the address, or the rank is loose
+abbrev IsFound : List NamePair → List MaskPair → List ℕ → ℕ → QueryView → Addr → Type 0
+IsFound names masks loose rank view addr =
+    IsOneOf loose rank ⊎ (((name : List (List ℕ)) × IsOneOf names (name_pair name rank) × IsUnder view.name name) ⊎ ((mask : Prefix) × IsOneOf masks (mask_pair mask rank) × Covers mask addr))
 
 name_found : (by_name : NamesDecide) (view : QueryView) (rank : ℕ) (names : List (List (List ℕ))) → in_suffixes names view.name ≡ true → (name : List (List ℕ)) × IsOneOf (at_names names rank) (name_pair name rank) × IsUnder view.name name
 name_found by_name view rank [] is = absurd (cc)
@@ -118,82 +134,52 @@ mask_found by_mask addr rank (mask ∷ masks) is =
       | inr fails ↦ let found = mask_found by_mask addr rank masks (ap (λ (b : Bool). b || in_group masks addr) (sym fails) ∙ is) in (found.0, inr found.1, found.2)
     ]
 
--- the root is over each name
-root_found : (view : QueryView) (addr : Addr) (rank : ℕ) → IsFound (at_names ([] ∷ []) rank) [] rank view addr
-root_found view addr rank = inl ([], inl refl, (lower_name view.name, sym (append-nil (lower_name view.name))))
-
 mutual
-  found_where : (by_name : NamesDecide) (by_mask : MasksDecide) (term : Selector) (view : QueryView) (addr : Addr) (rank : ℕ) → may_hold term view addr ≡ true → IsFound (name_pairs term rank) (mask_pairs term rank) rank view addr
-  found_where by_name by_mask All view addr rank is = root_found view addr rank
-  found_where by_name by_mask (Suffix names) view addr rank is = inl (name_found by_name view rank names is)
-  found_where by_name by_mask (Masks group) view addr rank is = inr (mask_found by_mask addr rank group is)
-  found_where by_name by_mask (Qtype qtype) view addr rank is = root_found view addr rank
+  found_where : (by_name : NamesDecide) (by_mask : MasksDecide) (term : Selector) (view : QueryView) (addr : Addr) (rank : ℕ) → may_hold term view addr ≡ true → IsFound (name_pairs term rank) (mask_pairs term rank) (loose_ranks term rank) rank view addr
+  found_where by_name by_mask All view addr rank is = inl (inl refl)
+  found_where by_name by_mask (Suffix names) view addr rank is = inr (inl (name_found by_name view rank names is))
+  found_where by_name by_mask (Masks group) view addr rank is = inr (inr (mask_found by_mask addr rank group is))
+  found_where by_name by_mask (Qtype qtype) view addr rank is = inl (inl refl)
   found_where by_name by_mask (And members) view addr rank is = first_found by_name by_mask members view addr rank is
-  found_where by_name by_mask (Or members) view addr rank is = root_found view addr rank
-  found_where by_name by_mask (Not member) view addr rank is = root_found view addr rank
-  found_where by_name by_mask (MaxQps qps v4 v6) view addr rank is = root_found view addr rank
+  found_where by_name by_mask (Or members) view addr rank is = inl (inl refl)
+  found_where by_name by_mask (Not member) view addr rank is = inl (inl refl)
+  found_where by_name by_mask (MaxQps qps v4 v6) view addr rank is = inl (inl refl)
 
-  first_found : (by_name : NamesDecide) (by_mask : MasksDecide) (members : Selectors) (view : QueryView) (addr : Addr) (rank : ℕ) → first_may_hold members view addr ≡ true → IsFound (at_names (first_member_sets members).names rank) (at_masks (first_member_sets members).masks rank) rank view addr
-  first_found by_name by_mask end view addr rank is = root_found view addr rank
+  first_found : (by_name : NamesDecide) (by_mask : MasksDecide) (members : Selectors) (view : QueryView) (addr : Addr) (rank : ℕ) → first_may_hold members view addr ≡ true →
+      IsFound (at_names (first_member_sets members).names rank) (at_masks (first_member_sets members).masks rank) (at_loose (first_member_sets members).is_loose rank) rank view addr
+  first_found by_name by_mask end view addr rank is = inl (inl refl)
   first_found by_name by_mask (more member members) view addr rank is = found_where by_name by_mask member view addr rank is
 
 -- what is found is the rank of a selector that may hold
-abbrev HoldsAt : List Selector → List ℕ → QueryView → Addr → ℕ → Type 0
+abbrev pub HoldsAt : List Selector → List ℕ → QueryView → Addr → ℕ → Type 0
 HoldsAt terms ranks view addr rank = (k : ℕ) × (k < length terms) × (get_or ranks k 0 ≡ rank) × (may_hold_at terms view addr k ≡ true)
 
-holds_found : (by_name : NamesDecide) (by_mask : MasksDecide) (names : List NamePair) (masks : List MaskPair) (terms : List Selector) (ranks : List ℕ) (view : QueryView) (addr : Addr) (rank : ℕ) → AreFiled names masks ranks terms → IsFiledFor names masks view addr rank → HoldsAt terms ranks view addr rank
-holds_found by_name by_mask names masks terms ranks view addr rank filed found =
+pub holds_found : (by_name : NamesDecide) (by_mask : MasksDecide) (names : List NamePair) (masks : List MaskPair) (loose : List ℕ) (terms : List Selector) (ranks : List ℕ) (view : QueryView) (addr : Addr) (rank : ℕ) → AreFiled names masks loose ranks terms → IsOffered names masks loose view addr rank → HoldsAt terms ranks view addr rank
+holds_found by_name by_mask names masks loose terms ranks view addr rank filed found =
     elim found [
-      | inl over ↦
-          let p : NamePair = name_pair over.0 rank in
-          let at = place_of name_pairs terms ranks p ((filed.by_names p).0 over.1) in
-          (at.0, at.1, sym (names_rank (get_or terms at.0 All) (get_or ranks at.0 0) p at.3), name_holds by_name (get_or terms at.0 All) view addr (get_or ranks at.0 0) p at.3 over.2)
-      | inr under ↦
-          let p : MaskPair = mask_pair under.0 rank in
-          let at = place_of mask_pairs terms ranks p ((filed.by_masks p).0 under.1) in
-          (at.0, at.1, sym (masks_rank (get_or terms at.0 All) (get_or ranks at.0 0) p at.3), mask_holds by_mask (get_or terms at.0 All) view addr (get_or ranks at.0 0) p at.3 under.2)
+      | inl among ↦
+          let at = place_of loose_ranks terms ranks rank ((filed.by_loose rank).0 among) in
+          (at.0, at.1, sym (loose_rank (get_or terms at.0 All) (get_or ranks at.0 0) rank at.3), loose_holds (get_or terms at.0 All) view addr (get_or ranks at.0 0) rank at.3)
+      | inr for ↦ elim for [
+        | inl over ↦
+            let p : NamePair = name_pair over.0 rank in
+            let at = place_of name_pairs terms ranks p ((filed.by_names p).0 over.1) in
+            (at.0, at.1, sym (names_rank (get_or terms at.0 All) (get_or ranks at.0 0) p at.3), name_holds by_name (get_or terms at.0 All) view addr (get_or ranks at.0 0) p at.3 over.2)
+        | inr under ↦
+            let p : MaskPair = mask_pair under.0 rank in
+            let at = place_of mask_pairs terms ranks p ((filed.by_masks p).0 under.1) in
+            (at.0, at.1, sym (masks_rank (get_or terms at.0 All) (get_or ranks at.0 0) p at.3), mask_holds by_mask (get_or terms at.0 All) view addr (get_or ranks at.0 0) p at.3 under.2)
+      ]
     ]
 
 -- and each such rank is found
-found_holds : (by_name : NamesDecide) (by_mask : MasksDecide) (names : List NamePair) (masks : List MaskPair) (terms : List Selector) (ranks : List ℕ) (view : QueryView) (addr : Addr) (k : ℕ) → AreFiled names masks ranks terms → k < length terms → may_hold_at terms view addr k ≡ true → IsFiledFor names masks view addr (get_or ranks k 0)
-found_holds by_name by_mask names masks terms ranks view addr k filed lt is =
-    let rank : ℕ = get_or ranks k 0 in
+pub found_holds : (by_name : NamesDecide) (by_mask : MasksDecide) (names : List NamePair) (masks : List MaskPair) (loose : List ℕ) (terms : List Selector) (ranks : List ℕ) (view : QueryView) (addr : Addr) (k : ℕ) → AreFiled names masks loose ranks terms → k < length terms → may_hold_at terms view addr k ≡ true → IsOffered names masks loose view addr (get_or ranks k 0)
+found_holds by_name by_mask names masks loose terms ranks view addr k filed lt is =
     let in_ranks : k < length ranks = omega (arith, filed.each) in
     elim (found_where by_name by_mask (get_or terms k All) view addr (get_or ranks k 0) is) [
-      | inl over ↦ inl (over.0, (filed.by_names (name_pair over.0 (get_or ranks k 0))).1 (pair_at name_pairs terms ranks (name_pair over.0 (get_or ranks k 0)) k lt in_ranks over.1), over.2)
-      | inr under ↦ inr (under.0, (filed.by_masks (mask_pair under.0 (get_or ranks k 0))).1 (pair_at mask_pairs terms ranks (mask_pair under.0 (get_or ranks k 0)) k lt in_ranks under.1), under.2)
+      | inl among ↦ inl ((filed.by_loose (get_or ranks k 0)).1 (pair_at loose_ranks terms ranks (get_or ranks k 0) k lt in_ranks among))
+      | inr for ↦ elim for [
+        | inl over ↦ inr (inl (over.0, (filed.by_names (name_pair over.0 (get_or ranks k 0))).1 (pair_at name_pairs terms ranks (name_pair over.0 (get_or ranks k 0)) k lt in_ranks over.1), over.2))
+        | inr under ↦ inr (inr (under.0, (filed.by_masks (mask_pair under.0 (get_or ranks k 0))).1 (pair_at mask_pairs terms ranks (mask_pair under.0 (get_or ranks k 0)) k lt in_ranks under.1), under.2))
+      ]
     ]
-
-not_held : (terms : List Selector) (view : QueryView) (addr : Addr) (j : ℕ) → (may_hold_at terms view addr j ≡ true → ⊥) → may_hold_at terms view addr j ≡ false
-not_held terms view addr j none = elim (cases_Bool (may_hold_at terms view addr j)) [ inl is ↦ absurd (none is) | inr is ↦ is ]
-
-same_or_later : (i j : ℕ) → i ≤ j → (i ≡ j) ⊎ (i < j)
-same_or_later i j le = grind arith
-
-rises : (ranks : List ℕ) (i j : ℕ) → AreRising ranks → i ≤ j → j < length ranks → get_or ranks i 0 ≤ get_or ranks j 0
-rises ranks i j rising le lt = elim (same_or_later i j le) [ inl same ↦ omega (arith, ap (λ (k : ℕ). get_or ranks k 0) same) | inr less ↦ omega (arith, rising i j less lt) ]
-
-pub next_beyond : (names : List NamePair) (masks : List MaskPair) (terms : List Selector) (ranks : List ℕ) (view : QueryView) (addr : Addr) (at : ℕ) → AreFiled names masks ranks terms → length ranks ≤ at → IsNextOffered terms view addr at None
-next_beyond names masks terms ranks view addr at filed le j low lt = absurd (omega (arith, filed.each))
-
-pub next_none : (by_name : NamesDecide) (by_mask : MasksDecide) (names : List NamePair) (masks : List MaskPair) (terms : List Selector) (ranks : List ℕ) (view : QueryView) (addr : Addr) (at from : ℕ) → AreFiled names masks ranks terms → from ≡ get_or ranks at 0 → IsLeastFrom (IsFiledFor names masks view addr) from None → IsNextOffered terms view addr at None
-next_none by_name by_mask names masks terms ranks view addr at from filed is none j low lt =
-    not_held terms view addr j (λ holds. none (get_or ranks j 0) (omega (arith, is, rises ranks at j filed.rising low (omega (arith, filed.each)))) (found_holds by_name by_mask names masks terms ranks view addr j filed lt holds))
-
-pub next_some : (by_name : NamesDecide) (by_mask : MasksDecide) (names : List NamePair) (masks : List MaskPair) (terms : List Selector) (ranks : List ℕ) (view : QueryView) (addr : Addr) (at from rank place : ℕ) → AreFiled names masks ranks terms → at < length ranks → from ≡ get_or ranks at 0 → IsLeastFrom (IsFiledFor names masks view addr) from (Some rank) → (AreRising ranks → (k : ℕ) → k < length ranks → slice_index ranks k ≡ rank → place ≡ k) → IsNextOffered terms view addr at (Some place)
-next_some by_name by_mask names masks terms ranks view addr at from rank place filed within is least finds =
-    let found = holds_found by_name by_mask names masks terms ranks view addr rank filed least.1 in
-    let in_terms : found.0 < length terms = found.1 in
-    let in_ranks : found.0 < length ranks = omega (arith, filed.each) in
-    let here : place ≡ found.0 = finds filed.rising found.0 in_ranks found.2 in
-    let ranked : get_or ranks found.0 0 ≡ rank = found.2 in
-    let le : at ≤ found.0 = elim (cases_lt found.0 at) [ inl low ↦ absurd (omega (arith, ranked, is, least.0, filed.rising found.0 at low within)) | inr high ↦ high ] in (
-      omega arith,
-      omega arith,
-      subst (λ (k : ℕ). may_hold_at terms view addr k ≡ true) (sym here) found.3,
-      λ j low less.
-          not_held terms view addr j (λ holds.
-          let later : from ≤ get_or ranks j 0 = omega (arith, is, rises ranks at j filed.rising low (omega arith)) in
-          let over : rank ≤ get_or ranks j 0 = least.2 (get_or ranks j 0) later (found_holds by_name by_mask names masks terms ranks view addr j filed (omega arith) holds) in
-          absurd (omega (arith, ranked, filed.rising j found.0 (omega arith) in_ranks))),
-    )

@@ -2,7 +2,7 @@
 use Rattle.std.proofs.Common.{◌≡◌, ◌⊎◌, ℕ, zero, suc, ◌<◌, ◌≤◌, List, [], ◌∷◌, length, map, get_or, inl, inr, sym, subst, arith}
 use Rattle.std.specs.List.{insert, remove}
 use Rattle.lb_terms.specs.Selector.{Selector, All}
-use Rattle.lb_chain.specs.Offers.{IsOneOf, IsPairOf}
+use Rattle.lb_chain.specs.FirstAsked.{IsOneOf, IsPairOf}
 
 -- with one more
 pub in_inserted : {X : Type 0} (pairs : Selector → ℕ → List X) (terms : List Selector) (ranks : List ℕ) (place rank : ℕ) (term : Selector) (x : X) → place ≤ length terms → length ranks ≡ length terms → IsPairOf pairs (insert terms place term) (insert ranks place rank) x → IsOneOf (pairs term rank) x ⊎ IsPairOf pairs terms ranks x

@@ -1,47 +1,24 @@
 -- A rule whose term may not hold, by what it asks first, is passed by: it does not hold, and gives no passes.
-use Rattle.std.proofs.Common.{◌≡◌, Bool, false, ℕ, zero, suc, ◌<◌, ◌≤◌, List, [], ◌∷◌, length, map, get_or, drop, None, Some, refl, sym, ap, ◌∙◌, arith}
+use Rattle.std.proofs.Common.{◌≡◌, Bool, true, false, ℕ, zero, suc, ◌<◌, ◌≤◌, List, [], ◌∷◌, length, map, get_or, drop, None, Some, refl, sym, ap, ◌∙◌, arith}
 use Rattle.std.proofs.lemmas.List.{get_or-map, length-map}
 use Rattle.lb_wire.specs.declared.addr.Addr.{Addr}
 use Rattle.lb_wire.specs.declared.transport.Kind.{Kind}
 use Rattle.lb_wire.specs.declared.query.QueryView.{QueryView}
-use Rattle.lb_terms.specs.Selector.{Selector, All, Suffix, Masks, Qtype, And, Or, Not, MaxQps, Selectors, end, more}
-use Rattle.lb_terms.specs.Truth.{Asked, asked_of, truth_at, truth_all, passes_at, passes_all}
+use Rattle.lb_terms.specs.Selector.{Selector, All}
+use Rattle.lb_terms.specs.Truth.{Asked, asked_of}
 use Rattle.lb_chain.specs.declared.walked.Passed.{Passed}
 use Rattle.lb_chain.specs.declared.walked.Walked.{Walked}
 use Rattle.lb_chain.specs.declared.numbered.Numbered.{Numbered}
 use Rattle.lb_chain.specs.Edits.{limiters_in}
-use Rattle.lb_chain.specs.Offers.{IsNextOffered, may_hold, may_hold_at, first_may_hold, terms_of}
-use Rattle.lb_chain.specs.Walk.{ending_of, passes_of, tested_by, truth_of, walk_of, with_before}
+use Rattle.lb_chain.specs.FirstAsked.{may_hold}
+use Rattle.lb_chain.specs.Offers.{IsNextOffered, may_hold_at, terms_of}
+use Rattle.lb_chain.specs.Walk.{ending_of, passes_of, tested_by, tests_of, truth_of, walk_of, with_before}
+use Rattle.lb_chain.proofs.FirstFails.{first_fails, first_passes}
+use Rattle.lb_chain.proofs.Walks.{with_none}
 
-mutual
-  pub first_fails : (term : Selector) (asked : Asked) (at : ℕ) → may_hold term asked.view asked.addr ≡ false → truth_at term asked at ≡ false
-  first_fails All asked at is = absurd (cc)
-  first_fails (Suffix names) asked at is = is
-  first_fails (Masks group) asked at is = is
-  first_fails (Qtype qtype) asked at is = absurd (cc)
-  first_fails (And members) asked at is = members_fail members asked at is
-  first_fails (Or members) asked at is = absurd (cc)
-  first_fails (Not member) asked at is = absurd (cc)
-  first_fails (MaxQps qps v4 v6) asked at is = absurd (cc)
-
-  members_fail : (members : Selectors) (asked : Asked) (at : ℕ) → first_may_hold members asked.view asked.addr ≡ false → truth_all members asked at ≡ false
-  members_fail end asked at is = absurd (cc)
-  members_fail (more member members) asked at is = rw (first_fails member asked at is) refl
-
-mutual
-  pub first_passes : (term : Selector) (asked : Asked) (at : ℕ) → may_hold term asked.view asked.addr ≡ false → passes_at term asked at ≡ []
-  first_passes All asked at is = absurd (cc)
-  first_passes (Suffix names) asked at is = refl
-  first_passes (Masks group) asked at is = refl
-  first_passes (Qtype qtype) asked at is = absurd (cc)
-  first_passes (And members) asked at is = members_pass members asked at is
-  first_passes (Or members) asked at is = absurd (cc)
-  first_passes (Not member) asked at is = absurd (cc)
-  first_passes (MaxQps qps v4 v6) asked at is = absurd (cc)
-
-  members_pass : (members : Selectors) (asked : Asked) (at : ℕ) → first_may_hold members asked.view asked.addr ≡ false → passes_all members asked at ≡ []
-  members_pass end asked at is = absurd (cc)
-  members_pass (more member members) asked at is = rw (first_fails member asked at is) (first_passes member asked at is)
+-- it is not tested
+not_tested : (n : Numbered) (view : QueryView) (addr : Addr) → may_hold n.rule.term view addr ≡ false → tests_of n view addr ≡ 0
+not_tested n view addr is = rw is refl
 
 -- it changes nothing
 passed_by : (n : Numbered) (rules : List Numbered) (view : QueryView) (addr : Addr) (kind : Kind) (now : ℕ) → may_hold n.rule.term view addr ≡ false → walk_of (n ∷ rules) view addr kind now ≡ walk_of rules view addr kind now
@@ -50,8 +27,10 @@ passed_by n rules view addr kind now is =
     let asked : Asked = asked_of view addr n.limits now in
     let fails : truth_of n view addr now ≡ false = first_fails n.rule.term asked 0 is in
     let none : passes_of n view addr now ≡ [] = ap (λ (ats : List ℕ). map {B = Passed} (λ at. record { rule = n.id; limiter = at }) ats) (first_passes n.rule.term asked 0 is) in
-    ap (λ (truth : Bool). tested_by n truth (ending_of n.rule.action view kind) (passes_of n view addr now) after) fails
-    ∙ ap (λ (ps : List Passed). with_before false false ps after) none
+    ap (λ (truth : Bool). tested_by n truth (ending_of n.rule.action view kind) (passes_of n view addr now) (tests_of n view addr) after) fails
+    ∙ ap (λ (ps : List Passed). with_before false false ps (tests_of n view addr) after) none
+    ∙ ap (λ (t : ℕ). with_before false false [] t after) (not_tested n view addr is)
+    ∙ sym (with_none after)
 
 -- nor do several, one after the other
 passed_all : (rules : List Numbered) (view : QueryView) (addr : Addr) (kind : Kind) (now i j : ℕ) → i ≤ j → j ≤ length rules → ((k : ℕ) (d : Numbered) → i ≤ k → k < j → may_hold (get_or rules k d).rule.term view addr ≡ false) → walk_of (drop i rules) view addr kind now ≡ walk_of (drop j rules) view addr kind now
@@ -73,19 +52,25 @@ none_between rules i j view addr within none k d low high =
 pub offered_within : (rules : List Numbered) (at place : ℕ) (view : QueryView) (addr : Addr) → IsNextOffered (terms_of rules) view addr at (Some place) → place < length rules
 offered_within rules at place view addr next = omega (arith, next.1, length-map rules (λ (n : Numbered). n.rule.term))
 
+-- and may hold
+pub offered_may : (rules : List Numbered) (at place : ℕ) (view : QueryView) (addr : Addr) (n : Numbered) → IsNextOffered (terms_of rules) view addr at (Some place) → n ≡ get_or rules place n → may_hold n.rule.term view addr ≡ true
+offered_may rules at place view addr n next is =
+    ap (λ (m : Numbered). may_hold m.rule.term view addr) is
+    ∙ sym (ap (λ (term : Selector). may_hold term view addr) (get_or-map (λ (m : Numbered). m.rule.term) rules place n All (offered_within rules at place view addr next))) ∙ next.2
+
 -- the walk from a place is the walk from the next one offered
-pub walk_to : (rules : List Numbered) (at place : ℕ) (view : QueryView) (addr : Addr) (kind : Kind) (now : ℕ) (a b : Bool) (ps : List Passed) (whole : Walked) →
-    IsNextOffered (terms_of rules) view addr at (Some place) → with_before a b ps (walk_of (drop at rules) view addr kind now) ≡ whole → with_before a b ps (walk_of (drop place rules) view addr kind now) ≡ whole
-walk_to rules at place view addr kind now a b ps whole next before =
+pub walk_to : (rules : List Numbered) (at place : ℕ) (view : QueryView) (addr : Addr) (kind : Kind) (now : ℕ) (a b : Bool) (ps : List Passed) (t : ℕ) (whole : Walked) →
+    IsNextOffered (terms_of rules) view addr at (Some place) → with_before a b ps t (walk_of (drop at rules) view addr kind now) ≡ whole → with_before a b ps t (walk_of (drop place rules) view addr kind now) ≡ whole
+walk_to rules at place view addr kind now a b ps t whole next before =
     let lt : place < length rules = offered_within rules at place view addr next in
-    ap (with_before a b ps) (sym (passed_all rules view addr kind now at place next.0 (omega arith) (none_between rules at place view addr (omega arith) next.3))) ∙ before
+    ap (with_before a b ps t) (sym (passed_all rules view addr kind now at place next.0 (omega arith) (none_between rules at place view addr (omega arith) next.3))) ∙ before
 
 -- where none is, it is at its end
-pub walk_to_end : (rules : List Numbered) (at : ℕ) (view : QueryView) (addr : Addr) (kind : Kind) (now : ℕ) (a b : Bool) (ps : List Passed) (whole : Walked) →
-    at ≤ length rules → IsNextOffered (terms_of rules) view addr at None → with_before a b ps (walk_of (drop at rules) view addr kind now) ≡ whole → with_before a b ps (walk_of (drop (length rules) rules) view addr kind now) ≡ whole
-walk_to_end rules at view addr kind now a b ps whole le next before =
+pub walk_to_end : (rules : List Numbered) (at : ℕ) (view : QueryView) (addr : Addr) (kind : Kind) (now : ℕ) (a b : Bool) (ps : List Passed) (t : ℕ) (whole : Walked) →
+    at ≤ length rules → IsNextOffered (terms_of rules) view addr at None → with_before a b ps t (walk_of (drop at rules) view addr kind now) ≡ whole → with_before a b ps t (walk_of (drop (length rules) rules) view addr kind now) ≡ whole
+walk_to_end rules at view addr kind now a b ps t whole le next before =
     let none : (k : ℕ) → at ≤ k → k < length rules → may_hold_at (terms_of rules) view addr k ≡ false = λ k low high. next k low (omega (arith, length-map rules (λ (n : Numbered). n.rule.term))) in
-    ap (with_before a b ps) (sym (passed_all rules view addr kind now at (length rules) le (omega arith) (none_between rules at (length rules) view addr (omega arith) none))) ∙ before
+    ap (with_before a b ps t) (sym (passed_all rules view addr kind now at (length rules) le (omega arith) (none_between rules at (length rules) view addr (omega arith) none))) ∙ before
 
 -- the rules from a later place on have no more limiters
 fewer_by : (rules : List Numbered) (j : ℕ) → limiters_in (drop j rules) ≤ limiters_in rules

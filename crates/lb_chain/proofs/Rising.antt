@@ -6,7 +6,7 @@ use Rattle.std.proofs.lemmas.Bool.Decides.{nat_tests}
 use Rattle.std.proofs.lemmas.Bool.{cases_lt}
 use Rattle.std.proofs.lemmas.List.{get_or_default}
 use Rattle.std.proofs.lemmas.List.Edits.{length-insert, length-remove, get_or-insert_at, get_or-insert_below, get_or-remove_above, get_or-remove_below}
-use Rattle.lb_chain.specs.Offers.{AreRising}
+use Rattle.lb_chain.specs.FirstAsked.{AreRising}
 use Rattle.lb_chain.specs.Filing.{AreEven, IsFree}
 
 pub rising_removed : (ranks : List ℕ) (at : ℕ) → at < length ranks → AreRising ranks → AreRising (remove ranks at)

@@ -18,7 +18,7 @@ use Rattle.lb_chain.specs.declared.walked.Walked.{Walked}
 use Rattle.lb_chain.specs.declared.numbered.Numbered.{Numbered}
 use Rattle.lb_chain.specs.Chain.{with_id}
 use Rattle.lb_chain.specs.Counting.{has_pass, changed_limits, changed_rules, IsReady, LimitersReady, RulesReady}
-use Rattle.lb_chain.specs.Walk.{ending_of, passes_of, tested_by, truth_of, walk_of}
+use Rattle.lb_chain.specs.Walk.{ending_of, passes_of, tested_by, tests_of, truth_of, walk_of}
 use Rattle.lb_chain.proofs.ChangedRules.{limits_so_far, limits_there, rules_so_far, rules_there}
 use Rattle.lb_chain.proofs.Chains.{has_id}
 use Rattle.lb_chain.proofs.Passes.{listed, matched_of, unmatched}
@@ -52,10 +52,10 @@ own_listed rule at (number ∷ numbers) =
     rw same (ap (λ (b : Bool). (number == at) || b) (own_listed rule at numbers))
 
 -- the passes after a rule: none, or those of the later rules
-parts_of : (n : Numbered) (truth : Bool) (ending : Option Verdict) (passes : List Passed) (after : Walked) → ((tested_by n truth ending passes after).passes ≡ passes) ⊎ ((tested_by n truth ending passes after).passes ≡ passes ++ after.passes)
-parts_of n true (Some verdict) passes after = inl refl
-parts_of n true None passes after = inr refl
-parts_of n false ending passes after = inr refl
+parts_of : (n : Numbered) (truth : Bool) (ending : Option Verdict) (passes : List Passed) (t : ℕ) (after : Walked) → ((tested_by n truth ending passes t after).passes ≡ passes) ⊎ ((tested_by n truth ending passes t after).passes ≡ passes ++ after.passes)
+parts_of n true (Some verdict) passes t after = inl refl
+parts_of n true None passes t after = inr refl
+parts_of n false ending passes t after = inr refl
 
 with_id-cons : (id : ℕ) (n : Numbered) (rules : List Numbered) → with_id id (n ∷ rules) ≡ has_id id n + with_id id rules
 with_id-cons id n rules = sum_by-cons (has_id id) n rules
@@ -75,7 +75,7 @@ strange id (n ∷ rules) view addr kind now none =
       | inl is ↦ absurd (let one : has_id id n ≡ 1 = rw is refl in omega (arith, with_id-cons id n rules))
       | inr other ↦
           let here : has_some id own ≡ false = own_strange n.id id (passes_at n.rule.term (asked_of view addr n.limits now) 0) other in
-          elim (parts_of n (truth_of n view addr now) (ending_of n.rule.action view kind) own after) [
+          elim (parts_of n (truth_of n view addr now) (ending_of n.rule.action view kind) own (tests_of n view addr) after) [
             | inl alone ↦ ap (has_some id) alone ∙ here
             | inr both ↦ ap (has_some id) both ∙ apart id own after.passes here later
           ]
@@ -197,7 +197,7 @@ module _ (put_is_there : PutIsThere) (keeps_matches : ReservingKeepsMatches) whe
       let alone : with_id n.id.0 rules ≡ 0 = omega (arith, once n.id.0, with_id-cons n.id.0 n rules, own_one n) in
       let ahead : Foreign (front ++ own) rules = foreign_more front n rules view addr now foreign once in
       let fewer : (id : ℕ) → with_id id rules ≤ 1 = λ id. omega (arith, once id, with_id-cons id n rules) in
-      elim (parts_of n (truth_of n view addr now) (ending_of n.rule.action view kind) own after) [
+      elim (parts_of n (truth_of n view addr now) (ending_of n.rule.action view kind) own (tests_of n view addr) after) [
         | inl ends ↦
             let parts : all ≡ front ++ own = is ∙ ap (λ (ps : List Passed). front ++ ps) ends in
             let padded : all ≡ front ++ (own ++ []) = parts ∙ ap (λ (ps : List Passed). front ++ ps) (sym (append-nil own)) in

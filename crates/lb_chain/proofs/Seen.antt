@@ -22,16 +22,16 @@ use Rattle.lb_chain.specs.declared.numbered.Numbered.{Numbered}
 use Rattle.lb_chain.specs.Counting.{has_pass, changed_limits, changed_rule, counted}
 use Rattle.lb_chain.specs.Seen.{seen_limits, seen_rule, seen_rules}
 use Rattle.lb_chain.proofs.Passes.{matched_of}
-use Rattle.lb_chain.specs.Walk.{ending_of, tested_by, walk_of}
+use Rattle.lb_chain.specs.Walk.{ending_of, tested_by, tests_of, walk_of}
 
-tested_seen : (moment : ℕ) (n : Numbered) (truth : Bool) (ending : Option Verdict) (passes : List Passed) (after : Walked) → tested_by (seen_rule moment n) truth ending passes after ≡ tested_by n truth ending passes after
-tested_seen moment n true None passes after = refl
-tested_seen moment n true (Some verdict) passes after = refl
-tested_seen moment n false ending passes after = refl
+tested_seen : (moment : ℕ) (n : Numbered) (truth : Bool) (ending : Option Verdict) (passes : List Passed) (t : ℕ) (after : Walked) → tested_by (seen_rule moment n) truth ending passes t after ≡ tested_by n truth ending passes t after
+tested_seen moment n true None passes t after = refl
+tested_seen moment n true (Some verdict) passes t after = refl
+tested_seen moment n false ending passes t after = refl
 
 -- a rule of the walk by what it is asked of
 abbrev step : Numbered → QueryView → Kind → Asked → Walked → Walked
-step n view kind asked after = tested_by n (truth_at n.rule.term asked 0) (ending_of n.rule.action view kind) (map (λ at. record { rule = n.id; limiter = at }) (passes_at n.rule.term asked 0)) after
+step n view kind asked after = tested_by n (truth_at n.rule.term asked 0) (ending_of n.rule.action view kind) (map (λ at. record { rule = n.id; limiter = at }) (passes_at n.rule.term asked 0)) (tests_of n view asked.addr) after
 
 filter_all : (p : Pass → Bool) (xs : List Pass) → All (λ x. p x ≡ true) xs → filter p xs ≡ xs
 filter_all p [] all = refl
@@ -86,7 +86,7 @@ module _ (recent_twice : RecentTwice) where
       let own : Asked = asked_of view addr n.limits now in
       let same : seen ≡ own = ap (λ (bs : List Bool). record own { matched = bs }) (matched_seen moment now addr n.limits le) in
       let after : Walked = walk_of (seen_rules moment rules) view addr kind now in
-      tested_seen moment n (truth_at n.rule.term seen 0) (ending_of n.rule.action view kind) (map (λ at. record { rule = n.id; limiter = at }) (passes_at n.rule.term seen 0)) after
+      tested_seen moment n (truth_at n.rule.term seen 0) (ending_of n.rule.action view kind) (map (λ at. record { rule = n.id; limiter = at }) (passes_at n.rule.term seen 0)) (tests_of n view addr) after
       ∙ ap (λ (asked : Asked). step n view kind asked after) same ∙ ap (λ (w : Walked). step n view kind own w) (walks moment now rules view addr kind le)
 
   -- a limiter is seen with the pass that it counts now

@@ -1,21 +1,21 @@
 -- The sets that a term is itself, by its shape.
-use Rattle.std.proofs.Common.{◌≡◌, [], ℕ, List, refl, sym, ap, ◌∙◌}
+use Rattle.std.proofs.Common.{◌≡◌, false, [], ℕ, List, refl, sym, ap, ◌∙◌}
 use Rattle.lb_masks.specs.Mask.{Prefix}
 use Rattle.lb_terms.specs.declared.term.Term.{Term}
 use Rattle.lb_terms.specs.declared.term.Term.TheOpen.{Term-F}
 use Rattle.lb_terms.specs.declared.term.Term.TheFolds.{fold-roll-Term, fold_out-Term, map-Term}
 use Rattle.lb_terms.specs.declared.term.Term.TheVariants.{All, Suffix, Masks, Qtype, And', Or', Not', MaxQps, outs-And', outs-Or', outs-Not', rolls-All, rolls-Suffix, rolls-Masks, rolls-Qtype, rolls-MaxQps}
 use Rattle.lb_terms.specs.Selector.{Selector, selector_of, selector_step}
-use Rattle.lb_chain.specs.Offers.{loose, Sets}
+use Rattle.lb_chain.specs.FirstAsked.{loose, Sets}
 use Rattle.lb_chain.specs.Filing.{own_sets}
 
 abbrev pub own_at : Term → Sets
 own_at t = own_sets (selector_of t)
 
-pub own_names : (names : List (List (List ℕ))) → own_at (Suffix names) ≡ record { names = names; masks = [] }
+pub own_names : (names : List (List (List ℕ))) → own_at (Suffix names) ≡ record { names = names; masks = []; is_loose = false }
 own_names names = ap own_at (sym (rolls-Suffix names)) ∙ ap own_sets (fold-roll-Term Selector selector_step (Term-F.Suffix names))
 
-pub own_masks : (group : List Prefix) → own_at (Masks group) ≡ record { names = []; masks = group }
+pub own_masks : (group : List Prefix) → own_at (Masks group) ≡ record { names = []; masks = group; is_loose = false }
 own_masks group = ap own_at (sym (rolls-Masks group)) ∙ ap own_sets (fold-roll-Term Selector selector_step (Term-F.Masks group))
 
 pub own_loose : (t : Term) → ((names : List (List (List ℕ))) → t ≡ Suffix names → ⊥) → ((group : List Prefix) → t ≡ Masks group → ⊥) → own_at t ≡ loose

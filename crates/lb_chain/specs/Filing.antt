@@ -1,17 +1,17 @@
 -- Ranks filed and taken out, and ranks that are free.
-use Rattle.std.specs.Prelude.{◌⊎◌, ◌↔◌, ◌≡◌, ℕ, ◌+◌, ◌*◌, ◌<◌, ◌≤◌, List, [], Contains, length, slice_index}
+use Rattle.std.specs.Prelude.{◌⊎◌, ◌↔◌, ◌≡◌, ℕ, ◌+◌, ◌*◌, ◌<◌, ◌≤◌, false, List, [], Contains, length, slice_index}
 use Rattle.lb_wire.specs.declared.addr.Addr.{Addr}
 use Rattle.lb_wire.specs.declared.query.QueryView.{QueryView}
 use Rattle.lb_suffix.specs.Index.{Pair as NamePair, IsFiledOver}
-use Rattle.lb_mask_index.specs.Index.{Pair as MaskPair, IsFiledCovering}
+use Rattle.lb_masks.specs.Index.{Pair as MaskPair, IsFiledCovering}
 use Rattle.lb_terms.specs.Selector.{Selector, All, Suffix, Masks, Qtype, And, Or, Not, MaxQps}
-use Rattle.lb_chain.specs.Offers.{IsOneOf, loose, Sets}
+use Rattle.lb_chain.specs.FirstAsked.{IsOneOf, loose, Sets}
 
 -- the set that a selector is itself
 abbrev pub own_sets : Selector → Sets
 own_sets All = loose
-own_sets (Suffix names) = record { names = names; masks = [] }
-own_sets (Masks group) = record { names = []; masks = group }
+own_sets (Suffix names) = record { names = names; masks = []; is_loose = false }
+own_sets (Masks group) = record { names = []; masks = group; is_loose = false }
 own_sets (Qtype qtype) = loose
 own_sets (And members) = loose
 own_sets (Or members) = loose

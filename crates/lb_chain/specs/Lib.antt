@@ -1,4 +1,4 @@
--- shared by several files: Seen
+-- shared by several files: Seen, FirstAsked, Ahead
 pub use Rattle.lb_limits.specs.Window
 pub use Rattle.lb_terms.specs.Truth
 pub use Rattle.lb_terms.specs.Limiters
@@ -12,5 +12,7 @@ pub mod Listed
 pub mod Chain
 pub mod Places
 pub mod Addrs
+pub mod FirstAsked
 pub mod Offers
 pub mod Filing
+pub mod Ahead

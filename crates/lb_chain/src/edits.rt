@@ -22,14 +22,14 @@ pub(crate) fn place_of(rules: &[Numbered], id: RuleId) -> Option<usize>
     rules.iter().position(|n| n.id.0 == id.0)
 }
 
-/// Puts a rule with this number at a place, with limiters that have counted nothing, and offers it. Where memory is wanting
-/// the rules stay as they were, and so does what is offered.
+/// Puts a rule with this number at a place, with limiters that have counted nothing and with indexes for the sets within its
+/// term, and offers it. Where memory is wanting the rules stay as they were, and so does what is offered.
 pub(crate) fn insert_rule(
     rules: &mut Vec<Numbered>,
     offers: &mut Offers,
     place: usize,
     id: u64,
-    rule: Rule,
+    mut rule: Rule,
 ) -> Result<(), AllocError>
     requires offers { AreOffers offers.old (terms_of rules.old.items) }
     requires place { place ≤ vec_len rules.old }
@@ -40,6 +40,7 @@ pub(crate) fn insert_rule(
     ensures err { OnErr result (rules.new.items ≡ rules.old.items) }
     ensures offers { AreOffers offers.new (terms_of rules.new.items) }
 {
+    rule.term.index_sets()?;
     let items = new_limiters(*rules.allocator(), &rule.term)?;
     rules.reserve(1)?;
     offers.insert(rules.as_slice(), place, &rule.term)?;

@@ -1,12 +1,12 @@
 //! Ranks filed by what selectors ask first.
 
-ghost use Rattle.std.specs.Prelude.{◌≡◌, [], ◌∷◌, OnErr, OnOk};
+ghost use Rattle.std.specs.Prelude.{◌≡◌, OnErr, OnOk};
 ghost use Rattle.lb_terms.specs.Selector.{selector_of};
-ghost use Rattle.lb_chain.specs.Offers.{at_masks, at_names, first_sets, mask_pairs, name_pairs};
+ghost use Rattle.lb_chain.specs.FirstAsked.{at_masks, at_names, first_sets, loose_ranks, mask_pairs, name_pairs};
 ghost use Rattle.lb_chain.specs.Filing.{AreTakenBack, AreWith, AreWithout, own_sets};
 
-use lb_mask_index::MaskIndex;
-use lb_masks::Mask;
+use crate::loose::Loose;
+use lb_masks::{Mask, MaskIndex};
 use lb_name::Name;
 use lb_suffix::SuffixIndex;
 use lb_terms::{CheckedTerm, Term};
@@ -71,49 +71,44 @@ fn file_masks(masks: &mut MaskIndex, set: &[Mask], rank: u64) -> Result<(), Allo
     Ok(())
 }
 
-/// Takes a rank from the root.
-fn unfile_loose(names: &mut SuffixIndex, rank: u64)
-    ensures { AreWithout names.old (at_names ([] ∷ []) rank) names.new }
-{
-    names.unfile_root(rank);
-}
-
-/// Files a rank under the root. The one error is want of memory.
-fn file_loose(names: &mut SuffixIndex, rank: u64) -> Result<(), AllocError>
-    ensures ok { OnOk result (AreWith names.old (at_names ([] ∷ []) rank) names.new) }
-    ensures err { OnErr result (AreTakenBack names.old (at_names ([] ∷ []) rank) names.new) }
-{
-    names.file_root(rank)
-}
-
-/// Takes the rank of a selector from all that it asks first.
-pub(crate) fn unfile(names: &mut SuffixIndex, masks: &mut MaskIndex, term: &CheckedTerm, rank: u64)
+/// Takes the rank of a selector from all that it asks first, or from the loose ones.
+pub(crate) fn unfile(
+    names: &mut SuffixIndex,
+    masks: &mut MaskIndex,
+    loose: &mut Loose,
+    term: &CheckedTerm,
+    rank: u64,
+)
     ensures names { AreWithout names.old (name_pairs term.now rank) names.new }
     ensures masks { AreWithout masks.old (mask_pairs term.now rank) masks.new }
+    ensures loose { AreWithout loose.old (loose_ranks term.now rank) loose.new }
 {
     match first_asked(term.as_term()) {
         Term::Suffix(set) => unfile_names(names, set.as_slice(), rank),
         Term::Masks(group) => unfile_masks(masks, group.as_slice(), rank),
-        _ => unfile_loose(names, rank),
+        _ => loose.unfile(rank),
     }
 }
 
-/// Files the rank of a selector under all that it asks first. The one error is want of memory; it is filed under none of
-/// that then.
+/// Files the rank of a selector under all that it asks first, or among the loose ones. The one error is want of memory; it is
+/// filed nowhere then.
 pub(crate) fn file(
     names: &mut SuffixIndex,
     masks: &mut MaskIndex,
+    loose: &mut Loose,
     term: &CheckedTerm,
     rank: u64,
 ) -> Result<(), AllocError>
     ensures names { OnOk result (AreWith names.old (name_pairs term.now rank) names.new) }
     ensures masks { OnOk result (AreWith masks.old (mask_pairs term.now rank) masks.new) }
+    ensures loose { OnOk result (AreWith loose.old (loose_ranks term.now rank) loose.new) }
     ensures no_names { OnErr result (AreTakenBack names.old (name_pairs term.now rank) names.new) }
     ensures no_masks { OnErr result (AreTakenBack masks.old (mask_pairs term.now rank) masks.new) }
+    ensures no_loose { OnErr result (AreTakenBack loose.old (loose_ranks term.now rank) loose.new) }
 {
     match first_asked(term.as_term()) {
         Term::Suffix(set) => file_names(names, set.as_slice(), rank),
         Term::Masks(group) => file_masks(masks, group.as_slice(), rank),
-        _ => file_loose(names, rank),
+        _ => loose.file(rank),
     }
 }

@@ -12,6 +12,7 @@ mod filing;
 mod laws;
 mod limiters;
 mod listed;
+mod loose;
 mod numbered;
 mod offers;
 mod places;

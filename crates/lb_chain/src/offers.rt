@@ -1,15 +1,20 @@
 //! Which rules may hold of a query, by what they ask first.
 
-ghost use Rattle.std.specs.Prelude.{◌≡◌, ◌≤◌, ◌<◌, ◌^◌, ◌-◌, ℕ, [], List, IfNone, IfOk, IfSome, Some, OnErr, OnOk, length, slice_get, slice_index, vec_len};
+ghost use Rattle.std.specs.Prelude.{◌≡◌, ◌≤◌, ◌<◌, ◌^◌, ◌-◌, ◌+◌, ◌&&◌, not, ℕ, [], List, IfNone, IfOk, IfSome, Some, OnErr, OnOk, length, slice_get, slice_index, vec_len};
 ghost use Rattle.std.specs.List.{insert, remove};
 ghost use Rattle.lb_ranks.specs.Least.{IsLeastFrom};
 ghost use Rattle.lb_terms.specs.Selector.{Selector};
-ghost use Rattle.lb_chain.specs.Offers.{AreOffers, AreRising, IsNextOffered, terms_of};
+ghost use Rattle.lb_chain.specs.FirstAsked.{AreRising};
+ghost use Rattle.lb_chain.specs.Offers.{AreOffers, IsNextOffered, terms_of};
 ghost use Rattle.lb_chain.specs.Filing.{AreEven, IsFree, IsFiledFor};
+ghost use Rattle.lb_chain.specs.Ahead.{IsAhead, IsLeastBehind, IsOffered, is_rank, without_first};
+ghost use Rattle.lb_wire.specs.declared.addr.Addr.{Addr as AddrValue};
+ghost use Rattle.lb_wire.specs.declared.query.QueryView.{QueryView as ViewValue};
 
 use crate::filing::{file, unfile};
+use crate::loose::Loose;
 use crate::numbered::Numbered;
-use lb_mask_index::MaskIndex;
+use lb_masks::MaskIndex;
 use lb_ranks::lesser;
 use lb_suffix::SuffixIndex;
 use lb_terms::{CheckedTerm, mask_test_decides, suffix_test_decides};
@@ -27,18 +32,44 @@ const GAP: u64 = 1 << 50;
 pub(crate) struct Offers {
     /// The rank of each rule, rising; what finds rules finds ranks.
     ranks: Vec<u64>,
-    /// The ranks of rules that ask for a set of names first, under each of these; and under the root those of rules that
-    /// ask for no set first.
+    /// The ranks of rules that ask for a set of names first, under each of these.
     names: SuffixIndex,
     /// The ranks of rules that ask for a group of masks first, under each of these.
     masks: MaskIndex,
+    /// The ranks of rules that ask for no set first.
+    loose: Loose,
+}
+
+/// How far a walk has come over the rules, and what is next to it.
+#[derive(Debug, Drop)]
+pub(crate) struct Ahead<'a> {
+    /// No place before this one is to come.
+    at: usize,
+    /// The loose ranks that are to come.
+    loose: &'a [u64],
+    /// Whether the indexes were asked which rank comes next.
+    looked: bool,
+    /// The next rank that they find, where they were.
+    indexed: Option<u64>,
 }
 
 /// The place of a rank.
 fn place_of_rank(ranks: &[u64], rank: u64) -> usize
-    ensures { AreRising ranks.now → (k : ℕ) → k < length ranks.now → slice_index ranks.now k ≡ rank → result ≡ k }
+    ensures within { result ≤ length ranks.now }
+    ensures place { AreRising ranks.now → (k : ℕ) → k < length ranks.now → slice_index ranks.now k ≡ rank → result ≡ k }
 {
     ranks.partition_point(|r| *r < rank)
+}
+
+/// The place of a rank, which most often is this one.
+fn place_from(ranks: &[u64], at: usize, rank: u64) -> usize
+    ensures within { result ≤ length ranks.now }
+    ensures place { AreRising ranks.now → (k : ℕ) → k < length ranks.now → slice_index ranks.now k ≡ rank → result ≡ k }
+{
+    match ranks.get(at) {
+        Some(here) if *here == rank => at,
+        _ => place_of_rank(ranks, rank),
+    }
 }
 
 /// A rank between those before a place and those from it on, where there is one: the middle, but behind the last and
@@ -66,7 +97,7 @@ fn free_rank(ranks: &[u64], place: usize) -> Option<u64>
 }
 
 /// The least rank at or after a rank that is filed over the name or under a mask that covers the address.
-fn next_rank(
+fn find_rank(
     names: &SuffixIndex,
     masks: &MaskIndex,
     view: &QueryView,
@@ -87,6 +118,7 @@ impl Offers {
             ranks: Vec::new(alloc),
             names: SuffixIndex::new(alloc),
             masks: MaskIndex::new(alloc),
+            loose: Loose::new(alloc),
         }
     }
 
@@ -99,7 +131,13 @@ impl Offers {
         ensures err { OnErr result ((terms : List Selector) → AreOffers self.old terms → AreOffers self.new terms) }
     {
         self.ranks.reserve(1)?;
-        file(&mut self.names, &mut self.masks, term, rank)?;
+        file(
+            &mut self.names,
+            &mut self.masks,
+            &mut self.loose,
+            term,
+            rank,
+        )?;
         self.ranks.insert(place, rank).unwrap();
         Ok(())
     }
@@ -156,18 +194,112 @@ impl Offers {
         ensures { (terms : List Selector) → AreOffers self.old terms → slice_get terms place ≡ Some term.now → AreOffers self.new (remove terms place) }
     {
         let rank = self.ranks.remove(place);
-        unfile(&mut self.names, &mut self.masks, term, rank);
+        unfile(
+            &mut self.names,
+            &mut self.masks,
+            &mut self.loose,
+            term,
+            rank,
+        );
     }
 
-    /// The first place from one on whose selector may hold of a query from this address. It takes no memory.
-    pub(crate) fn next(&self, at: usize, view: &QueryView, addr: &Addr) -> Option<usize>
-        ensures { (terms : List Selector) → AreOffers self.now terms → IsNextOffered terms view.now addr.now at result }
+    /// A walk from the first place on. It takes no memory.
+    pub(crate) fn ahead(&self) -> Ahead<'_>
+        ensures start { result.at ≡ 0 }
+        ensures ahead { (view : ViewValue) (addr : AddrValue) → IsAhead self.now view addr result }
+    {
+        Ahead {
+            at: 0,
+            loose: self.loose.as_slice(),
+            looked: false,
+            indexed: None,
+        }
+    }
+
+    /// The next rank that an index finds from the place of the walk on, whose rank is this; they are asked but once.
+    fn indexed_rank(
+        &self,
+        ahead: &mut Ahead<'_>,
+        here: u64,
+        view: &QueryView,
+        addr: &Addr,
+    ) -> Option<u64>
+        requires at { ahead.old.at < length self.now.ranks.items }
+        requires here { slice_index self.now.ranks.items ahead.old.at ≡ here }
+        ensures found { (terms : List Selector) → AreOffers self.now terms → IsAhead self.now view.now addr.now ahead.old → IsLeastBehind (IsFiledFor self.now.names self.now.masks view.now addr.now) self.now.ranks.items ahead.old.at result }
+        ensures ahead { (terms : List Selector) → AreOffers self.now terms → IsAhead self.now view.now addr.now ahead.old → IsAhead self.now view.now addr.now ahead.new }
+        ensures at { ahead.new.at ≡ ahead.old.at }
     {
         // Two laws, which do nothing.
         suffix_test_decides();
         mask_test_decides();
-        let from = *self.ranks.as_slice().get(at)?;
-        let rank = next_rank(&self.names, &self.masks, view, addr, from)?;
-        Some(place_of_rank(self.ranks.as_slice(), rank))
+        if !ahead.looked {
+            ahead.indexed = find_rank(&self.names, &self.masks, view, addr, here);
+            ahead.looked = true;
+        }
+        ahead.indexed
+    }
+
+    /// The next rank of a walk: that of its place where this is loose, and else the lesser of the next loose one and of the next one
+    /// that an index finds.
+    fn next_rank(
+        &self,
+        ahead: &mut Ahead<'_>,
+        here: u64,
+        view: &QueryView,
+        addr: &Addr,
+    ) -> Option<u64>
+        requires at { ahead.old.at < length self.now.ranks.items }
+        requires here { slice_index self.now.ranks.items ahead.old.at ≡ here }
+        ensures found { (terms : List Selector) → AreOffers self.now terms → IsAhead self.now view.now addr.now ahead.old → IsLeastBehind (IsOffered self.now.names self.now.masks self.now.loose view.now addr.now) self.now.ranks.items ahead.old.at result }
+        ensures ahead { (terms : List Selector) → AreOffers self.now terms → IsAhead self.now view.now addr.now ahead.old → IsAhead self.now view.now addr.now ahead.new }
+        ensures at { ahead.new.at ≡ ahead.old.at }
+    {
+        // Two laws, which do nothing.
+        suffix_test_decides();
+        mask_test_decides();
+        let loose = ahead.loose.first().copied();
+        if loose == Some(here) {
+            return loose;
+        }
+        lesser(loose, self.indexed_rank(ahead, here, view, addr))
+    }
+
+    /// The next place of a walk whose selector may hold of a query from this address; the walk goes on behind it. It takes no
+    /// memory.
+    pub(crate) fn next(&self, ahead: &mut Ahead<'_>, view: &QueryView, addr: &Addr) -> Option<usize>
+        ensures next { (terms : List Selector) → AreOffers self.now terms → IsAhead self.now view.now addr.now ahead.old → IsNextOffered terms view.now addr.now ahead.old.at result }
+        ensures ahead { (terms : List Selector) → AreOffers self.now terms → IsAhead self.now view.now addr.now ahead.old → IfSome result (λ _. IsAhead self.now view.now addr.now ahead.new) }
+        ensures at { IfSome result (λ place. ahead.new.at ≡ place + 1) }
+    {
+        // Two laws, which do nothing.
+        suffix_test_decides();
+        mask_test_decides();
+        let here = *self.ranks.as_slice().get(ahead.at)?;
+        let rank = self.next_rank(ahead, here, view, addr)?;
+        let place = place_from(self.ranks.as_slice(), ahead.at, rank);
+        ahead.pass(rank, place);
+        Some(place)
+    }
+}
+
+impl Ahead<'_> {
+    /// Passes a rank, which stands at this place.
+    fn pass(&mut self, rank: u64, place: usize)
+        requires { place < 2 ^ 64 - 1 }
+        ensures at { self.new.at ≡ place + 1 }
+        ensures left { self.new.loose.now ≡ without_first rank self.old.loose.now }
+        ensures looked { self.new.looked ≡ (self.old.looked && not (is_rank rank self.old.indexed)) }
+        ensures indexed { self.new.indexed ≡ self.old.indexed }
+    {
+        if let Some((first, rest)) = self.loose.split_first() {
+            if *first == rank {
+                self.loose = rest;
+            }
+        }
+        if self.indexed == Some(rank) {
+            self.looked = false;
+        }
+        self.at = place + 1;
     }
 }

@@ -1,19 +1,22 @@
 //! The walk of a query through the rules.
 
-ghost use Rattle.std.specs.Prelude.{◌≡◌, ◌≤◌, ◌+◌, ◌++◌, length, map};
+ghost use Rattle.std.specs.Prelude.{◌≡◌, ◌≤◌, ◌+◌, ◌++◌, IsTrue, length, map, true};
+ghost use Rattle.lb_wire.specs.declared.addr.Addr.{Addr as AddrValue};
+ghost use Rattle.lb_wire.specs.declared.query.QueryView.{QueryView as ViewValue};
 ghost use Rattle.std.specs.List.{All, list_any};
 ghost use Rattle.lb_wire.specs.Answer.{fits_type as fits_type_of};
 ghost use Rattle.lb_terms.specs.Truth.{limiters_of};
 ghost use Rattle.lb_chain.specs.Edits.{limiters_in};
+ghost use Rattle.lb_chain.specs.FirstAsked.{may_hold};
 ghost use Rattle.lb_chain.specs.Offers.{AreOffers, terms_of};
-ghost use Rattle.lb_chain.specs.Walk.{answers as answers_of, ending_of as ending_of_action, is_no_recurse as is_no_recurse_of, is_skip_cache as is_skip_cache_of, passes_of, truth_of, walk_of};
+ghost use Rattle.lb_chain.specs.Walk.{answers as answers_of, ending_of as ending_of_action, is_no_recurse as is_no_recurse_of, is_skip_cache as is_skip_cache_of, passes_of, truth_of, walk_of, IsHeld};
 
 use crate::action::Action;
 use crate::numbered::Numbered;
 use crate::offers::Offers;
 use crate::walked::{Passed, PassedList, Verdict, Walked};
 use arrayvec::ArrayVec;
-use lb_terms::holds;
+use lb_terms::{CheckedTerm, Term, holds};
 use lb_wire::{Addr, Class, Kind, QueryView, RecordType, RuleId, fits_type};
 
 /// Whether one of the addresses answers a question of this type.
@@ -87,14 +90,29 @@ fn add_passes(passes: &mut PassedList, rule: RuleId, limiters: &[u8])
     }
 }
 
-/// Whether a rule holds of a query. Those of its limiters that count the query go behind the passes.
+/// Whether the term is a set alone, so that it holds where it may hold.
+fn is_set(term: &CheckedTerm) -> bool
+    ensures { (view : ViewValue) (addr : AddrValue) → IsTrue result → may_hold term.now view addr ≡ true → IsHeld term.now view addr }
+{
+    match term.as_term() {
+        Term::Suffix(_) | Term::Masks(_) => true,
+        _ => false,
+    }
+}
+
+/// Whether a rule holds of a query, where it may hold by what it asks first. Those of its limiters that count the query go
+/// behind the passes.
 fn test_rule(n: &Numbered, view: &QueryView, addr: &Addr, now: u64, passes: &mut PassedList) -> bool
+    requires may { may_hold n.now.rule.term view.now addr.now ≡ true }
     requires limiters { length n.now.limits ≡ limiters_of n.now.rule.term }
     requires moments { All (λ l. l.moment ≤ now) n.now.limits }
     requires room { length passes.old + length n.now.limits ≤ 16 }
     ensures truth { result ≡ truth_of n.now view.now addr.now now }
     ensures passes { passes.new ≡ passes.old ++ passes_of n.now view.now addr.now now }
 {
+    if is_set(&n.rule.term) {
+        return true;
+    }
     let tested = holds(&n.rule.term, view, addr, n.limits.as_slice(), now);
     add_passes(passes, n.id, tested.passes.as_slice());
     tested.truth
@@ -120,9 +138,11 @@ pub(crate) fn walk_rules(
     let mut passes = PassedList {
         items: ArrayVec::new(),
     };
-    let mut at = 0;
-    'rules: while let Some(place) = offers.next(at, view, addr) {
+    let mut tests = 0;
+    let mut ahead = offers.ahead();
+    'rules: while let Some(place) = offers.next(&mut ahead, view, addr) {
         let n = &rules[place];
+        tests += 1;
         if test_rule(n, view, addr, now, &mut passes) {
             match ending_of(&n.rule.action, view, kind) {
                 Some(verdict) => {
@@ -132,6 +152,7 @@ pub(crate) fn walk_rules(
                         no_recurse,
                         skip_cache,
                         passes,
+                        tests,
                     };
                 }
                 None => {
@@ -140,7 +161,6 @@ pub(crate) fn walk_rules(
                 }
             }
         }
-        at = place + 1;
     }
     Walked {
         rule: None,
@@ -148,5 +168,6 @@ pub(crate) fn walk_rules(
         no_recurse,
         skip_cache,
         passes,
+        tests,
     }
 }

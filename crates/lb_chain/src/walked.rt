@@ -83,4 +83,7 @@ pub struct Walked {
     pub skip_cache: bool,
     /// The limiters that were tested and did not match.
     pub passes: PassedList,
+    /// How many rules were tested, up to the one that ended it or, where none did, of all: those that ask for no set of names or
+    /// of masks first, and those whose first set has the query's name or address. No other can hold.
+    pub tests: usize,
 }

@@ -5,3 +5,11 @@ pub mod Digits
 pub mod Cuts
 pub mod Joins
 pub mod Gaps
+pub mod Least
+pub mod Covered
+pub mod Pairs
+pub mod InUse
+pub mod Looks
+pub mod Spans
+pub mod Shown
+pub mod Groups

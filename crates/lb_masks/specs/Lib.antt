@@ -5,3 +5,7 @@ pub mod Fault
 pub mod Number
 pub mod Form
 pub mod Text
+pub mod Key
+pub mod Index
+pub mod Kinds
+pub mod Group

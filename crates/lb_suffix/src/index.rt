@@ -60,25 +60,6 @@ impl SuffixIndex {
         self.ranks.unfile(key.as_slice(), rank);
     }
 
-    /// Files a rank under the root, and so over each name. The one error is want of memory; it leaves the index as it was.
-    pub fn file_root(&mut self, rank: u64) -> Result<(), AllocError>
-        ensures ok { OnOk result (IsFiledWith self.old (pair_of [] rank) self.new) }
-        ensures err { OnErr result (self.new ≡ self.old) }
-    {
-        // A law, which does nothing.
-        splits_back();
-        self.ranks.file(&[], rank)
-    }
-
-    /// Takes a rank from the root, where it is filed there. It takes no memory.
-    pub fn unfile_root(&mut self, rank: u64)
-        ensures { IsFiledWithout self.old (pair_of [] rank) self.new }
-    {
-        // A law, which does nothing.
-        splits_back();
-        self.ranks.unfile(&[], rank);
-    }
-
     /// The least rank at or after a rank that is filed at the name or above it. It takes no memory.
     pub fn next(&self, name: &Name, from: u64) -> Option<u64>
         ensures { IsLeastFrom (IsFiledOver self.now name.now) from result }

@@ -10,3 +10,4 @@ pub mod Sets
 pub mod Check
 pub mod Truth
 pub mod Limiters
+pub mod Names

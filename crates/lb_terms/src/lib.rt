@@ -5,6 +5,7 @@ mod check;
 mod copy;
 mod equality;
 mod fault;
+mod index;
 mod laws;
 mod limiters;
 mod names;

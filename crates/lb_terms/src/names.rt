@@ -1,25 +1,36 @@
 //! Sets of names.
 
-ghost use Rattle.std.specs.Prelude.{◌≡◌, IfOk, IsTrue, length};
+ghost use Rattle.std.specs.Prelude.{◌≡◌, ◌↔◌, ℕ, IfOk, IsTrue, length};
+ghost use Rattle.lb_suffix.specs.Index.{IsFiledOver};
+ghost use Rattle.lb_terms.specs.Names.{IsIndexOf};
 ghost use Rattle.lb_terms.specs.Sets.{is_under, in_suffixes};
 
 use lb_name::Name;
+use lb_suffix::SuffixIndex;
 use std::alloc::{AllocError, Global};
 use std::marker::Model;
+
+/// The most names of a set that has no index: so few are tested faster one by one.
+const FEW: usize = 64;
 
 /// A list of names: a query is under it where its name is one of them or stands below one. A contract sees it as the
 /// list of names.
 #[derive(Debug, Drop)]
 pub struct Names {
     items: Vec<Name>,
+    // Each of the names under rank 0, where they are found by it.
+    index: Option<SuffixIndex>,
 }
 
 impl Model for Names {
-    ghost use Rattle.std.specs.Prelude.{List, ℕ};
+    ghost use Rattle.std.specs.Prelude.{List, ℕ, IfSome};
+    ghost use Rattle.lb_terms.specs.Names.{IsIndexOf};
 
     ghost Value = { List (List (List ℕ)) };
 
     ghost view = { λ n. n.items.items };
+
+    ghost invariant = { λ n. IfSome n.index (IsIndexOf n.items.items) };
 }
 
 /// Whether the first name is the second or stands below it.
@@ -48,12 +59,30 @@ fn are_equal(names: &[Name], others: &[Name]) -> bool
             .all(|(name, other)| name.equals(other))
 }
 
+/// An index of the names.
+fn index_of(alloc: Global, names: &[Name]) -> Result<SuffixIndex, AllocError>
+    ensures { IfOk result (λ index. IsIndexOf names.now index) }
+{
+    let mut index = SuffixIndex::new(alloc);
+    for name in names {
+        index.file(name, 0)?;
+    }
+    Ok(index)
+}
+
+/// Whether a rank is filed at the name or above it.
+fn is_found(index: &SuffixIndex, name: &Name) -> bool
+    ensures { IsTrue result ↔ ((rank : ℕ) × IsFiledOver index.now name.now rank) }
+{
+    index.next(name, 0).is_some()
+}
+
 impl Names {
     /// These names, with no copy.
     pub fn from_vec(items: Vec<Name>) -> Names
         ensures { result ≡ items.items }
     {
-        Names { items }
+        Names { items, index: None }
     }
 
     /// How many names there are.
@@ -74,10 +103,24 @@ impl Names {
     pub fn covers(&self, name: &Name) -> bool
         ensures { result ≡ in_suffixes self.now name.now }
     {
-        any_over(self.items.as_slice(), name)
+        match &self.index {
+            Some(index) => is_found(index, name),
+            None => any_over(self.items.as_slice(), name),
+        }
     }
 
-    /// An equal list. The one error is want of memory.
+    /// Has the names found by an index from now on, where they are more than 64. Nothing that is seen changes. The one error
+    /// is want of memory.
+    pub fn index(&mut self) -> Result<(), AllocError>
+        ensures { self.new ≡ self.old }
+    {
+        if self.items.len() > FEW && self.index.is_none() {
+            self.index = Some(index_of(*self.items.allocator(), self.items.as_slice())?);
+        }
+        Ok(())
+    }
+
+    /// An equal list, with no index. The one error is want of memory.
     pub fn copy(&self, alloc: Global) -> Result<Names, AllocError>
         ensures { IfOk result (λ copy. copy ≡ self.now) }
     {
@@ -85,7 +128,7 @@ impl Names {
         for name in self.items.iter() {
             items.push(name.copy())?;
         }
-        Ok(Names { items })
+        Ok(Names { items, index: None })
     }
 
     /// Whether two lists are equal: the same names in the same order.

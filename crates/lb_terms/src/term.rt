@@ -8,6 +8,7 @@ use crate::check::{has_members, has_rates, has_small_sets, is_within, nodes_left
 use crate::copy::copied;
 use crate::equality::is_equal;
 use crate::fault::TermFault;
+use crate::index::index_sets;
 use crate::names::Names;
 use lb_masks::Group;
 use lb_wire::RecordType;
@@ -103,6 +104,18 @@ impl CheckedTerm {
         Ok(CheckedTerm {
             term: copied(alloc, &self.term)?,
         })
+    }
+
+    /// Has each set of names or masks in the term found by an index from now on, where that is faster than a walk: more than 64
+    /// names, or more than 16 masks for each length that they have. A term that is one set is left as it is: a rule of it is
+    /// found by its set, and not tested for it. Nothing that is seen changes. The one error is want of memory.
+    pub fn index_sets(&mut self) -> Result<(), AllocError>
+        ensures { self.new ≡ self.old }
+    {
+        match &self.term {
+            Term::Suffix(_) | Term::Masks(_) => Ok(()),
+            _ => index_sets(&mut self.term),
+        }
     }
 
     /// Whether two terms are equal: the same members in the same order.

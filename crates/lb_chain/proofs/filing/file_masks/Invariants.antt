@@ -1,6 +1,6 @@
 use Rattle.std.proofs.Common.{List, drop}
-use Rattle.lb_mask_index.specs.Index.{Pair}
-use Rattle.lb_chain.specs.Offers.{at_masks}
+use Rattle.lb_masks.specs.Index.{Pair}
+use Rattle.lb_chain.specs.FirstAsked.{at_masks}
 use Rattle.lb_chain.specs.Filing.{AreWith}
 use Rattle.lb_chain.proofs.Filed.{AreMore}
 use Rattle.lb_chain.proofs.filing.file_masks.Given as goal

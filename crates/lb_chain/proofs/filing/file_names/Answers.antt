@@ -1,6 +1,6 @@
 use Rattle.std.proofs.Common.{List, arith}
 use Rattle.lb_suffix.specs.Index.{Pair, pair_of}
-use Rattle.lb_chain.specs.Offers.{at_names}
+use Rattle.lb_chain.specs.FirstAsked.{at_names}
 use Rattle.lb_chain.specs.Filing.{AreWith}
 use Rattle.lb_chain.proofs.Filed.{more_next, more_none, taken_back, with_end, with_next}
 use Rattle.lb_chain.proofs.filing.file_names.Goals as goal

@@ -1,6 +1,6 @@
 use Rattle.std.proofs.Common.{List, drop}
 use Rattle.lb_suffix.specs.Index.{Pair}
-use Rattle.lb_chain.specs.Offers.{at_names}
+use Rattle.lb_chain.specs.FirstAsked.{at_names}
 use Rattle.lb_chain.specs.Filing.{AreWith}
 use Rattle.lb_chain.proofs.Filed.{AreMore}
 use Rattle.lb_chain.proofs.filing.file_names.Given as goal

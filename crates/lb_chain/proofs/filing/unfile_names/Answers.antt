@@ -1,6 +1,6 @@
 use Rattle.std.proofs.Common.{List, arith}
 use Rattle.lb_suffix.specs.Index.{Pair, pair_of}
-use Rattle.lb_chain.specs.Offers.{at_names}
+use Rattle.lb_chain.specs.FirstAsked.{at_names}
 use Rattle.lb_chain.specs.Filing.{AreWithout}
 use Rattle.lb_chain.proofs.Filed.{without_end, without_next}
 use Rattle.lb_chain.proofs.filing.unfile_names.Goals as goal

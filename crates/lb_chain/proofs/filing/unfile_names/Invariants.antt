@@ -1,6 +1,6 @@
 use Rattle.std.proofs.Common.{List, drop}
 use Rattle.lb_suffix.specs.Index.{Pair}
-use Rattle.lb_chain.specs.Offers.{at_names}
+use Rattle.lb_chain.specs.FirstAsked.{at_names}
 use Rattle.lb_chain.specs.Filing.{AreWithout}
 use Rattle.lb_chain.proofs.filing.unfile_names.Given as goal
 

@@ -1,55 +1,95 @@
-use Rattle.std.proofs.Common.{◌<◌, ◌≤◌, ◌+◌, ◌||◌, Bool, length, drop, sym, refl, ap, ◌∙◌, arith}
+use Rattle.std.proofs.Common.{◌≡◌, ◌<◌, ◌≤◌, ◌+◌, ◌||◌, Bool, false, ℕ, List, length, drop, sym, refl, ap, subst, ◌∙◌, arith}
+use Rattle.lb_chain.specs.declared.walked.Passed.{Passed}
 use Rattle.lb_chain.specs.Edits.{limiters_in}
 use Rattle.lb_chain.specs.Offers.{terms_of}
-use Rattle.lb_chain.proofs.PassedBy.{fewer, offered_within, walk_to, walk_to_end}
-use Rattle.lb_chain.proofs.Walks.{ends_behind, ends_here, walk_room, next_fails, next_goes_on, room_next}
+use Rattle.lb_chain.specs.Walk.{tests_of, walk_of, with_before}
+use Rattle.lb_chain.proofs.PassedBy.{fewer, offered_may, offered_within, walk_to, walk_to_end}
+use Rattle.lb_chain.proofs.Walks.{ends_behind, ends_here, held_counts, walk_room, next_fails, next_goes_on, room_next, with_none}
 use Rattle.lb_chain.proofs.walk.walk_rules.Goals as goal
-use Rattle.lb_chain.proofs.walk.walk_rules.Goals.{then-test_rule+in-None, else-test_rule}
+
+pub rules-init : goal.rules-init
+rules-init c =
+    let rules = c.args.rules.now in
+    let start = c.ahead-ahead.ensures.start in (
+      omega (arith, start),
+      subst (λ (k : ℕ). length c.new.result.items + limiters_in (drop k rules) ≤ 16) (sym start) (omega (arith, ap length c.new.ensures, c.requires.few)),
+      subst (λ (k : ℕ). with_before false false c.new.result.items 0 (walk_of (drop k rules) c.args.view.now c.args.addr.now c.args.kind c.args.now) ≡ walk_of rules c.args.view.now c.args.addr.now c.args.kind c.args.now) (sym start)
+          (ap (λ (ps : List Passed). with_before false false ps 0 (walk_of rules c.args.view.now c.args.addr.now c.args.kind c.args.now)) c.new.ensures ∙ sym (with_none (walk_of rules c.args.view.now c.args.addr.now c.args.kind c.args.now))),
+      c.ahead-ahead.ensures.ahead c.args.view.now c.args.addr.now,
+      omega arith,
+    )
 
 pub test_rule-requires-clause-room : goal.test_rule-requires-clause-room
 test_rule-requires-clause-room c =
     let rules = c.args.rules.now in
     let place = c.in-Some.place in
-    let next = c.in-Some.ensures (terms_of rules) c.requires.offers in
-    let lt : place < length rules = offered_within rules c.rules.at place c.args.view.now c.args.addr.now next in
-    let left : length c.rules.passes + limiters_in (drop place rules) ≤ 16 = omega (arith, fewer rules c.rules.at place next.0, c.rules.invariant.1) in
+    let next = c.in-Some.ensures.next (terms_of rules) c.requires.offers c.rules.invariant.3 in
+    let lt : place < length rules = offered_within rules c.rules.ahead.at place c.args.view.now c.args.addr.now next in
+    let left : length c.rules.passes + limiters_in (drop place rules) ≤ 16 = omega (arith, fewer rules c.rules.ahead.at place next.0, c.rules.invariant.1) in
     omega (arith, room_next rules place c.index-rules-place.result (length c.rules.passes) lt c.index-rules-place.is left)
 
 pub returns-in-Some-ending_of : goal.returns-in-Some-ending_of
 returns-in-Some-ending_of c =
     let rules = c.args.rules.now in
     let place = c.in-Some.place in
-    let next = c.in-Some.ensures (terms_of rules) c.requires.offers in
-    let lt : place < length rules = offered_within rules c.rules.at place c.args.view.now c.args.addr.now next in
-    ends_here rules place c.index-rules-place.result c.in-Some-ending_of.verdict c.args.view.now c.args.addr.now c.args.kind c.args.now c.rules.no_recurse c.rules.skip_cache c.rules.passes c.test_rule.new.passes _ lt c.index-rules-place.is (sym c.test_rule.ensures.truth ∙ c.if-test_rule.true) (sym c.ending_of.ensures ∙ c.in-Some-ending_of.is) c.test_rule.ensures.passes
-    (walk_to rules c.rules.at place c.args.view.now c.args.addr.now c.args.kind c.args.now c.rules.no_recurse c.rules.skip_cache c.rules.passes _ next c.rules.invariant.2)
+    let n = c.index-rules-place.result in
+    let next = c.in-Some.ensures.next (terms_of rules) c.requires.offers c.rules.invariant.3 in
+    let lt : place < length rules = offered_within rules c.rules.ahead.at place c.args.view.now c.args.addr.now next in
+    let counts = held_counts n c.args.view.now c.args.addr.now (offered_may rules c.rules.ahead.at place c.args.view.now c.args.addr.now n next c.index-rules-place.is) in
+    let more : c.rules.tests + 1 ≡ c.rules.tests + tests_of n c.args.view.now c.args.addr.now = omega (arith, counts) in
+    ends_here rules place n c.in-Some-ending_of.verdict c.args.view.now c.args.addr.now c.args.kind c.args.now c.rules.no_recurse c.rules.skip_cache c.rules.passes c.test_rule.new.passes c.rules.tests (c.rules.tests + 1) _ lt c.index-rules-place.is (sym c.test_rule.ensures.truth ∙ c.if-test_rule.true) (sym c.ending_of.ensures ∙ c.in-Some-ending_of.is) c.test_rule.ensures.passes more
+    (walk_to rules c.rules.ahead.at place c.args.view.now c.args.addr.now c.args.kind c.args.now c.rules.no_recurse c.rules.skip_cache c.rules.passes c.rules.tests _ next c.rules.invariant.2)
+
+pub rules-preserved-in-None : goal.rules-preserved-in-None
+rules-preserved-in-None c =
+    let rules = c.args.rules.now in
+    let place = c.in-Some.place in
+    let n = c.index-rules-place.result in
+    let whole = walk_of rules c.args.view.now c.args.addr.now c.args.kind c.args.now in
+    let next = c.in-Some.ensures.next (terms_of rules) c.requires.offers c.rules.invariant.3 in
+    let at = c.in-Some.ensures.at in
+    let lt : place < length rules = offered_within rules c.rules.ahead.at place c.args.view.now c.args.addr.now next in
+    let counts = held_counts n c.args.view.now c.args.addr.now (offered_may rules c.rules.ahead.at place c.args.view.now c.args.addr.now n next c.index-rules-place.is) in
+    let more : c.rules.tests + 1 ≡ c.rules.tests + tests_of n c.args.view.now c.args.addr.now = omega (arith, counts) in
+    let left : length c.rules.passes + limiters_in (drop place rules) ≤ 16 = omega (arith, fewer rules c.rules.ahead.at place next.0, c.rules.invariant.1) in
+    let room = walk_room rules place n c.args.view.now c.args.addr.now c.args.now c.rules.passes c.test_rule.new.passes c.requires.limiters lt c.index-rules-place.is left c.test_rule.ensures.passes in
+    let here = walk_to rules c.rules.ahead.at place c.args.view.now c.args.addr.now c.args.kind c.args.now c.rules.no_recurse c.rules.skip_cache c.rules.passes c.rules.tests _ next c.rules.invariant.2 in
+    let no_recurse : Bool = c.rules.no_recurse || c.is_no_recurse-no_recurse.result in
+    let skip_cache : Bool = c.rules.skip_cache || c.is_skip_cache-skip_cache.result in (
+      omega (arith, at, lt),
+      subst (λ (k : ℕ). length c.test_rule.new.passes + limiters_in (drop k rules) ≤ 16) (sym at) room,
+      subst (λ (k : ℕ). with_before no_recurse skip_cache c.test_rule.new.passes (c.rules.tests + 1) (walk_of (drop k rules) c.args.view.now c.args.addr.now c.args.kind c.args.now) ≡ whole) (sym at)
+          (next_goes_on rules place n c.args.view.now c.args.addr.now c.args.kind c.args.now c.rules.no_recurse c.rules.skip_cache no_recurse skip_cache c.rules.passes c.test_rule.new.passes c.rules.tests (c.rules.tests + 1) _ lt c.index-rules-place.is (sym c.test_rule.ensures.truth ∙ c.if-test_rule.true) (sym c.ending_of.ensures ∙ c.in-None.is) c.test_rule.ensures.passes more
+          (ap (λ (x : Bool). c.rules.no_recurse || x) c.is_no_recurse-no_recurse.ensures) (ap (λ (x : Bool). c.rules.skip_cache || x) c.is_skip_cache-skip_cache.ensures) here),
+      c.in-Some.ensures.ahead (terms_of rules) c.requires.offers c.rules.invariant.3,
+      omega (arith, at, next.0, c.rules.invariant.4),
+    )
 
 pub rules-preserved : goal.rules-preserved
 rules-preserved c =
     let rules = c.args.rules.now in
     let place = c.in-Some.place in
     let n = c.index-rules-place.result in
-    let next = c.in-Some.ensures (terms_of rules) c.requires.offers in
-    let lt : place < length rules = offered_within rules c.rules.at place c.args.view.now c.args.addr.now next in
-    let left : length c.rules.passes + limiters_in (drop place rules) ≤ 16 = omega (arith, fewer rules c.rules.at place next.0, c.rules.invariant.1) in
+    let whole = walk_of rules c.args.view.now c.args.addr.now c.args.kind c.args.now in
+    let next = c.in-Some.ensures.next (terms_of rules) c.requires.offers c.rules.invariant.3 in
+    let at = c.in-Some.ensures.at in
+    let lt : place < length rules = offered_within rules c.rules.ahead.at place c.args.view.now c.args.addr.now next in
+    let counts = held_counts n c.args.view.now c.args.addr.now (offered_may rules c.rules.ahead.at place c.args.view.now c.args.addr.now n next c.index-rules-place.is) in
+    let more : c.rules.tests + 1 ≡ c.rules.tests + tests_of n c.args.view.now c.args.addr.now = omega (arith, counts) in
+    let left : length c.rules.passes + limiters_in (drop place rules) ≤ 16 = omega (arith, fewer rules c.rules.ahead.at place next.0, c.rules.invariant.1) in
     let room = walk_room rules place n c.args.view.now c.args.addr.now c.args.now c.rules.passes c.test_rule.new.passes c.requires.limiters lt c.index-rules-place.is left c.test_rule.ensures.passes in
-    let here = walk_to rules c.rules.at place c.args.view.now c.args.addr.now c.args.kind c.args.now c.rules.no_recurse c.rules.skip_cache c.rules.passes _ next c.rules.invariant.2 in
-    elim c.if-test_rule.branch [
-      | then-test_rule+in-None w ↦ (
-        omega (arith, lt),
-        room,
-        next_goes_on rules place n c.args.view.now c.args.addr.now c.args.kind c.args.now c.rules.no_recurse c.rules.skip_cache c.if-test_rule.no_recurse c.if-test_rule.skip_cache c.rules.passes c.test_rule.new.passes _ lt c.index-rules-place.is (sym c.test_rule.ensures.truth ∙ w.if-test_rule.true) (sym w.ending_of.ensures ∙ w.in-None.is) c.test_rule.ensures.passes
-            (w.no_recurse-is ∙ ap (λ (x : Bool). c.rules.no_recurse || x) w.is_no_recurse-no_recurse.ensures) (w.skip_cache-is ∙ ap (λ (x : Bool). c.rules.skip_cache || x) w.is_skip_cache-skip_cache.ensures) here,
-      )
-      | else-test_rule w ↦ (
-        omega (arith, lt),
-        room,
-        next_fails rules place n c.args.view.now c.args.addr.now c.args.kind c.args.now c.rules.no_recurse c.rules.skip_cache c.if-test_rule.no_recurse c.if-test_rule.skip_cache c.rules.passes c.test_rule.new.passes _ lt c.index-rules-place.is (sym c.test_rule.ensures.truth ∙ w.if-test_rule.false) c.test_rule.ensures.passes w.no_recurse-is w.skip_cache-is here,
-      )
-    ]
+    let here = walk_to rules c.rules.ahead.at place c.args.view.now c.args.addr.now c.args.kind c.args.now c.rules.no_recurse c.rules.skip_cache c.rules.passes c.rules.tests _ next c.rules.invariant.2 in (
+      omega (arith, at, lt),
+      subst (λ (k : ℕ). length c.test_rule.new.passes + limiters_in (drop k rules) ≤ 16) (sym at) room,
+      subst (λ (k : ℕ). with_before c.rules.no_recurse c.rules.skip_cache c.test_rule.new.passes (c.rules.tests + 1) (walk_of (drop k rules) c.args.view.now c.args.addr.now c.args.kind c.args.now) ≡ whole) (sym at)
+          (next_fails rules place n c.args.view.now c.args.addr.now c.args.kind c.args.now c.rules.no_recurse c.rules.skip_cache c.rules.no_recurse c.rules.skip_cache c.rules.passes c.test_rule.new.passes c.rules.tests (c.rules.tests + 1) _ lt c.index-rules-place.is (sym c.test_rule.ensures.truth ∙ c.if-test_rule.false) c.test_rule.ensures.passes more refl refl here),
+      c.in-Some.ensures.ahead (terms_of rules) c.requires.offers c.rules.invariant.3,
+      omega (arith, at, next.0, c.rules.invariant.4),
+    )
 
 pub returns : goal.returns
 returns c =
     let rules = c.args.rules.now in
-    ends_behind rules (length rules) c.args.view.now c.args.addr.now c.args.kind c.args.now c.rules.no_recurse c.rules.skip_cache c.rules.passes _ refl
-    (walk_to_end rules c.rules.at c.args.view.now c.args.addr.now c.args.kind c.args.now c.rules.no_recurse c.rules.skip_cache c.rules.passes _ c.rules.invariant.0 (c.in_default.ensures (terms_of rules) c.requires.offers) c.rules.invariant.2)
+    let next = c.in_default.ensures.next (terms_of rules) c.requires.offers c.rules.invariant.3 in
+    ends_behind rules (length rules) c.args.view.now c.args.addr.now c.args.kind c.args.now c.rules.no_recurse c.rules.skip_cache c.rules.passes c.rules.tests _ refl
+    (walk_to_end rules c.rules.ahead.at c.args.view.now c.args.addr.now c.args.kind c.args.now c.rules.no_recurse c.rules.skip_cache c.rules.passes c.rules.tests _ c.rules.invariant.0 next c.rules.invariant.2)

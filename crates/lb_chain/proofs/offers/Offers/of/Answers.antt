@@ -14,11 +14,11 @@ loop-at-preserved c =
     let old = c.loop-at.offers in
     let new = c.put.new.self in
     let put = c.in_ok-put.ensures {u = tt} in
-    numbered_more c.args.rules.now c.index-rules-at.result c.loop-at.at old.names new.names old.masks new.masks old.ranks.items new.ranks.items c.loop-at-test.true c.index-rules-at.is c.loop-at.invariant put.ok put.ranks
+    numbered_more c.args.rules.now c.index-rules-at.result c.loop-at.at old.names new.names old.masks new.masks old.loose new.loose old.ranks.items new.ranks.items c.loop-at-test.true c.index-rules-at.is c.loop-at.invariant put.ok put.ranks
 
 pub returns-clause-offers : goal.returns-clause-offers
 returns-clause-offers c =
-    numbered_all c.args.rules.now c.loop-at.at c.loop-at.offers.names c.loop-at.offers.masks c.loop-at.offers.ranks.items c.loop-at-test.false c.loop-at.invariant.0
+    numbered_all c.args.rules.now c.loop-at.at c.loop-at.offers.names c.loop-at.offers.masks c.loop-at.offers.loose c.loop-at.offers.ranks.items c.loop-at-test.false c.loop-at.invariant.0
 
 pub returns-clause-even : goal.returns-clause-even
 returns-clause-even c = c.loop-at.invariant.1
