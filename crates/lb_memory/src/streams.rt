@@ -222,8 +222,11 @@ impl<R: Wait> Streams for MemoryStreams<'_, R> {
         let (front, _) = octets.split_at(room);
         let (written, taken) = match copied(self.alloc, &mut wires, connection, front) {
             Ok(taken) => (room, taken),
-            // Where there is no room for a copy, none is taken.
-            Err(_refused) => (0, Taken::none(self.alloc)),
+            // Where there is no room for a copy, none is taken, and it is written again.
+            Err(_refused) => {
+                wires.try_again(connection);
+                (0, Taken::none(self.alloc))
+            }
         };
         self.taken = self.taken.and(&connection, &taken);
         Ok(written)

@@ -259,10 +259,17 @@ impl Wires {
 
     /// A connection was dialled, and stands at once. The one error is want of memory.
     pub(crate) fn dial(&mut self, connection: u64, to: Endpoint) -> Result<(), AllocError> {
-        self.dialed.push((connection, to))?;
+        self.dialed.reserve(1)?;
+        self.ready.reserve(2)?;
         self.open_up(connection)?;
+        self.dialed.push((connection, to))?;
         self.ready.push_back(Ready::Writable(connection))?;
         Ok(())
+    }
+
+    /// A connection took nothing for want of memory: it is told that it takes more, as it may have room by then.
+    pub(crate) fn try_again(&mut self, connection: u64) {
+        let _ = self.ready.push_back(Ready::Writable(connection));
     }
 
     /// What comes next on a connection. What is left there is told again.
