@@ -1,5 +1,7 @@
 //! Chains and queries, by values worked out by hand.
 
+mod found;
+
 use super::rows::held;
 use Ending::{Allow, Answered, Dropped, Forwarded, Refused, Truncated};
 use Told::{Comes, Lists, Moves, NextIs, Puts, Removes, Walks};
@@ -7,7 +9,7 @@ use lb_chain::{Action, Addrs, Chain, ChainFault, Listed, Passed, Rule, RulePass,
 use lb_limits::Pass;
 use lb_name::Name;
 use lb_terms::{Names, Term};
-use lb_wire::{Addr, Kind, PoolId, Rcode, RuleId, read_query};
+use lb_wire::{Addr, Kind, PoolId, QueryView, Rcode, RuleId, read_query};
 use std::alloc::{AllocError, Global};
 use std::marker::Model;
 use std::test::Fail;
@@ -68,11 +70,16 @@ impl Clock {
         self.chain.move_to(RuleId(id), place)
     }
 
-    /// Walks the rules for a query from 192.0.2.1.
-    fn walk(&self, octets: &[u8], kind: Kind, now: u64) -> Result<Walked, Fail> {
+    /// Walks the rules for a query that came from this address.
+    fn walk_for(&self, view: &QueryView, addr: &Addr, kind: Kind, now: u64) -> Walked {
         let now = if now < self.now { self.now } else { now };
+        self.chain.walk(view, addr, kind, now)
+    }
+
+    /// Walks them for a query from 192.0.2.1.
+    fn walk(&self, octets: &[u8], kind: Kind, now: u64) -> Result<Walked, Fail> {
         let view = read_query(octets)?;
-        Ok(self.chain.walk(&view, &ONE, kind, now))
+        Ok(self.walk_for(&view, &ONE, kind, now))
     }
 
     /// Walks them for the query `EXAMPLE`, and counts it.
@@ -155,13 +162,17 @@ fn is_ending(verdict: &Verdict, ending: Ending) -> bool {
     }
 }
 
-/// Whether a walk gives this.
-fn gives(walked: &Walked, wanted: &Walk) -> bool {
-    let rule = match walked.rule {
+/// The rule that ends a walk, 0 where none does.
+fn rule_of(walked: &Walked) -> u64 {
+    match walked.rule {
         Some(id) => id.0,
         None => 0,
-    };
-    rule == wanted.rule
+    }
+}
+
+/// Whether a walk gives this.
+fn gives(walked: &Walked, wanted: &Walk) -> bool {
+    rule_of(walked) == wanted.rule
         && is_ending(&walked.verdict, wanted.ending)
         && walked.no_recurse == wanted.no_recurse
         && walked.skip_cache == wanted.skip_cache

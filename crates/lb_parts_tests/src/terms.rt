@@ -33,15 +33,19 @@ const BESIDE: &[u8] =
 
 /// A word of a term: a term, or what is made of the last one or the last two.
 #[derive(Clone, Copy)]
-enum Op {
+pub(super) enum Op {
     All,
     /// The names under this one.
     Suffix(&'static str),
     /// The same name so many times.
     Suffixes(usize),
+    /// The names under xN.example for each N from the first number to the last.
+    Numbered(u32, u32),
     /// The addresses under this mask, and under none.
     Masks(&'static str),
     Nets,
+    /// The addresses under 10.1.0.0/16, 2001:db8:2::/48, 10.3.0.0/16 and so on to this number.
+    Blocks(u32),
     Qtype(RecordType),
     /// So many queries a second of addresses with so many first bits in common.
     Rate(u16, u8, u8),
@@ -56,7 +60,7 @@ enum Op {
 }
 
 /// A rate of 1 query a second of an address.
-const ONE_QPS: Op = Rate(1, 32, 128);
+pub(super) const ONE_QPS: Op = Rate(1, 32, 128);
 
 fn suffixes(alloc: Global, text: &str, count: usize) -> Result<Term, Fail> {
     let mut names = Vec::new(alloc);
@@ -64,6 +68,33 @@ fn suffixes(alloc: Global, text: &str, count: usize) -> Result<Term, Fail> {
         names.push(Name::parse_text(text)?)?;
     }
     Ok(Term::Suffix(Names::from_vec(names)))
+}
+
+fn numbered(alloc: Global, first: u32, last: u32) -> Result<Term, Fail> {
+    let mut names = Vec::new(alloc);
+    for number in first..=last {
+        let text = format!(in alloc; "x{number}.example")?;
+        names.push(Name::parse_text(&text)?)?;
+    }
+    Ok(Term::Suffix(Names::from_vec(names)))
+}
+
+/// The mask with a number: of IPv4 for an odd one, and of IPv6 for an even one.
+fn block(alloc: Global, number: u32) -> Result<Mask, Fail> {
+    let text = if number % 2 == 1 {
+        format!(in alloc; "10.{number}.0.0/16")?
+    } else {
+        format!(in alloc; "2001:db8:{number}::/48")?
+    };
+    Ok(Mask::parse(&text)?)
+}
+
+fn blocks(alloc: Global, last: u32) -> Result<Term, Fail> {
+    let mut masks = Vec::new(alloc);
+    for number in 1..=last {
+        masks.push(block(alloc, number)?)?;
+    }
+    Ok(Term::Masks(Group::from_vec(masks)))
 }
 
 fn masks(alloc: Global, text: &str) -> Result<Term, Fail> {
@@ -85,6 +116,8 @@ fn leaf(alloc: Global, op: Op) -> Result<Term, Fail> {
     match op {
         Op::Suffix(text) => suffixes(alloc, text, 1),
         Op::Suffixes(count) => suffixes(alloc, "example.com", count),
+        Op::Numbered(first, last) => numbered(alloc, first, last),
+        Op::Blocks(last) => blocks(alloc, last),
         Op::Masks(text) => masks(alloc, text),
         Op::Nets => Ok(Term::Masks(Group::from_vec(Vec::new(alloc)))),
         Op::Qtype(qtype) => Ok(Term::Qtype(qtype)),
@@ -323,7 +356,7 @@ fn is_copied(alloc: Global, term: &CheckedTerm, other: &CheckedTerm) -> Result<b
 }
 
 /// The term that words make, where it has no fault.
-fn sound(alloc: Global, ops: &[Op]) -> Result<CheckedTerm, Fail> {
+pub(super) fn sound(alloc: Global, ops: &[Op]) -> Result<CheckedTerm, Fail> {
     Ok(term(alloc, ops)?.checked()?)
 }
 
