@@ -7,9 +7,8 @@ ghost use Rattle.lb_chain.specs.Filing.{AreTakenBack, AreWith, AreWithout, own_s
 
 use crate::loose::Loose;
 use lb_masks::{Mask, MaskIndex};
-use lb_name::Name;
 use lb_suffix::SuffixIndex;
-use lb_terms::{CheckedTerm, Term};
+use lb_terms::{CheckedTerm, Names, Term};
 use std::alloc::AllocError;
 
 /// The term, or the first member of nested Ands that has no member before it.
@@ -26,21 +25,27 @@ fn first_asked(term: &Term) -> &Term
 }
 
 /// Takes a rank from each of these names.
-fn unfile_names(names: &mut SuffixIndex, set: &[Name], rank: u64)
+fn unfile_names(names: &mut SuffixIndex, set: &Names, rank: u64)
     ensures { AreWithout names.old (at_names set.now rank) names.new }
 {
-    for name in set {
-        names.unfile(name, rank);
+    for at in 0..set.len() {
+        let Some(name) = set.get(at) else {
+            unreachable!();
+        };
+        names.unfile(&name, rank);
     }
 }
 
 /// Files a rank under each of these names. The one error is want of memory; none of them is left then.
-fn file_names(names: &mut SuffixIndex, set: &[Name], rank: u64) -> Result<(), AllocError>
+fn file_names(names: &mut SuffixIndex, set: &Names, rank: u64) -> Result<(), AllocError>
     ensures ok { OnOk result (AreWith names.old (at_names set.now rank) names.new) }
     ensures err { OnErr result (AreTakenBack names.old (at_names set.now rank) names.new) }
 {
-    for name in set {
-        if let Err(refused) = names.file(name, rank) {
+    for at in 0..set.len() {
+        let Some(name) = set.get(at) else {
+            unreachable!();
+        };
+        if let Err(refused) = names.file(&name, rank) {
             unfile_names(names, set, rank);
             return Err(refused);
         }
@@ -84,7 +89,7 @@ pub(crate) fn unfile(
     ensures loose { AreWithout loose.old (loose_ranks term.now rank) loose.new }
 {
     match first_asked(term.as_term()) {
-        Term::Suffix(set) => unfile_names(names, set.as_slice(), rank),
+        Term::Suffix(set) => unfile_names(names, set, rank),
         Term::Masks(group) => unfile_masks(masks, group.as_slice(), rank),
         _ => loose.unfile(rank),
     }
@@ -107,7 +112,7 @@ pub(crate) fn file(
     ensures no_loose { OnErr result (AreTakenBack loose.old (loose_ranks term.now rank) loose.new) }
 {
     match first_asked(term.as_term()) {
-        Term::Suffix(set) => file_names(names, set.as_slice(), rank),
+        Term::Suffix(set) => file_names(names, set, rank),
         Term::Masks(group) => file_masks(masks, group.as_slice(), rank),
         _ => loose.file(rank),
     }

@@ -12,7 +12,6 @@ use crate::parts::{mask, name, number_in, record_type};
 use crate::values::look_up;
 use crate::words::Words;
 use lb_masks::{Group, Mask};
-use lb_name::Name;
 use lb_terms::{CheckedTerm, Names, Term};
 use std::alloc::Global;
 
@@ -70,12 +69,12 @@ fn form_of(text: &[u8]) -> Option<Form>
 }
 
 /// Takes names with commas between them.
-fn names(alloc: Global, words: &mut Words<'_>) -> Result<Vec<Name>, Unread>
-    ensures { Reads (λ names. names.items) result words.new (listed (due BadName name_of) (taken (codes ",")) (λ s. s) 1024 words.old) }
+fn names(alloc: Global, words: &mut Words<'_>) -> Result<Names, Unread>
+    ensures { Reads (λ names. names) result words.new (listed (due BadName name_of) (taken (codes ",")) (λ s. s) 1024 words.old) }
 {
-    let mut names = Vec::new(alloc);
+    let mut names = Names::new(alloc);
     'names: for _ in 0..MAX_SET {
-        names.push(name(words)?)?;
+        names.push(&name(words)?)?;
         if !words.takes(b",") {
             return Ok(names);
         }
@@ -109,7 +108,7 @@ fn read_suffix(alloc: Global, words: &mut Words<'_>) -> Result<Term, Unread>
     words.word(b"(")?;
     let names = names(alloc, words)?;
     words.word(b")")?;
-    Ok(Term::Suffix(Names::from_vec(names)))
+    Ok(Term::Suffix(names))
 }
 
 /// `(MASK{,MASK})`

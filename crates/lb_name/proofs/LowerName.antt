@@ -72,19 +72,14 @@ pub length-wire : (wire : List ℕ) → IsWire wire → length wire ≡ length (
 length-wire wire is = ap length is.parts ∙ length-append (labels_octets (labels_of wire)) (0 ∷ [])
 
 -- a longer wire has labels that take more octets
-pub longer : (ours theirs wire : List ℕ) (other : List (List ℕ)) → IsWire ours → IsWire wire → theirs ≡ wire → labels_of wire ≡ other → length theirs < length ours → length (labels_octets other) < length (labels_octets (labels_of ours))
-longer ours theirs wire other is_ours is_wire theirs_is other_is more =
-    omega (arith, length-wire ours is_ours, length-wire wire is_wire, ap length theirs_is, ap (λ (ls : List (List ℕ)). length (labels_octets ls)) other_is)
+pub longer : (ours theirs : List ℕ) → IsWire ours → IsWire theirs → length theirs < length ours → length (labels_octets (labels_of theirs)) < length (labels_octets (labels_of ours))
+longer ours theirs is_ours is_theirs more = omega (arith, length-wire ours is_ours, length-wire theirs is_theirs)
 
 -- where what is left takes no more octets than the other, the test of the wires tells whether the name is under it
-pub under_test : (r : Bool) (ours theirs wire : List ℕ) (name other : List (List ℕ)) → IsWire ours → IsWire wire → theirs ≡ wire → labels_of wire ≡ other → Walks name (labels_of ours) other → length ours ≤ length theirs → IsTrue r ↔ (map to_ascii_lowercase ours ≡ map to_ascii_lowercase theirs) → IsTrue r ↔ IsUnder name other
-under_test r ours theirs wire name other is_ours is_wire theirs_is other_is walks most test =
-    let is_theirs : IsWire theirs = rw theirs_is is_wire in
-    let same_is : labels_of theirs ≡ other = ap (λ (xs : List ℕ). labels_of xs) theirs_is ∙ other_is in
+pub under_test : (r : Bool) (ours theirs : List ℕ) (name : List (List ℕ)) → IsWire ours → IsWire theirs → Walks name (labels_of ours) (labels_of theirs) → length ours ≤ length theirs → IsTrue r ↔ (map to_ascii_lowercase ours ≡ map to_ascii_lowercase theirs) → IsTrue r ↔ IsUnder name (labels_of theirs)
+under_test r ours theirs name is_ours is_theirs walks most test =
     let fewer : length (labels_octets (labels_of ours)) ≤ length (labels_octets (labels_of theirs)) =
-    omega (arith, length-wire ours is_ours, length-wire theirs is_theirs) in
-    let here : Walks name (labels_of ours) (labels_of theirs) = rw same_is walks in
-    rw (← same_is) (
-      λ yes. here.up (under_from_same _ _ (same_from_wires ours theirs is_ours is_theirs (test.0 yes))),
-      λ under. test.1 (wires_from_same ours theirs is_ours is_theirs (same_from_under _ _ fewer (here.down under))),
+    omega (arith, length-wire ours is_ours, length-wire theirs is_theirs) in (
+      λ yes. walks.up (under_from_same _ _ (same_from_wires ours theirs is_ours is_theirs (test.0 yes))),
+      λ under. test.1 (wires_from_same ours theirs is_ours is_theirs (same_from_under _ _ fewer (walks.down under))),
     )

@@ -1,8 +1,8 @@
 //! The labels of a name on the wire (RFC 1035 section 3.1), from the first to the root.
 
-ghost use Rattle.std.specs.Prelude.{◌≡◌, List, [], ◌∷◌, ◌++◌, length, slice_get, IfSome, option_map};
+ghost use Rattle.std.specs.Prelude.{◌≡◌, ◌↔◌, List, [], ◌∷◌, ◌++◌, length, slice_get, IfSome, IsTrue, option_map};
 ghost use Rattle.std.specs.Option.{IfNone};
-ghost use Rattle.lb_name.specs.Name.{labels_of, IsWire};
+ghost use Rattle.lb_name.specs.Name.{labels_of, IsUnder, IsWire};
 
 /// The first label of a name on the wire, and the name after it; none of the root.
 pub(crate) fn first_label(wire: &[u8]) -> Option<(&[u8], &[u8])>
@@ -50,4 +50,22 @@ pub(crate) fn label_at(wire: &[u8], place: usize) -> Option<&[u8]>
         wire = rest;
     }
     None
+}
+
+/// Whether a name is the other or stands below it, without regard to case (RFC 1034 section 3.1), by the octets of both on
+/// the wire.
+pub(crate) fn is_wire_under(name: &[u8], other: &[u8]) -> bool
+    requires name { IsWire name.now }
+    requires other { IsWire other.now }
+    ensures { IsTrue result ↔ IsUnder (labels_of name.now) (labels_of other.now) }
+{
+    let mut left = name;
+    'labels: while left.len() > other.len() {
+        // the root is no longer than any name
+        let Some((_, rest)) = first_label(left) else {
+            unreachable!();
+        };
+        left = rest;
+    }
+    left.eq_ignore_ascii_case(other)
 }

@@ -3,12 +3,14 @@
 #![tactic(auto)]
 
 mod fault;
+mod kept;
 mod labels;
 mod laws;
 mod name;
 mod text;
 
 pub use fault::NameFault;
+pub use kept::KeptName;
 pub use laws::{
     label_is_passed, labels_go_on, lowers_on_wire, one_name, splits_back, text_round_trip,
 };

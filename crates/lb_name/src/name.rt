@@ -7,7 +7,8 @@ ghost use Rattle.lb_name.specs.Reading.{Begins, Faults};
 ghost use Rattle.lb_name.specs.Text.{name_of_text, has_name_bytes, text_of};
 
 use crate::fault::NameFault;
-use crate::labels::{first_label, label_at, label_count};
+use crate::kept::KeptName;
+use crate::labels::{first_label, is_wire_under, label_at, label_count};
 use crate::text::{
     has_name_bytes, is_dot_alone, push_text, text_fault, text_wire, without_end_dot,
 };
@@ -31,7 +32,7 @@ pub const POINTER: u8 = 192;
 /// its labels.
 #[derive(Debug, Drop)]
 pub struct Name {
-    wire: ArrayVec<u8, MAX_NAME>,
+    pub(crate) wire: ArrayVec<u8, MAX_NAME>,
 }
 
 impl Model for Name {
@@ -76,7 +77,7 @@ fn name_len(octets: &[u8]) -> Result<usize, NameFault>
 }
 
 /// The octets, of which a name has no more than its wire.
-fn copied(octets: &[u8]) -> ArrayVec<u8, MAX_NAME>
+pub(crate) fn copied(octets: &[u8]) -> ArrayVec<u8, MAX_NAME>
     requires { length octets.now ≤ 255 }
     ensures { result.items ≡ octets.now }
 {
@@ -222,16 +223,14 @@ impl Name {
     pub fn is_under(&self, other: &Name) -> bool
         ensures { IsTrue result ↔ IsUnder self.now other.now }
     {
-        let mut ours = self.wire.as_slice();
-        let theirs = other.wire.as_slice();
-        'labels: while ours.len() > theirs.len() {
-            // the root is no longer than any name
-            let Some((_, rest)) = first_label(ours) else {
-                unreachable!();
-            };
-            ours = rest;
-        }
-        ours.eq_ignore_ascii_case(theirs)
+        is_wire_under(self.wire.as_slice(), other.wire.as_slice())
+    }
+
+    /// Whether the name is the kept one or stands below it: what `is_under` tells of the same names. It copies neither.
+    pub fn is_under_kept(&self, suffix: &KeptName) -> bool
+        ensures { IsTrue result ↔ IsUnder self.now suffix.now }
+    {
+        is_wire_under(self.wire.as_slice(), suffix.wire.as_slice())
     }
 
     /// The label at a place counted from the root, the last label at 0, or none where the name has fewer.

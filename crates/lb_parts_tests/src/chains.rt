@@ -184,9 +184,9 @@ fn term(alloc: Global, asks: Asks) -> Result<Term, Fail> {
         Asks::All => Ok(Term::All),
         Asks::Rate => Ok(Term::MaxQps(1, 32, 128)),
         Asks::Suffix(text) => {
-            let mut names = Vec::new(alloc);
-            names.push(Name::parse_text(text)?)?;
-            Ok(Term::Suffix(Names::from_vec(names)))
+            let mut names = Names::new(alloc);
+            names.push(&Name::parse_text(text)?)?;
+            Ok(Term::Suffix(names))
         }
     }
 }

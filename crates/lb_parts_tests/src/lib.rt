@@ -21,6 +21,8 @@ mod rows;
 #[cfg(test)]
 mod servers;
 #[cfg(test)]
+mod sets;
+#[cfg(test)]
 mod table;
 #[cfg(test)]
 mod terms;

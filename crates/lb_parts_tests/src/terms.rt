@@ -63,20 +63,21 @@ pub(super) enum Op {
 pub(super) const ONE_QPS: Op = Rate(1, 32, 128);
 
 fn suffixes(alloc: Global, text: &str, count: usize) -> Result<Term, Fail> {
-    let mut names = Vec::new(alloc);
+    let name = Name::parse_text(text)?;
+    let mut names = Names::new(alloc);
     for _ in 0..count {
-        names.push(Name::parse_text(text)?)?;
+        names.push(&name)?;
     }
-    Ok(Term::Suffix(Names::from_vec(names)))
+    Ok(Term::Suffix(names))
 }
 
 fn numbered(alloc: Global, first: u32, last: u32) -> Result<Term, Fail> {
-    let mut names = Vec::new(alloc);
+    let mut names = Names::new(alloc);
     for number in first..=last {
         let text = format!(in alloc; "x{number}.example")?;
-        names.push(Name::parse_text(&text)?)?;
+        names.push(&Name::parse_text(&text)?)?;
     }
-    Ok(Term::Suffix(Names::from_vec(names)))
+    Ok(Term::Suffix(names))
 }
 
 /// The mask with a number: of IPv4 for an odd one, and of IPv6 for an even one.
@@ -365,32 +366,4 @@ fn copies(rt: HostRuntime) -> Result<(), Fail> {
     let term = sound(rt.alloc(), SOME)?;
     let other = sound(rt.alloc(), &[All])?;
     held(0, is_copied(rt.alloc(), &term, &other)?)
-}
-
-/// A list of these names.
-fn names(alloc: Global, texts: &[&str]) -> Result<Names, Fail> {
-    let mut items = Vec::new(alloc);
-    for text in texts {
-        items.push(Name::parse_text(text)?)?;
-    }
-    Ok(Names::from_vec(items))
-}
-
-/// Whether a list of names is example.com and example.org.
-fn are_names(names: &Names, org: &Name) -> bool {
-    let items = names.as_slice();
-    match (items.first(), items.last()) {
-        (Some(first), Some(last)) => {
-            names.len() == 2 && names.covers(org) && !first.is_under(org) && last.is_under(org)
-        }
-        _ => false,
-    }
-}
-
-#[test]
-fn names_in_order(rt: HostRuntime) -> Result<(), Fail> {
-    let org = Name::parse_text("example.org")?;
-    let names = names(rt.alloc(), &["example.com", "example.org"])?;
-    let copy = names.copy(rt.alloc())?;
-    held(0, are_names(&copy, &org) && copy.equals(&names))
 }

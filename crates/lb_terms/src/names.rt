@@ -1,11 +1,11 @@
 //! Sets of names.
 
-ghost use Rattle.std.specs.Prelude.{◌≡◌, ◌↔◌, ℕ, IfOk, IsTrue, length};
+ghost use Rattle.std.specs.Prelude.{◌≡◌, ◌↔◌, ℕ, IfOk, IsTrue, OnErr, OnOk, [], ◌∷◌, ◌++◌, length, slice_get};
 ghost use Rattle.lb_suffix.specs.Index.{IsFiledOver};
 ghost use Rattle.lb_terms.specs.Names.{IsIndexOf};
 ghost use Rattle.lb_terms.specs.Sets.{is_under, in_suffixes};
 
-use lb_name::Name;
+use lb_name::{KeptName, Name};
 use lb_suffix::SuffixIndex;
 use std::alloc::{AllocError, Global};
 use std::marker::Model;
@@ -17,7 +17,7 @@ const FEW: usize = 64;
 /// list of names.
 #[derive(Debug, Drop)]
 pub struct Names {
-    items: Vec<Name>,
+    items: Vec<KeptName>,
     // Each of the names under rank 0, where they are found by it.
     index: Option<SuffixIndex>,
 }
@@ -34,21 +34,21 @@ impl Model for Names {
 }
 
 /// Whether the first name is the second or stands below it.
-fn is_under(name: &Name, suffix: &Name) -> bool
+fn is_under(name: &Name, suffix: &KeptName) -> bool
     ensures { result ≡ is_under name.now suffix.now }
 {
-    name.is_under(suffix)
+    name.is_under_kept(suffix)
 }
 
 /// Whether the name is one of these or stands below one.
-fn any_over(suffixes: &[Name], name: &Name) -> bool
+fn any_over(suffixes: &[KeptName], name: &Name) -> bool
     ensures { result ≡ in_suffixes suffixes.now name.now }
 {
     suffixes.iter().any(|suffix| is_under(name, suffix))
 }
 
 /// Whether the names are equal, in order.
-fn are_equal(names: &[Name], others: &[Name]) -> bool
+fn are_equal(names: &[KeptName], others: &[KeptName]) -> bool
     ensures equal { IsTrue result → names.now ≡ others.now }
     ensures found { names.now ≡ others.now → IsTrue result }
 {
@@ -60,12 +60,12 @@ fn are_equal(names: &[Name], others: &[Name]) -> bool
 }
 
 /// An index of the names.
-fn index_of(alloc: Global, names: &[Name]) -> Result<SuffixIndex, AllocError>
+fn index_of(alloc: Global, names: &[KeptName]) -> Result<SuffixIndex, AllocError>
     ensures { IfOk result (λ index. IsIndexOf names.now index) }
 {
     let mut index = SuffixIndex::new(alloc);
     for name in names {
-        index.file(name, 0)?;
+        index.file(&name.to_name(), 0)?;
     }
     Ok(index)
 }
@@ -78,11 +78,26 @@ fn is_found(index: &SuffixIndex, name: &Name) -> bool
 }
 
 impl Names {
-    /// These names, with no copy.
-    pub fn from_vec(items: Vec<Name>) -> Names
-        ensures { result ≡ items.items }
+    /// No names. It takes no memory.
+    pub fn new(alloc: Global) -> Names
+        ensures { result ≡ [] }
     {
-        Names { items, index: None }
+        Names {
+            items: Vec::new(alloc),
+            index: None,
+        }
+    }
+
+    /// Puts a name behind the others, and gives up an index that stands. The one error is want of memory; the names are what
+    /// they were then.
+    pub fn push(&mut self, name: &Name) -> Result<(), AllocError>
+        ensures ok { OnOk result (self.new ≡ self.old ++ name.now ∷ []) }
+        ensures err { OnErr result (self.new ≡ self.old) }
+    {
+        let kept = KeptName::of(*self.items.allocator(), name)?;
+        self.items.push(kept)?;
+        self.index = None;
+        Ok(())
     }
 
     /// How many names there are.
@@ -92,11 +107,11 @@ impl Names {
         self.items.len()
     }
 
-    /// The names, in order.
-    pub fn as_slice(&self) -> &[Name]
-        ensures { result.now ≡ self.now }
+    /// The name at a place, from 0 on; none past the end. It takes no memory.
+    pub fn get(&self, at: usize) -> Option<Name>
+        ensures { result ≡ slice_get self.now at }
     {
-        self.items.as_slice()
+        self.items.get(at).map(KeptName::to_name)
     }
 
     /// Whether the name is one of these or stands below one, without regard to the case of ASCII letters.
@@ -126,7 +141,7 @@ impl Names {
     {
         let mut items = Vec::with_capacity(alloc, self.items.len())?;
         for name in self.items.iter() {
-            items.push(name.copy())?;
+            items.push(name.copy(alloc)?)?;
         }
         Ok(Names { items, index: None })
     }

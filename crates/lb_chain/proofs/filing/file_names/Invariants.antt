@@ -5,5 +5,5 @@ use Rattle.lb_chain.specs.Filing.{AreWith}
 use Rattle.lb_chain.proofs.Filed.{AreMore}
 use Rattle.lb_chain.proofs.filing.file_names.Given as goal
 
-abbrev pub invariant-loop-name : goal.invariant-loop-name
-invariant-loop-name l = ((new : List Pair) → AreWith l.names (at_names (drop l.name-index l.set) l.rank) new → AreWith l.fn.names (at_names l.set l.rank) new) × AreMore l.fn.names (at_names l.set l.rank) l.names
+abbrev pub invariant-loop-at : goal.invariant-loop-at
+invariant-loop-at l = ((new : List Pair) → AreWith l.names (at_names (drop l.at l.set) l.rank) new → AreWith l.fn.names (at_names l.set l.rank) new) × AreMore l.fn.names (at_names l.set l.rank) l.names

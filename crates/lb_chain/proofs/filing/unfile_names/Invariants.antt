@@ -4,5 +4,5 @@ use Rattle.lb_chain.specs.FirstAsked.{at_names}
 use Rattle.lb_chain.specs.Filing.{AreWithout}
 use Rattle.lb_chain.proofs.filing.unfile_names.Given as goal
 
-abbrev pub invariant-loop-name : goal.invariant-loop-name
-invariant-loop-name l = (new : List Pair) → AreWithout l.names (at_names (drop l.name-index l.set) l.rank) new → AreWithout l.fn.names (at_names l.set l.rank) new
+abbrev pub invariant-loop-at : goal.invariant-loop-at
+invariant-loop-at l = (new : List Pair) → AreWithout l.names (at_names (drop l.at l.set) l.rank) new → AreWithout l.fn.names (at_names l.set l.rank) new

@@ -7,4 +7,4 @@ use Rattle.lb_command.proofs.Lists.{with_front}
 use Rattle.lb_command.proofs.terms.names.Given as goal
 
 abbrev pub invariant-names : goal.invariant-names
-invariant-names l = with_front l.names.items (listed (due BadName name_of) (taken (codes ",")) (λ s. s) (1024 - l.counter) l.words) ≡ listed (due BadName name_of) (taken (codes ",")) (λ s. s) 1024 l.fn.words
+invariant-names l = with_front l.names (listed (due BadName name_of) (taken (codes ",")) (λ s. s) (1024 - l.counter) l.words) ≡ listed (due BadName name_of) (taken (codes ",")) (λ s. s) 1024 l.fn.words

@@ -4,4 +4,4 @@ use Rattle.lb_terms.proofs.Sets.{is_under-Decides}
 use Rattle.lb_terms.proofs.names.is_under.Goals as goal
 
 pub returns : goal.returns
-returns c = same_from_decides c.is_under.result (is_under c.args.name.now c.args.suffix.now) c.is_under.ensures (is_under-Decides c.args.name.now c.args.suffix.now)
+returns c = same_from_decides c.is_under_kept.result (is_under c.args.name.now c.args.suffix.now) c.is_under_kept.ensures (is_under-Decides c.args.name.now c.args.suffix.now)
