@@ -5,3 +5,4 @@ pub mod Spots
 pub mod Taking
 pub mod Putting
 pub mod Packing
+pub mod Fences

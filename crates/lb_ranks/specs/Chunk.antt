@@ -2,7 +2,9 @@
 use Rattle.std.specs.Prelude.{◌≡◌, ℕ, zero, suc, ◌-◌, ◌<◌, ◌≤◌, List, [], ◌∷◌, ◌++◌, Bool, true, Some, option_map, length, take, drop, slice_get, slice_index_or}
 use Rattle.std.specs.List.{flat_map}
 use Rattle.lb_ranks.specs.declared.filed.Filed.{Filed}
+use Rattle.lb_ranks.specs.declared.front.Front.{Front}
 use Rattle.lb_ranks.specs.Filed.{filed_at, is_before, IsCut}
+use Rattle.lb_ranks.specs.Front.{front_of_key, AreOctets}
 
 -- how many pairs a chunk may have
 abbrev pub max_pairs : ℕ
@@ -15,6 +17,10 @@ IsFilled items = 0 < length items
 -- whether the last pair of a chunk stands before this one
 abbrev pub ends_before : Filed → List Filed → Bool
 ends_before at items = is_before at (slice_index_or items (length items - 1) at)
+
+-- where there are pairs, the front is that of the last one's key, whose octets are below 256
+abbrev pub IsFence : Front → List Filed → Type 0
+IsFence fence items = (f : Filed) → slice_get items (length items - 1) ≡ Some f → (fence ≡ front_of_key f.key) × AreOctets f.key
 
 -- the pairs of all chunks
 abbrev pub all_of : List (List Filed) → List Filed

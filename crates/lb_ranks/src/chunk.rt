@@ -3,12 +3,14 @@
 ghost use Rattle.std.specs.Prelude.{◌≡◌, ◌<◌, ◌≤◌, true, false, List, [], ◌∷◌, ◌++◌, IfOk, OnOk, OnErr, length, slice_get, option_map, Some, option_copied, IsTrue, ◌↔◌};
 ghost use Rattle.std.specs.List.{insert, remove};
 ghost use Rattle.std.specs.List.Sorted.{IsPartitionPoint};
-ghost use Rattle.lb_ranks.specs.Chunk.{ends_before as ends_before_of, max_pairs, IsFilled};
+ghost use Rattle.lb_ranks.specs.Chunk.{ends_before as ends_before_of, max_pairs, IsFence, IsFilled};
 ghost use Rattle.lb_ranks.specs.Filed.{is_before as is_before_of, AreInOrder};
 
 use crate::filed::Filed;
+use crate::front::Front;
 use crate::key::Probe;
 use std::alloc::{AllocError, Global};
+use std::cmp::Ordering;
 use std::marker::Model;
 
 /// The most pairs of a chunk.
@@ -24,25 +26,48 @@ const STEP: usize = 16;
 #[derive(Debug, Drop)]
 pub(crate) struct Chunk {
     items: Vec<Filed>,
+    // The front of the last pair's key: a search among chunks reads a pair only where it is equal to that which is looked for.
+    fence: Front,
 }
 
 impl Model for Chunk {
     ghost use Rattle.std.specs.Prelude.{List};
     ghost use Rattle.lb_ranks.specs.declared.filed.Filed.{Filed};
+    ghost use Rattle.lb_ranks.specs.Chunk.{IsFence};
 
     ghost Value = { List Filed };
 
     ghost view = { λ c. c.items.items };
+
+    ghost invariant = { λ c. IsFence c.fence c.items.items };
+}
+
+/// The front of the last pair's key.
+fn fence_of(items: &[Filed]) -> Front
+    ensures { IsFence result items.now }
+{
+    match items.last() {
+        Some(filed) => filed.front(),
+        None => Front::of(&[]),
+    }
 }
 
 impl Chunk {
+    /// A chunk of these pairs.
+    fn of(items: Vec<Filed>) -> Chunk
+        ensures { result ≡ items.items }
+    {
+        let fence = fence_of(items.as_slice());
+        Chunk { items, fence }
+    }
+
     /// A chunk of one pair.
     pub(crate) fn one(alloc: Global, filed: Filed) -> Result<Chunk, AllocError>
         ensures { IfOk result (λ chunk. chunk ≡ filed ∷ []) }
     {
         let mut items = Vec::new(alloc);
         items.push(filed)?;
-        Ok(Chunk { items })
+        Ok(Chunk::of(items))
     }
 
     /// How many pairs it has.
@@ -59,13 +84,24 @@ impl Chunk {
         self.items.len() >= MAX_PAIRS
     }
 
-    /// Whether its last pair stands before the pair that is looked for.
-    pub(crate) fn ends_before(&self, at: &Probe<'_>) -> bool
+    /// Whether its last pair stands before the pair that is looked for: the pair itself is compared.
+    fn last_is_before(&self, at: &Probe<'_>) -> bool
         ensures { result ≡ ends_before_of at.now self.now }
     {
         match self.items.last() {
             Some(filed) => filed.is_before(at),
             None => false,
+        }
+    }
+
+    /// Whether its last pair stands before the pair that is looked for.
+    pub(crate) fn ends_before(&self, at: &Probe<'_>) -> bool
+        ensures { result ≡ ends_before_of at.now self.now }
+    {
+        match at.order_of(&self.fence) {
+            Ordering::Less => !self.items.is_empty(),
+            Ordering::Equal => self.last_is_before(at),
+            Ordering::Greater => false,
         }
     }
 
@@ -95,6 +131,7 @@ impl Chunk {
             self.items.reserve_exact(STEP)?;
         }
         self.items.insert(place, filed)?;
+        self.fence = fence_of(self.items.as_slice());
         Ok(())
     }
 
@@ -104,8 +141,9 @@ impl Chunk {
         ensures rank { option_map (λ f. f.rank) (slice_get self.old place) ≡ Some result }
         ensures items { self.new ≡ remove self.old place }
     {
-        let filed = self.items.remove(place);
-        filed.rank()
+        let rank = self.items.remove(place).rank();
+        self.fence = fence_of(self.items.as_slice());
+        rank
     }
 
     /// Divides it: the pairs from the middle on become a chunk of their own.
@@ -123,7 +161,9 @@ impl Chunk {
             }
         }
         self.items.shrink_to_fit();
+        let lower = self.items.as_slice();
+        self.fence = fence_of(lower);
         upper.reverse();
-        Ok(Chunk { items: upper })
+        Ok(Chunk::of(upper))
     }
 }

@@ -2,7 +2,9 @@
 
 ghost use Rattle.std.specs.Prelude.{◌≡◌, IsTrue, ◌↔◌, IfOk};
 ghost use Rattle.lb_ranks.specs.Filed.{is_before as is_before_of};
+ghost use Rattle.lb_ranks.specs.Front.{front_of_key, AreOctets};
 
+use crate::front::Front;
 use crate::key::{Key, Probe};
 use std::alloc::{AllocError, Global};
 use std::cmp::Ordering;
@@ -31,6 +33,14 @@ impl Filed {
         ensures { result ≡ self.now.rank }
     {
         self.rank
+    }
+
+    /// The front of its key.
+    pub(crate) fn front(&self) -> Front
+        ensures front { result ≡ front_of_key self.now.key }
+        ensures octets { AreOctets self.now.key }
+    {
+        self.key.front()
     }
 
     /// Whether it stands before the pair that is looked for.

@@ -4,6 +4,7 @@ ghost use Rattle.std.specs.Prelude.{◌≡◌, IsTrue, ◌↔◌, IfOk};
 ghost use Rattle.std.specs.Cmp.Lexicographic.{slice_cmp};
 ghost use Rattle.std.specs.Ordering.{nat_cmp};
 ghost use Rattle.lb_ranks.specs.Filed.{filed_at};
+ghost use Rattle.lb_ranks.specs.Front.{front_cmp, front_of_key, AreOctets};
 
 use crate::front::{FRONT, Front};
 use std::alloc::{AllocError, Global};
@@ -66,9 +67,25 @@ impl<'a> Probe<'a> {
     {
         self.rank
     }
+
+    /// The order of a front to that of the key that is looked for.
+    pub(crate) fn order_of(&self, front: &Front) -> Ordering
+        ensures order { result ≡ front_cmp front.now (front_of_key self.now.key) }
+        ensures octets { AreOctets self.now.key }
+    {
+        front.order(&self.front)
+    }
 }
 
 impl Key {
+    /// The front.
+    pub(crate) fn front(&self) -> Front
+        ensures front { result ≡ front_of_key self.now }
+        ensures octets { AreOctets self.now }
+    {
+        self.front
+    }
+
     /// The key that is looked for.
     pub(crate) fn copied(alloc: Global, at: &Probe<'_>) -> Result<Key, AllocError>
         ensures { IfOk result (λ key. key ≡ at.now.key) }
