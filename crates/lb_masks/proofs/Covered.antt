@@ -47,7 +47,7 @@ one_family P (V4 a) (V6 b) same len = absurd same
 one_family P (V6 a) (V4 b) same len = absurd same
 
 -- kinds tell lengths apart
-one_length : (addr : Addr) (m n : ℕ) → kind_at addr m ≡ kind_at addr n → m ≡ n
+pub one_length : (addr : Addr) (m n : ℕ) → kind_at addr m ≡ kind_at addr n → m ≡ n
 one_length (V4 octets) m n is = is
 one_length (V6 octets) m n is = omega (arith, is)
 

@@ -91,7 +91,7 @@ filter_from p (x ∷ xs) y is has =
 other_is : (k kind : ℕ) → not (k == kind) ≡ true → k ≡ kind → ⊥
 other_is k kind is same = elim (cases_Bool (k == kind)) [ inl equal ↦ (let no : not (k == kind) ≡ false = ap not equal in absurd (cc (is, no))) | inr other ↦ eqb-false k kind other same ]
 
-is_other : (k kind : ℕ) → (k ≡ kind → ⊥) → not (k == kind) ≡ true
+pub is_other : (k kind : ℕ) → (k ≡ kind → ⊥) → not (k == kind) ≡ true
 is_other k kind other = ap not (ne_eqb k kind other)
 
 -- the kinds that are left where one is taken out

@@ -9,6 +9,9 @@ pub mod Least
 pub mod Covered
 pub mod Pairs
 pub mod InUse
+pub mod Marked
+pub mod Noted
+pub mod Bitmaps
 pub mod Looks
 pub mod Spans
 pub mod Shown

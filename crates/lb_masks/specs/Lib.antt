@@ -7,5 +7,6 @@ pub mod Form
 pub mod Text
 pub mod Key
 pub mod Index
+pub mod Marks
 pub mod Kinds
 pub mod Group

@@ -7,7 +7,7 @@ ghost use Rattle.lb_masks.specs.Bits.{SameBits, KeepsBits, kept_octet, kept_octe
 const OCTET: usize = 8;
 
 /// The octet with its bits past the first so many cleared.
-fn kept_octet(octet: u8, count: usize) -> u8
+pub(crate) fn kept_octet(octet: u8, count: usize) -> u8
     requires { count ≤ 8 }
     ensures { result ≡ kept_octet count octet }
 {

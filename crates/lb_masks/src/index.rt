@@ -5,8 +5,8 @@ ghost use Rattle.lb_ranks.specs.Least.{IsLeastFrom};
 ghost use Rattle.lb_masks.specs.Index.{pair_of, ArePairsInOrder, HaveSame, IsFiledCovering, IsFiledWith, IsFiledWithout};
 ghost use Rattle.lb_masks.specs.Kinds.{IsOfKind, IsOfKinds};
 
-use crate::key::{key_of, key_over, kind_of};
-use crate::kinds::{forget_unused, note};
+use crate::key::{key_of, key_over, kind_of, mark_of, mark_over};
+use crate::kinds::{Kind, forget_unused, note};
 use crate::mask::Mask;
 use lb_ranks::{Ranks, lesser};
 use lb_wire::Addr;
@@ -18,8 +18,8 @@ use std::marker::Model;
 #[derive(Debug, Drop)]
 pub struct MaskIndex {
     ranks: Ranks,
-    // The kinds of mask that are in use: a look is made for each.
-    kinds: Vec<u8>,
+    // The kinds of mask that are in use: a look is made for each that has the mark of the address.
+    kinds: Vec<Kind>,
 }
 
 impl Model for MaskIndex {
@@ -27,30 +27,35 @@ impl Model for MaskIndex {
     ghost use Rattle.std.specs.List.{AllByRecursion};
     ghost use Rattle.lb_masks.specs.Index.{Pair, shown};
     ghost use Rattle.lb_masks.specs.Key.{IsKey};
-    ghost use Rattle.lb_masks.specs.Kinds.{AreInUse};
+    ghost use Rattle.lb_masks.specs.Kinds.{numbers, AreInUse, AreMarked};
 
     ghost Value = { List Pair };
 
     ghost view = { λ x. map shown x.ranks };
 
-    ghost invariant = { λ x. AllByRecursion (λ f. IsKey f.key) x.ranks × AreInUse x.kinds.items x.ranks };
+    ghost invariant = { λ x. AllByRecursion (λ f. IsKey f.key) x.ranks × AreInUse (numbers x.kinds.items) x.ranks × AreMarked x.kinds.items x.ranks };
 }
 
-/// The least rank at or after a rank that is filed under a mask of this kind that covers the address.
-fn next_of_kind(ranks: &Ranks, addr: &Addr, kind: u8, from: u64) -> Option<u64>
-    ensures { IsLeastFrom (IsOfKind ranks.now addr.now kind) from result }
+/// The least rank at or after a rank that is filed under a mask of this kind that covers the address. It looks for one only where
+/// the kind has the mark of the address.
+fn next_of_kind(ranks: &Ranks, addr: &Addr, kind: &Kind, from: u64) -> Option<u64>
+    ensures { IsLeastFrom (IsOfKind ranks.now addr.now kind.now) from result }
 {
-    let key = key_over(kind, addr)?;
+    let mark = mark_over(kind.number, addr)?;
+    if !kind.has(mark) {
+        return None;
+    }
+    let key = key_over(kind.number, addr)?;
     ranks.next_at(key.as_slice(), from)
 }
 
 /// The least rank at or after a rank that is filed under a mask of one of these kinds that covers the address.
-fn next_of_kinds(ranks: &Ranks, addr: &Addr, kinds: &[u8], from: u64) -> Option<u64>
+fn next_of_kinds(ranks: &Ranks, addr: &Addr, kinds: &[Kind], from: u64) -> Option<u64>
     ensures { IsLeastFrom (IsOfKinds ranks.now addr.now kinds.now) from result }
 {
     let mut best = None;
     for kind in kinds {
-        best = lesser(best, next_of_kind(ranks, addr, *kind, from));
+        best = lesser(best, next_of_kind(ranks, addr, kind, from));
     }
     best
 }
@@ -78,7 +83,7 @@ impl MaskIndex {
         ensures err { OnErr result (self.new ≡ self.old) }
     {
         let kind = kind_of(mask);
-        note(&mut self.kinds, kind)?;
+        note(&mut self.kinds, kind, mark_of(mask))?;
         let key = key_of(mask);
         match self.ranks.file(key.as_slice(), rank) {
             Ok(()) => Ok(()),
@@ -99,7 +104,8 @@ impl MaskIndex {
     }
 
     /// The least rank at or after a rank that is filed under a mask that covers the address. A mapped IPv4 address is an
-    /// IPv6 address here. It makes one look for each length in use of masks of the address's family, and takes no memory.
+    /// IPv6 address here. It makes a look for each length in use of masks of the address's family
+    /// of which one may have its network, as its mark tells, and takes no memory.
     pub fn next(&self, addr: &Addr, from: u64) -> Option<u64>
         ensures { IsLeastFrom (IsFiledCovering self.now addr.now) from result }
     {

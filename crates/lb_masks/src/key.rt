@@ -5,7 +5,9 @@ ghost use Rattle.std.specs.Option.{IfNone};
 ghost use Rattle.lb_masks.specs.Bits.{octets_of, KeepsBits, OneFamily};
 ghost use Rattle.lb_masks.specs.Mask.{width};
 ghost use Rattle.lb_masks.specs.Key.{kind_at, key_of as key_of_mask, IsKeyOver, IsMask};
+ghost use Rattle.lb_masks.specs.Kinds.{mark_of as mark_of_mask, IsMarkOver};
 
+use crate::marks::mark_at;
 use crate::mask::{Mask, masked};
 use arrayvec::ArrayVec;
 use lb_wire::Addr;
@@ -106,6 +108,38 @@ fn network_of(addr: &Addr, length: u8) -> Addr
         Addr::V4(_) => masked(*addr, length, 0),
         Addr::V6(_) => masked(*addr, 0, length),
     }
+}
+
+/// The octets of an address.
+fn octets_of(addr: &Addr) -> &[u8]
+    ensures octets { result.now ≡ octets_of addr.now }
+    ensures sized { 8 * length result.now ≡ width addr.now }
+{
+    // A law, which does nothing.
+    has_octets(addr);
+    match addr {
+        Addr::V4(octets) => octets.as_slice(),
+        Addr::V6(octets) => octets.as_slice(),
+    }
+}
+
+/// The mark of a mask: that of its network.
+pub(crate) fn mark_of(mask: &Mask) -> u8
+    ensures { result ≡ mark_of_mask mask.now }
+{
+    mark_at(octets_of(&mask.network()), mask.length())
+}
+
+/// The mark of the one mask of a kind that covers the address, where the kind is of the address's family. It costs less than the
+/// key of that mask.
+pub(crate) fn mark_over(kind: u8, addr: &Addr) -> Option<u8>
+    ensures some { IfSome result (λ mark. IsMarkOver kind addr.now mark) }
+    ensures none { IfNone result ((len : ℕ) → len ≤ width addr.now → kind ≡ kind_at addr.now len → ⊥) }
+{
+    let length = length_of(kind, addr)?;
+    // A law, which does nothing.
+    has_octets(addr);
+    Some(mark_at(octets_of(addr), length))
 }
 
 /// A kind and the octets behind it.

@@ -11,6 +11,7 @@ mod group;
 mod index;
 mod key;
 mod kinds;
+mod marks;
 mod mask;
 mod number;
 
