@@ -1,3 +1,4 @@
+pub mod Handling
 pub mod Reaches
 pub mod Rounds
 pub mod Sends

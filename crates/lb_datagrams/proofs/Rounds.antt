@@ -62,7 +62,7 @@ events_on : (ls xs : List Line) (held : List Event) → (events_in ls ++ []) ++ 
 events_on ls xs held = ap (λ zs. zs ++ (events_in xs ++ held)) (append-nil (events_in ls)) ∙ sym (append_assoc (events_in ls) (events_in xs) held) ∙ ap (λ zs. zs ++ held) (sym (flat_map-append event_in ls xs))
 
 -- behind a first fault, nothing failed
-first_stays : (d : Option DeviceFault) (s s' s'' o o' o'' : ℕ) → d ≢ Some devices.Outside → FirstFault d s s' o o' → FirstFault None s' s'' o' o'' → FirstFault d s s'' o o''
+pub first_stays : (d : Option DeviceFault) (s s' s'' o o' o'' : ℕ) → d ≢ Some devices.Outside → FirstFault d s s' o o' → FirstFault None s' s'' o' o'' → FirstFault d s s'' o o''
 first_stays None s s' s'' o o' o'' clear one two = (two.0 ∙ one.0, two.1 ∙ one.1)
 first_stays (Some devices.Sockets) s s' s'' o o' o'' clear one two = let same = two.0 in let le = one.0 in (omega arith, rose_later s s' s'' one.1 (omega arith))
 first_stays (Some devices.Outside) s s' s'' o o' o'' clear one two = absurd (clear refl)
@@ -177,10 +177,3 @@ turns_within n m a b ls held device le one =
       stamps = record { stamps = one.stamps.stamps; said = one.stamps.said; few = omega arith; stamped = one.stamps.stamped };
       first = one.first;
     }
-
--- A round that met want of memory, behind others.
-pub turns_cut : (n : ℕ) (a b c : World) (ls : List Line) (device : Option DeviceFault) → device ≢ Some devices.Outside
-    → Turns n a b ls [] device → Turns 1 b c [] [] None → Turns (n + 1) a c ls [] device
-turns_cut n a b c ls device clear one two =
-    subst (λ zs. Turns (n + 1) a c zs [] device) (append-nil ls)
-    (turns_on n 1 a b c ls [] [] device None device one two (first_stays device a.failures b.failures c.failures a.outside b.outside c.outside clear one.first two.first))

@@ -1,14 +1,19 @@
 -- What rounds of a turn of datagrams do, before anything is sent.
-use Rattle.std.specs.Prelude.{◌≡◌, ℕ, ◌+◌, ◌≤◌, List, ◌++◌, Option, length, map}
+use Rattle.std.specs.Prelude.{◌≡◌, ℕ, ◌+◌, ◌≤◌, List, [], ◌∷◌, ◌++◌, Option, Some, None, length, map, option_to_list}
 use Rattle.lb_core.specs.declared.answer.Answer.{Answer}
 use Rattle.lb_core.specs.declared.event.Event.{Event}
 use Rattle.lb_datagrams.specs.Lines.{AreAsked}
 use Rattle.lb_lines.specs.Counts.{Grows}
-use Rattle.lb_lines.specs.Events.{heard, timeless}
-use Rattle.lb_lines.specs.Lines.{FirstFault, events_in, pairs}
+use Rattle.lb_lines.specs.Events.{event_of, heard, timeless}
+use Rattle.lb_lines.specs.Letter.{IsOutcome}
+use Rattle.lb_lines.specs.Lines.{FirstFault, answered_as, events_in, pairs}
 use Rattle.lb_lines.specs.Stamps.{Stamp, Stamped}
 use Rattle.lb_lines.specs.declared.report.DeviceFault.{DeviceFault}
 use Rattle.lb_lines.specs.declared.report.Line.{Line}
+use Rattle.lb_lines.specs.declared.report.Line.TheVariants as lines
+use Rattle.lb_lines.specs.declared.report.Outcome.{Outcome}
+use Rattle.lb_lines.specs.declared.report.Sending.TheVariants.{Nothing}
+use Rattle.lb_lines.specs.declared.report.Source.TheVariants as sources
 use Rattle.lb_lines.specs.declared.traffic.Datagram.{Datagram}
 
 -- what sockets, taker and outside tell: the datagrams given and taken, the failures of the sockets; the answered calls and the pairs;
@@ -44,3 +49,37 @@ pub record Turns (rounds : ℕ) (old new : World) (lines : List Line) (held : Li
   pub grows : Grows old.pairs new.pairs (pairs lines)
   pub stamps : Stamps old.said new.said (events_in lines ++ held) rounds
   pub first : FirstFault device old.failures new.failures old.outside new.outside
+
+-- one round, which puts its lines behind others
+pub record Round (old new : World) (before after : List Line) (held : List Event) (device : Option DeviceFault) : Type 0 where
+  pub more : List Line
+  pub put : after ≡ before ++ more
+  pub turns : Turns 1 old new more held device
+
+-- the line of an event that a datagram made, with what came of it; its send is to come
+abbrev pub asked_line : Event → Outcome → Line
+asked_line event outcome = lines.Event sources.Datagrams event outcome Nothing
+
+-- an event was handed to the desk: its line stands behind the others, and the taker has its answer, if there is one
+pub record Asks (event : Event) (before after : List Line) (answered answered' : ℕ) (told told' : List (Event × Answer)) : Type 0 where
+  pub outcome : Outcome
+  pub put : after ≡ before ++ asked_line event outcome ∷ []
+  pub is : IsOutcome event outcome
+  pub counted : answered' ≡ answered + length (answered_as event outcome)
+  pub grows : Grows told told' (answered_as event outcome)
+
+-- what an event led to: it was handed to the desk; or it is held, and nothing else has changed
+abbrev pub Leads : Event → Option Event → List Line → List Line → ℕ → ℕ → List (Event × Answer) → List (Event × Answer) → Type 0
+Leads event None before after answered answered' told told' = Asks event before after answered answered' told told'
+Leads event (Some held) before after answered answered' told told' = (held ≡ event) × (after ≡ before) × (answered' ≡ answered) × (told' ≡ told)
+
+-- what a datagram led to: its event, if it makes one, has this stamp, and is that of a line behind the others, or held
+pub record Handles (d : Datagram) (stamp : Stamp) (before after : List Line) (answered answered' : ℕ) (told told' : List (Event × Answer)) (held : List Event) : Type 0 where
+  pub more : List Line
+  pub put : after ≡ before ++ more
+  pub events : map timeless (events_in more ++ held) ≡ option_to_list (event_of d)
+  pub stamped : Stamped (events_in more ++ held) (stamp ∷ [])
+  pub few : length more + length held ≤ 1
+  pub asked : AreAsked more
+  pub counted : answered' ≡ answered + length (pairs more)
+  pub grows : Grows told told' (pairs more)

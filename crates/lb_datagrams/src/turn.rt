@@ -1,24 +1,25 @@
 //! The turn of datagrams.
 
-ghost use Rattle.std.specs.Prelude.{[], IfOk, IsTrue, List, None, OnErr, Some, false, is_some, length, map, option_to_list, vec_capacity, vec_len, ◌++◌, ◌+◌, ◌∷◌, ◌≡◌, ◌≢◌, ◌≤◌, ℕ};
-ghost use Rattle.lb_datagrams.specs.Lines.{AreAsked, AreLines, IsAsked};
-ghost use Rattle.lb_datagrams.specs.Turn.{Stamps, Turns, world};
+ghost use Rattle.std.specs.Prelude.{[], IfOk, IsTrue, List, None, OnErr, Some, false, is_some, length, map, option_to_list, vec_capacity, vec_len, ◌++◌, ◌+◌, ◌<◌, ◌∷◌, ◌≡◌, ◌≢◌, ◌≤◌, ℕ};
+ghost use Rattle.lb_core.specs.declared.event.Event.TheVariants.{Query, Reply};
+ghost use Rattle.lb_datagrams.specs.Lines.{AreLines};
+ghost use Rattle.lb_datagrams.specs.Turn.{Asks, Handles, Leads, Round, Stamps, Turns, asked_line, world};
 ghost use Rattle.lb_lines.specs.Counts.{Grows, Rose};
-ghost use Rattle.lb_lines.specs.Events.{event_at, event_of, heard, is_strange, timeless};
-ghost use Rattle.lb_lines.specs.Lines.{FirstFault, any_by_device, events_in, is_by_device, pairs};
-ghost use Rattle.lb_lines.specs.Stamps.{Stamped};
-ghost use Rattle.lb_lines.specs.Ways.{packets, sending_of};
+ghost use Rattle.lb_lines.specs.Events.{asker, heard, is_strange, timeless};
+ghost use Rattle.lb_lines.specs.Lines.{FirstFault, any_by_device, events_in, pairs};
+ghost use Rattle.lb_lines.specs.Ways.{packets};
 ghost use Rattle.lb_lines.specs.declared.report.DeviceFault.TheVariants as devices;
 ghost use Rattle.lb_wire.specs.Octets.{max_message};
+ghost use Rattle.lb_wire.specs.declared.transport.Kind.TheVariants as kinds;
 
 use crate::sending::send_all;
 use crate::spare::Spare;
 use lb_core::Event;
 use lb_lines::{
-    Datagram, Datagrams, DeviceFault, Endpoint, Gate, Line, Outside, Received, Report, Roster,
-    Sending, Socket, Source, Taker, add_line, first_fault, outcome_of,
+    Datagram, Datagrams, DeviceFault, Endpoint, Gate, Line, Outcome, Outside, Received, Report,
+    Roster, Sending, Socket, Source, Taker, excuse, first_fault,
 };
-use lb_wire::{Kind, Lane, MAX_MESSAGE, Octets, Origin};
+use lb_wire::{Kind, Lane, MAX_MESSAGE, Octets, Origin, ServerId};
 use std::alloc::{AllocError, Global};
 use std::mem;
 
@@ -93,9 +94,8 @@ fn all_rounds<S: Datagrams, T: Taker, G: Gate, O: Outside>(
 {
     let mut device = None;
     for _ in 0..MOST {
-        let mut line = None;
         let room = &mut spare.room;
-        let step = match one_round(alloc, room, &mut line, sockets, taker, gate, outside) {
+        let step = match one_round(alloc, room, &mut lines, sockets, taker, gate, outside) {
             Ok(step) => step,
             Err(_refused) => return report(lines, device, None),
         };
@@ -104,7 +104,6 @@ fn all_rounds<S: Datagrams, T: Taker, G: Gate, O: Outside>(
             held,
             is_last,
         } = step;
-        add_line(&mut lines, line);
         device = first_fault(device, found);
         if is_last {
             return report(lines, device, held);
@@ -148,19 +147,21 @@ fn no_event(device: Option<DeviceFault>, is_last: bool) -> Step
 fn one_round<S: Datagrams, T: Taker, G: Gate, O: Outside>(
     alloc: Global,
     spare: &mut Vec<u8>,
-    line: &mut Option<Line>,
+    lines: &mut Vec<Line>,
     sockets: &mut S,
     taker: &mut T,
     gate: &G,
     outside: &mut O,
 ) -> Result<Step, AllocError>
     requires empty { vec_len spare.old ≡ 0 }
-    requires none { line.old ≡ None }
+    requires place { vec_len lines.old < vec_capacity lines.old }
     ensures empty { vec_len spare.new ≡ 0 }
-    ensures turned { IfOk result (λ s. Turns 1 (world (S.given sockets.old) (S.taken sockets.old) (S.failures sockets.old) (T.answered taker.old) (T.pairs taker.old) (O.said outside.old) (O.failures outside.old)) (world (S.given sockets.new) (S.taken sockets.new) (S.failures sockets.new) (T.answered taker.new) (T.pairs taker.new) (O.said outside.new) (O.failures outside.new)) (option_to_list line.new) (option_to_list s.held) s.device) }
-    ensures refused { OnErr result (Turns 1 (world (S.given sockets.old) (S.taken sockets.old) (S.failures sockets.old) (T.answered taker.old) (T.pairs taker.old) (O.said outside.old) (O.failures outside.old)) (world (S.given sockets.new) (S.taken sockets.new) (S.failures sockets.new) (T.answered taker.new) (T.pairs taker.new) (O.said outside.new) (O.failures outside.new)) [] [] None) }
+    ensures turned { IfOk result (λ s. Round (world (S.given sockets.old) (S.taken sockets.old) (S.failures sockets.old) (T.answered taker.old) (T.pairs taker.old) (O.said outside.old) (O.failures outside.old)) (world (S.given sockets.new) (S.taken sockets.new) (S.failures sockets.new) (T.answered taker.new) (T.pairs taker.new) (O.said outside.new) (O.failures outside.new)) lines.old.items lines.new.items (option_to_list s.held) s.device) }
+    ensures refused { OnErr result (Round (world (S.given sockets.old) (S.taken sockets.old) (S.failures sockets.old) (T.answered taker.old) (T.pairs taker.old) (O.said outside.old) (O.failures outside.old)) (world (S.given sockets.new) (S.taken sockets.new) (S.failures sockets.new) (T.answered taker.new) (T.pairs taker.new) (O.said outside.new) (O.failures outside.new)) lines.old.items lines.new.items [] None) }
     ensures clear { IfOk result (λ s. s.is_last ≡ false → (s.held ≡ None) × (s.device ≢ Some devices.Outside)) }
     ensures same { S.listens sockets.new ≡ S.listens sockets.old }
+    ensures len { vec_len lines.new ≤ vec_len lines.old + 1 }
+    ensures room { vec_capacity lines.new ≡ vec_capacity lines.old }
 {
     spare.reserve(MAX_MESSAGE)?;
     let Some((now, word)) = outside.ask() else {
@@ -168,7 +169,7 @@ fn one_round<S: Datagrams, T: Taker, G: Gate, O: Outside>(
     };
     match sockets.receive()? {
         Received::Packet(datagram) => Ok(packet(
-            alloc, spare, line, taker, gate, now, word, datagram,
+            alloc, spare, lines, taker, gate, now, word, datagram,
         )),
         Received::Nothing => Ok(no_event(None, true)),
         Received::Failed => Ok(no_event(Some(DeviceFault::Sockets), false)),
@@ -176,10 +177,11 @@ fn one_round<S: Datagrams, T: Taker, G: Gate, O: Outside>(
 }
 
 /// Has one datagram answered, which was read at this moment, with this word.
+#[inline(always)]
 fn packet<T: Taker, G: Gate>(
     alloc: Global,
     spare: &mut Vec<u8>,
-    line: &mut Option<Line>,
+    lines: &mut Vec<Line>,
     taker: &mut T,
     gate: &G,
     now: u64,
@@ -187,17 +189,14 @@ fn packet<T: Taker, G: Gate>(
     datagram: Datagram,
 ) -> Step
     requires empty { vec_len spare.old ≡ 0 }
-    requires room { max_message ≤ vec_capacity spare.old }
-    requires none { line.old ≡ None }
+    requires wide { max_message ≤ vec_capacity spare.old }
+    requires place { vec_len lines.old < vec_capacity lines.old }
     ensures empty { vec_len spare.new ≡ 0 }
-    ensures events { map timeless (events_in (option_to_list line.new) ++ option_to_list result.held) ≡ option_to_list (event_of datagram) }
-    ensures stamped { Stamped (events_in (option_to_list line.new) ++ option_to_list result.held) ((now, word) ∷ []) }
-    ensures few { length (option_to_list line.new) + length (option_to_list result.held) ≤ 1 }
-    ensures asked { AreAsked (option_to_list line.new) }
-    ensures answered { T.answered taker.new ≡ T.answered taker.old + length (pairs (option_to_list line.new)) }
-    ensures pairs { Grows (T.pairs taker.old) (T.pairs taker.new) (pairs (option_to_list line.new)) }
+    ensures handled { Handles datagram (now, word) lines.old.items lines.new.items (T.answered taker.old) (T.answered taker.new) (T.pairs taker.old) (T.pairs taker.new) (option_to_list result.held) }
     ensures device { result.device ≡ None }
     ensures last { result.is_last ≡ false → result.held ≡ None }
+    ensures len { vec_len lines.new ≤ vec_len lines.old + 1 }
+    ensures room { vec_capacity lines.new ≡ vec_capacity lines.old }
 {
     let Datagram {
         socket,
@@ -208,7 +207,37 @@ fn packet<T: Taker, G: Gate>(
         return no_event(None, false);
     }
     let copy = copied(alloc, spare, &bytes);
-    let event = event_made(now, word, socket, peer, bytes);
+    match socket {
+        Socket::Listener(front) => {
+            let event = query_made(now, word, front, peer, bytes);
+            let told = query_made(now, word, front, peer, copy);
+            handled(lines, taker, gate, event, told)
+        }
+        Socket::Server(server, number, _) => {
+            let event = reply_made(now, server, number, bytes);
+            let told = reply_made(now, server, number, copy);
+            handled(lines, taker, gate, event, told)
+        }
+    }
+}
+
+/// Has an event answered, unless the gate holds it.
+#[inline(always)]
+fn handled<T: Taker, G: Gate>(
+    lines: &mut Vec<Line>,
+    taker: &mut T,
+    gate: &G,
+    event: Event,
+    told: Event,
+) -> Step
+    requires told { told ≡ event }
+    requires place { vec_len lines.old < vec_capacity lines.old }
+    ensures led { Leads event result.held lines.old.items lines.new.items (T.answered taker.old) (T.answered taker.new) (T.pairs taker.old) (T.pairs taker.new) }
+    ensures device { result.device ≡ None }
+    ensures last { result.is_last ≡ false → result.held ≡ None }
+    ensures len { vec_len lines.new ≤ vec_len lines.old + 1 }
+    ensures room { vec_capacity lines.new ≡ vec_capacity lines.old }
+{
     if !gate.pass(&event) {
         return Step {
             device: None,
@@ -216,49 +245,69 @@ fn packet<T: Taker, G: Gate>(
             is_last: true,
         };
     }
-    let told = event_made(now, word, socket, peer, copy);
-    *line = Some(answered(taker, event, told));
+    answered(lines, taker, event, told);
     no_event(None, false)
 }
 
 /// Hands an event to the desk. The line has an equal event; its send is to come.
-fn answered<T: Taker>(taker: &mut T, event: Event, told: Event) -> Line
-    requires { told ≡ event }
-    ensures event { events_in (result ∷ []) ≡ event ∷ [] }
-    ensures asked { IsAsked result }
-    ensures answered { T.answered taker.new ≡ T.answered taker.old + length (pairs (result ∷ [])) }
-    ensures pairs { Grows (T.pairs taker.old) (T.pairs taker.new) (pairs (result ∷ [])) }
+#[inline(always)]
+fn answered<T: Taker>(lines: &mut Vec<Line>, taker: &mut T, event: Event, told: Event)
+    requires told { told ≡ event }
+    requires place { vec_len lines.old < vec_capacity lines.old }
+    ensures asked { Asks event lines.old.items lines.new.items (T.answered taker.old) (T.answered taker.new) (T.pairs taker.old) (T.pairs taker.new) }
+    ensures len { vec_len lines.new ≤ vec_len lines.old + 1 }
+    ensures room { vec_capacity lines.new ≡ vec_capacity lines.old }
 {
-    let outcome = outcome_of(taker, event);
-    Line::Event(Source::Datagrams, told, outcome, Sending::Nothing)
+    match taker.take(event) {
+        Ok(answer) => add(lines, told, Outcome::Answered(answer)),
+        Err((fault, event)) => add(lines, told, Outcome::Fault(fault, excuse(event))),
+    }
 }
 
-/// The event that a datagram makes.
-fn event_made(now: u64, word: u16, socket: Socket, peer: Endpoint, bytes: Octets) -> Event
-    ensures { result ≡ event_at now word socket peer bytes }
+/// Puts a line behind the others, for which room was taken. Its send is to come.
+#[inline(always)]
+fn add(lines: &mut Vec<Line>, told: Event, outcome: Outcome)
+    requires place { vec_len lines.old < vec_capacity lines.old }
+    ensures put { lines.new.items ≡ lines.old.items ++ asked_line told outcome ∷ [] }
+    ensures len { vec_len lines.new ≤ vec_len lines.old + 1 }
+    ensures room { vec_capacity lines.new ≡ vec_capacity lines.old }
 {
-    match socket {
-        Socket::Listener(front) => Event::Query {
-            now,
-            origin: Origin {
-                front,
-                slot: 0,
-                source: peer.addr,
-                port: peer.port,
-            },
+    let line = Line::Event(Source::Datagrams, told, outcome, Sending::Nothing);
+    lines.push_reserved(line);
+}
+
+/// The event of a datagram that came to a listener.
+#[inline(always)]
+fn query_made(now: u64, word: u16, front: u8, peer: Endpoint, bytes: Octets) -> Event
+    ensures { result ≡ Query now (asker front peer) kinds.Datagram word bytes }
+{
+    Event::Query {
+        now,
+        origin: Origin {
+            front,
+            slot: 0,
+            source: peer.addr,
+            port: peer.port,
+        },
+        kind: Kind::Datagram,
+        word,
+        bytes,
+    }
+}
+
+/// The event of a datagram that came from a server.
+#[inline(always)]
+fn reply_made(now: u64, server: ServerId, number: u8, bytes: Octets) -> Event
+    ensures { result ≡ Reply now server (record { kind = kinds.Datagram; number = number }) bytes }
+{
+    Event::Reply {
+        now,
+        server,
+        lane: Lane {
             kind: Kind::Datagram,
-            word,
-            bytes,
+            number,
         },
-        Socket::Server(server, number, _) => Event::Reply {
-            now,
-            server,
-            lane: Lane {
-                kind: Kind::Datagram,
-                number,
-            },
-            bytes,
-        },
+        bytes,
     }
 }
 

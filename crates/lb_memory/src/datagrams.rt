@@ -116,6 +116,7 @@ impl<R: Wait> Datagrams for MemoryDatagrams<'_, R> {
 
     ghost listens = { λ m front. nat_lt front m.listeners };
 
+    #[inline(always)]
     fn receive(&mut self) -> Result<Received, AllocError> {
         self.reads = self.reads.wrapping_add(1);
         if self.reads == self.failing.refused {
@@ -138,6 +139,7 @@ impl<R: Wait> Datagrams for MemoryDatagrams<'_, R> {
         Ok(())
     }
 
+    #[inline(always)]
     fn send(&mut self, socket: Socket, to: Endpoint, bytes: &Octets) -> Result<(), Why> {
         if let Socket::Listener(front) = socket
             && front >= self.listeners

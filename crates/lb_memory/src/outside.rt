@@ -72,6 +72,7 @@ impl<R: Wait> Outside for MemoryOutside<'_, R> {
 
     ghost failures = { λ o. o.failures };
 
+    #[inline(always)]
     fn ask(&mut self) -> Option<(u64, u16)> {
         let next = self.moments.lock(self.rt).next();
         match next {

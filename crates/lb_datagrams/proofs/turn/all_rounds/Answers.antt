@@ -1,6 +1,6 @@
-use Rattle.std.proofs.Common.{rules, ◌+◌, [], option_to_list, refl, arith}
-use Rattle.lb_datagrams.specs.Turn.{Turns, World, world}
-use Rattle.lb_datagrams.proofs.Rounds.{turns_cut, turns_none, turns_on, turns_within}
+use Rattle.std.proofs.Common.{rules, ◌+◌, [], None, option_to_list, refl, arith}
+use Rattle.lb_datagrams.specs.Turn.{Round, World, world}
+use Rattle.lb_datagrams.proofs.Rounds.{first_stays, turns_none, turns_on, turns_within}
 use Rattle.lb_datagrams.proofs.turn.all_rounds.Goals as goal
 
 pub loop-init : goal.loop-init
@@ -11,7 +11,13 @@ loop-init g c =
 pub returns-in-Err-clause-turned : goal.returns-in-Err-clause-turned
 returns-in-Err-clause-turned g c =
     let inv = c.loop.invariant in
-    rw c.report.ensures (turns_within (c.loop.counter + 1) 64 _ _ _ _ _ (omega arith) (turns_cut c.loop.counter _ _ _ _ _ inv.1 inv.0 (search rules)))
+    let old : World = world (g.S.Datagrams.given c.args.sockets.now) (g.S.Datagrams.taken c.args.sockets.now) (g.S.Datagrams.failures c.args.sockets.now) (g.T.Taker.answered c.args.taker.now) (g.T.Taker.pairs c.args.taker.now) (g.O.Outside.said c.args.outside.now) (g.O.Outside.failures c.args.outside.now) in
+    let mid : World = world (g.S.Datagrams.given c.loop.sockets) (g.S.Datagrams.taken c.loop.sockets) (g.S.Datagrams.failures c.loop.sockets) (g.T.Taker.answered c.loop.taker) (g.T.Taker.pairs c.loop.taker) (g.O.Outside.said c.loop.outside) (g.O.Outside.failures c.loop.outside) in
+    let new : World = world (g.S.Datagrams.given c.one_round.new.sockets) (g.S.Datagrams.taken c.one_round.new.sockets) (g.S.Datagrams.failures c.one_round.new.sockets) (g.T.Taker.answered c.one_round.new.taker) (g.T.Taker.pairs c.one_round.new.taker) (g.O.Outside.said c.one_round.new.outside) (g.O.Outside.failures c.one_round.new.outside) in
+    let round : Round mid new c.loop.lines.items c.one_round.new.lines.items [] None = c.in-Err.ensures.refused in
+    rw c.report.ensures (rw round.put (turns_within (c.loop.counter + 1) 64 old new _ _ _ (omega arith)
+    (turns_on c.loop.counter 1 old mid new c.loop.lines.items round.more [] c.loop.device None c.loop.device inv.0 round.turns
+    (first_stays c.loop.device old.failures mid.failures new.failures old.outside mid.outside new.outside inv.1 inv.0.first round.turns.first))))
 
 pub returns-then-is_last-clause-turned : goal.returns-then-is_last-clause-turned
 returns-then-is_last-clause-turned g c =
@@ -19,9 +25,9 @@ returns-then-is_last-clause-turned g c =
     let old : World = world (g.S.Datagrams.given c.args.sockets.now) (g.S.Datagrams.taken c.args.sockets.now) (g.S.Datagrams.failures c.args.sockets.now) (g.T.Taker.answered c.args.taker.now) (g.T.Taker.pairs c.args.taker.now) (g.O.Outside.said c.args.outside.now) (g.O.Outside.failures c.args.outside.now) in
     let mid : World = world (g.S.Datagrams.given c.loop.sockets) (g.S.Datagrams.taken c.loop.sockets) (g.S.Datagrams.failures c.loop.sockets) (g.T.Taker.answered c.loop.taker) (g.T.Taker.pairs c.loop.taker) (g.O.Outside.said c.loop.outside) (g.O.Outside.failures c.loop.outside) in
     let new : World = world (g.S.Datagrams.given c.one_round.new.sockets) (g.S.Datagrams.taken c.one_round.new.sockets) (g.S.Datagrams.failures c.one_round.new.sockets) (g.T.Taker.answered c.one_round.new.taker) (g.T.Taker.pairs c.one_round.new.taker) (g.O.Outside.said c.one_round.new.outside) (g.O.Outside.failures c.one_round.new.outside) in
-    let step : Turns 1 mid new (option_to_list c.one_round.new.line) (option_to_list c.in-Ok.step.held) c.in-Ok.step.device = c.in-Ok.ensures.turned in
-    let first = c.first_fault-device.ensures.first _ _ _ _ _ _ inv.1 inv.0.first step.first in
-    rw c.report-then-is_last.ensures (rw c.add_line.ensures.lines (turns_within (c.loop.counter + 1) 64 old new _ _ _ (omega arith) (turns_on c.loop.counter 1 old mid new c.loop.lines.items (option_to_list c.one_round.new.line) (option_to_list c.in-Ok.step.held) c.loop.device c.in-Ok.step.device _ inv.0 step first)))
+    let round : Round mid new c.loop.lines.items c.one_round.new.lines.items (option_to_list c.in-Ok.step.held) c.in-Ok.step.device = c.in-Ok.ensures.turned in
+    let first = c.first_fault-device.ensures.first _ _ _ _ _ _ inv.1 inv.0.first round.turns.first in
+    rw c.report-then-is_last.ensures (rw round.put (turns_within (c.loop.counter + 1) 64 old new _ _ _ (omega arith) (turns_on c.loop.counter 1 old mid new c.loop.lines.items round.more (option_to_list c.in-Ok.step.held) c.loop.device c.in-Ok.step.device _ inv.0 round.turns first)))
 
 pub loop-preserved : goal.loop-preserved
 loop-preserved g c =
@@ -30,10 +36,10 @@ loop-preserved g c =
     let mid : World = world (g.S.Datagrams.given c.loop.sockets) (g.S.Datagrams.taken c.loop.sockets) (g.S.Datagrams.failures c.loop.sockets) (g.T.Taker.answered c.loop.taker) (g.T.Taker.pairs c.loop.taker) (g.O.Outside.said c.loop.outside) (g.O.Outside.failures c.loop.outside) in
     let new : World = world (g.S.Datagrams.given c.one_round.new.sockets) (g.S.Datagrams.taken c.one_round.new.sockets) (g.S.Datagrams.failures c.one_round.new.sockets) (g.T.Taker.answered c.one_round.new.taker) (g.T.Taker.pairs c.one_round.new.taker) (g.O.Outside.said c.one_round.new.outside) (g.O.Outside.failures c.one_round.new.outside) in
     let clear = c.in-Ok.ensures.clear c.if-is_last.false in
-    let step : Turns 1 mid new (option_to_list c.one_round.new.line) (option_to_list c.in-Ok.step.held) c.in-Ok.step.device = c.in-Ok.ensures.turned in
-    let quiet : Turns 1 mid new (option_to_list c.one_round.new.line) [] c.in-Ok.step.device = rw clear.0 at step in
-    let first = c.first_fault-device.ensures.first _ _ _ _ _ _ inv.1 inv.0.first step.first in (
-      rw c.add_line.ensures.lines (turns_on c.loop.counter 1 old mid new c.loop.lines.items (option_to_list c.one_round.new.line) [] c.loop.device c.in-Ok.step.device _ inv.0 quiet first),
+    let round : Round mid new c.loop.lines.items c.one_round.new.lines.items (option_to_list c.in-Ok.step.held) c.in-Ok.step.device = c.in-Ok.ensures.turned in
+    let quiet : Round mid new c.loop.lines.items c.one_round.new.lines.items [] c.in-Ok.step.device = rw clear.0 at round in
+    let first = c.first_fault-device.ensures.first _ _ _ _ _ _ inv.1 inv.0.first quiet.turns.first in (
+      rw quiet.put (turns_on c.loop.counter 1 old mid new c.loop.lines.items quiet.more [] c.loop.device c.in-Ok.step.device _ inv.0 quiet.turns first),
       c.first_fault-device.ensures.clear inv.1 clear.1,
       search rules,
       search rules,
