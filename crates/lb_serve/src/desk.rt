@@ -1,29 +1,20 @@
-//! The desk that the threads of serving call, what they are made of, and the desk's closing.
+//! The desk that the threads of serving call, and its closing.
 
-ghost use Rattle.std.specs.Prelude.{Err, IfErr, IfOk, List, OnOk, Option, map, string_bytes, ◌≡◌, ℕ};
+ghost use Rattle.std.specs.Prelude.{Err, IfErr, IfOk, List, OnOk, Option, string_bytes, ◌≡◌, ℕ};
 ghost use Rattle.std.specs.Io.KnownBytes.{Appends};
 ghost use Rattle.lb_core.specs.Snapshot.{Snapshot, snapshot_of};
-ghost use Rattle.lb_serve.specs.Listening.{front_of};
 ghost use Rattle.lb_serve.specs.Serving.{Closes, Served, closed_text, output_end, ready_text};
 
-use crate::console::Console;
 use crate::fault::Fault;
-use crate::gate::OpenGate;
-use crate::halt::Halt;
-use crate::listening::{Listening, fronts};
-use crate::operator::{Operator, roster_of};
-use crate::threads::{FrontEnd, Fronting, LoopParts, LoopsEnd, Over, run_beside};
+use crate::listening::Listening;
+use crate::parts::{DeskConsole, DeskFront, Loops, Runners, Seats, prepared};
+use crate::threads::{FrontEnd, LoopsEnd, Over, run_beside};
 use lb_core::Balancer;
 use lb_desk::{CloseFault, Desk, Naming, Seat};
-use lb_doh::{HttpPosts, Waiting, posts_cross_threads};
-use lb_front::{FrontParts, front_runtime};
-use lb_loops::{
-    Caller, ClockParts, DatagramParts, Ended, Front, Outbox, Parts, Receiver, Roster, Sender,
-    StreamParts, callers_cross_threads,
-};
+use lb_doh::posts_cross_threads;
+use lb_loops::{Caller, Ended, callers_cross_threads};
 use lb_program::{Setup, write_line};
 use lb_sockets::{
-    ListenSockets, PollWaker, SystemOutside, TcpListeners, TcpSockets, UdpSockets,
     moments_cross_threads, sockets_cross_threads, streams_cross_threads, wakers_are_shared,
 };
 use mio::net::TcpStream;
@@ -32,46 +23,14 @@ use std::io::Write;
 use std::marker::Brand;
 use std::net::{Net, TcpListener};
 use std::random::RandomSource;
-use std::sync::atomic::AtomicBool;
+use std::sync::Wait;
 use std::sync::ledger::Blank;
-use std::sync::{Arc, Mutex, Wait};
 use std::thread::Threads;
 use std::time::Clock;
 use std::{io, net};
 
 /// The seats of the desk: the loops of datagrams, of streams and of the clock, the console, and the front of DNS on HTTP.
 const SEATS: u8 = 5;
-
-/// How many jobs one loop may have for another.
-const JOBS: usize = 4_096;
-
-/// The seats that threads call from.
-type Seats<J> = (Seat<J>, Seat<J>, Seat<J>, Seat<J>, Seat<J>);
-
-/// What the loops of a desk are made of.
-type Loops<'a, R, J> = LoopParts<
-    UdpSockets<'a, R>,
-    TcpSockets<'a, R>,
-    Caller<'a, R, J>,
-    SystemOutside<'a, R>,
-    HttpPosts<'a, R>,
->;
-
-/// The console of a desk.
-type DeskConsole<'a, R, J> = Console<'a, R, Caller<'a, R, J>, SystemOutside<'a, R>>;
-
-/// The front of a desk.
-type DeskFront<'a, R, J> = Fronting<Caller<'a, R, J>, SystemOutside<'a, R>>;
-
-/// What runs at a desk.
-#[derive(Drop)]
-struct Runners<'a, R: Wait + Net + Clock + RandomSource, J: Naming> {
-    loops: Loops<'a, R, J>,
-    console: DeskConsole<'a, R, J>,
-    /// What wakes the console.
-    over: Over,
-    front: DeskFront<'a, R, J>,
-}
 
 /// What has run at a desk.
 type Ran<'a, R, J> = (
@@ -315,167 +274,6 @@ fn left_of<
 ) -> Result<Left<J>, Fault> {
     let (loops, (console, front)) = run(rt, alloc, loops, console, over, front);
     left_by(loops, console, front)
-}
-
-/// The sockets of the three loops.
-#[derive(Drop)]
-struct Sockets<'a, R: Net + Clock> {
-    datagrams: UdpSockets<'a, R>,
-    streams: TcpSockets<'a, R>,
-    clock: UdpSockets<'a, R>,
-}
-
-impl<'a, R: Net + Clock> Sockets<'a, R> {
-    /// Those that listen, and none of servers yet. The errors are the system's, and want of memory. Listeners of the console are left.
-    fn made(
-        rt: &'a R,
-        alloc: Global,
-        datagrams: Arc<ListenSockets>,
-        streams: TcpListeners,
-    ) -> Result<Sockets<'a, R>, Fault> {
-        Ok(Sockets {
-            datagrams: UdpSockets::reading(rt, alloc, Arc::try_clone(&datagrams)?)?,
-            streams: TcpSockets::listening(rt, alloc, streams)?,
-            clock: UdpSockets::sending(rt, alloc, datagrams)?,
-        })
-    }
-
-    /// What ends the loops, by this flag.
-    fn halt(&self, stop: &Arc<AtomicBool>) -> Result<Halt, Fault> {
-        Ok(Halt {
-            stop: Arc::try_clone(stop)?,
-            datagrams: self.datagrams.waker()?,
-            streams: self.streams.waker()?,
-            clock: self.clock.waker()?,
-        })
-    }
-}
-
-/// What the loops, the console and the front are made of.
-fn prepared<'a, J: Naming, R: Wait + Net + Clock + RandomSource>(
-    rt: &'a R,
-    alloc: Global,
-    desk: &'a Desk<J>,
-    seats: Seats<J>,
-    setup: Setup,
-    listening: Listening,
-) -> Result<Runners<'a, R, J>, Fault>
-    ensures { IfOk result (λ p. (p.loops.streams.fronts.items ≡ map front_of setup.listeners) × (p.loops.clock.fronts.items ≡ map front_of setup.listeners)) }
-{
-    let (first, second, third, fourth, fifth) = seats;
-    let Listening {
-        datagrams,
-        streams,
-        http,
-        consoles,
-    } = listening;
-    let sockets = Sockets::made(rt, alloc, datagrams, streams)?;
-    let outside = SystemOutside::new(rt)?;
-    let stop = Arc::new(alloc, AtomicBool::new(false))?;
-    let roster = Arc::new(alloc, Mutex::new(roster_of(alloc, setup.servers())?))?;
-    let halt = sockets.halt(&stop)?;
-    let requests = Arc::new(alloc, Mutex::new(Waiting::new(alloc)))?;
-    let (sender, second_sender, receiver) = Outbox::made(alloc, JOBS)?;
-    let front = Fronting {
-        parts: FrontParts {
-            runtime: front_runtime(&(rt, alloc), http.as_slice()).map_err(Fault::Front)?,
-            listeners: http,
-            taker: Caller::new(rt, desk, fifth),
-            sender,
-            outside: outside.beside(),
-            streams: sockets.streams.waker()?,
-            requests: Arc::try_clone(&requests)?,
-            stop: Arc::try_clone(&stop)?,
-        },
-        halt: sockets.halt(&stop)?,
-    };
-    let fronts = (
-        fronts(alloc, setup.listeners())?,
-        fronts(alloc, setup.listeners())?,
-    );
-    let operator = Operator::new(
-        alloc,
-        Caller::new(rt, desk, fourth),
-        outside.beside(),
-        setup.into_servers(),
-        Arc::try_clone(&roster)?,
-    );
-    let console = Console::made(rt, rt, alloc, consoles, operator, halt)?;
-    let over = Over {
-        waker: console.waker()?,
-    };
-    let takers = (
-        Caller::new(rt, desk, first),
-        Caller::new(rt, desk, second),
-        Caller::new(rt, desk, third),
-    );
-    let around = (roster, sockets.halt(&stop)?);
-    let posts = (
-        HttpPosts::new(rt, alloc, Arc::try_clone(&requests)?),
-        HttpPosts::new(rt, alloc, requests),
-    );
-    let jobs = (second_sender, receiver);
-    Ok(Runners {
-        loops: parts_of(sockets, outside, takers, fronts, posts, jobs, around),
-        console,
-        over,
-        front,
-    })
-}
-
-/// The handlers of events of the three loops.
-type Callers<'a, R, J> = (Caller<'a, R, J>, Caller<'a, R, J>, Caller<'a, R, J>);
-
-/// What the loops are made of.
-fn parts_of<'a, J: Naming, R: Wait + Net + Clock + RandomSource>(
-    sockets: Sockets<'a, R>,
-    outside: SystemOutside<'a, R>,
-    takers: Callers<'a, R, J>,
-    fronts: (Vec<Front>, Vec<Front>),
-    posts: (HttpPosts<'a, R>, HttpPosts<'a, R>),
-    jobs: (Sender, Receiver),
-    around: (Arc<Mutex<Roster>>, Halt),
-) -> Loops<'a, R, J>
-    ensures { (result.streams.fronts ≡ fronts.0) × (result.clock.fronts ≡ fronts.1) }
-{
-    let (sender, receiver) = jobs;
-    let (roster, halt) = around;
-    let (streams_outside, clock_outside) = (outside.beside(), outside.beside());
-    let Halt {
-        stop,
-        datagrams,
-        streams,
-        clock,
-    } = halt;
-    Parts {
-        datagrams: DatagramParts {
-            sockets: sockets.datagrams,
-            taker: takers.0,
-            outside,
-        },
-        streams: StreamParts {
-            sockets: sockets.streams,
-            receiver,
-            fronts: fronts.0,
-            posts: posts.0,
-            taker: takers.1,
-            outside: streams_outside,
-        },
-        clock: ClockParts {
-            sockets: sockets.clock,
-            sender,
-            fronts: fronts.1,
-            posts: posts.1,
-            taker: takers.2,
-            outside: clock_outside,
-        },
-        roster,
-        gate: OpenGate,
-        stop,
-        datagrams_waker: datagrams,
-        streams_waker: streams,
-        clock_waker: clock,
-    }
 }
 
 /// Runs the loops, the console and the front. It stands alone, so that the search for what lets them cross to threads ends.

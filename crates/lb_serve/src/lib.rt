@@ -11,6 +11,7 @@ mod gate;
 mod halt;
 mod listening;
 mod operator;
+mod parts;
 mod sentences;
 mod serving;
 mod threads;

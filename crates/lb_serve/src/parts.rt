@@ -1,0 +1,277 @@
+//! What runs at a desk, and what it is made of.
+
+ghost use Rattle.std.specs.Prelude.{IfOk, map, ◌≡◌};
+ghost use Rattle.lb_serve.specs.Listening.{front_of};
+
+use crate::console::Console;
+use crate::fault::Fault;
+use crate::gate::OpenGate;
+use crate::halt::Halt;
+use crate::listening::{Listening, fronts};
+use crate::operator::{Operator, roster_of};
+use crate::threads::{Fronting, LoopParts, Over};
+use lb_desk::{Desk, Naming, Seat};
+use lb_doh::{HttpPosts, Requests, Waiting};
+use lb_front::{Bound, FrontParts, front_runtime};
+use lb_loops::{
+    Caller, ClockParts, DatagramParts, Front, Outbox, Parts, Receiver, Roster, Sender, StreamParts,
+};
+use lb_program::{ServerList, ServerPlace, Setup};
+use lb_sockets::{ListenSockets, SystemOutside, TcpListeners, TcpSockets, UdpSockets};
+use mio::net::TcpListener;
+use std::alloc::Global;
+use std::net::Net;
+use std::random::RandomSource;
+use std::sync::atomic::AtomicBool;
+use std::sync::{Arc, Mutex, Wait};
+use std::time::Clock;
+
+/// How many jobs one loop may have for another.
+const JOBS: usize = 4_096;
+
+/// The seats that threads call from.
+pub(crate) type Seats<J> = (Seat<J>, Seat<J>, Seat<J>, Seat<J>, Seat<J>);
+
+/// What the loops of a desk are made of.
+pub(crate) type Loops<'a, R, J> = LoopParts<
+    UdpSockets<'a, R>,
+    TcpSockets<'a, R>,
+    Caller<'a, R, J>,
+    SystemOutside<'a, R>,
+    HttpPosts<'a, R>,
+>;
+
+/// The console of a desk.
+pub(crate) type DeskConsole<'a, R, J> = Console<'a, R, Caller<'a, R, J>, SystemOutside<'a, R>>;
+
+/// The front of a desk.
+pub(crate) type DeskFront<'a, R, J> = Fronting<Caller<'a, R, J>, SystemOutside<'a, R>>;
+
+/// What runs at a desk.
+#[derive(Drop)]
+pub(crate) struct Runners<'a, R: Wait + Net + Clock + RandomSource, J: Naming> {
+    pub(crate) loops: Loops<'a, R, J>,
+    pub(crate) console: DeskConsole<'a, R, J>,
+    /// What wakes the console.
+    pub(crate) over: Over,
+    pub(crate) front: DeskFront<'a, R, J>,
+}
+
+/// The sockets of the three loops.
+#[derive(Drop)]
+struct Sockets<'a, R: Net + Clock> {
+    datagrams: UdpSockets<'a, R>,
+    streams: TcpSockets<'a, R>,
+    clock: UdpSockets<'a, R>,
+}
+
+impl<'a, R: Net + Clock> Sockets<'a, R> {
+    /// Those that listen, and none of servers yet. The errors are the system's, and want of memory. Listeners of the console are left.
+    fn made(
+        rt: &'a R,
+        alloc: Global,
+        datagrams: Arc<ListenSockets>,
+        streams: TcpListeners,
+    ) -> Result<Sockets<'a, R>, Fault> {
+        Ok(Sockets {
+            datagrams: UdpSockets::reading(rt, alloc, Arc::try_clone(&datagrams)?)?,
+            streams: TcpSockets::listening(rt, alloc, streams)?,
+            clock: UdpSockets::sending(rt, alloc, datagrams)?,
+        })
+    }
+
+    /// What ends the loops, by this flag.
+    fn halt(&self, stop: &Arc<AtomicBool>) -> Result<Halt, Fault> {
+        Ok(Halt {
+            stop: Arc::try_clone(stop)?,
+            datagrams: self.datagrams.waker()?,
+            streams: self.streams.waker()?,
+            clock: self.clock.waker()?,
+        })
+    }
+}
+
+/// What several threads share.
+#[derive(Drop)]
+struct Shared {
+    /// Whether serving is to end.
+    stop: Arc<AtomicBool>,
+    roster: Arc<Mutex<Roster>>,
+    /// The requests by HTTP that wait for their answers.
+    requests: Arc<Requests>,
+}
+
+impl Shared {
+    /// A roster of these servers; nothing waits yet.
+    fn made(alloc: Global, servers: &[ServerPlace]) -> Result<Shared, Fault> {
+        Ok(Shared {
+            stop: Arc::new(alloc, AtomicBool::new(false))?,
+            roster: Arc::new(alloc, Mutex::new(roster_of(alloc, servers)?))?,
+            requests: Arc::new(alloc, Mutex::new(Waiting::new(alloc)))?,
+        })
+    }
+
+    /// What hands answers to the requests by HTTP.
+    fn posts<'a, R: Wait>(&self, rt: &'a R, alloc: Global) -> Result<HttpPosts<'a, R>, Fault> {
+        Ok(HttpPosts::new(rt, alloc, Arc::try_clone(&self.requests)?))
+    }
+}
+
+/// What the loops, the console and the front are made of.
+pub(crate) fn prepared<'a, J: Naming, R: Wait + Net + Clock + RandomSource>(
+    rt: &'a R,
+    alloc: Global,
+    desk: &'a Desk<J>,
+    seats: Seats<J>,
+    setup: Setup,
+    listening: Listening,
+) -> Result<Runners<'a, R, J>, Fault>
+    ensures { IfOk result (λ p. (p.loops.streams.fronts.items ≡ map front_of setup.listeners) × (p.loops.clock.fronts.items ≡ map front_of setup.listeners)) }
+{
+    let (first, second, third, fourth, fifth) = seats;
+    let takers = (
+        Caller::new(rt, desk, first),
+        Caller::new(rt, desk, second),
+        Caller::new(rt, desk, third),
+    );
+    let Listening {
+        datagrams,
+        streams,
+        http,
+        consoles,
+    } = listening;
+    let sockets = Sockets::made(rt, alloc, datagrams, streams)?;
+    let outside = SystemOutside::new(rt)?;
+    let shared = Shared::made(alloc, setup.servers())?;
+    let (sender, second_sender, receiver) = Outbox::made(alloc, JOBS)?;
+    let http = (http, Caller::new(rt, desk, fifth), sender, outside.beside());
+    let front = front_of_http(rt, alloc, http, &sockets, &shared)?;
+    let fronts = (
+        fronts(alloc, setup.listeners())?,
+        fronts(alloc, setup.listeners())?,
+    );
+    let console = (
+        consoles,
+        Caller::new(rt, desk, fourth),
+        outside.beside(),
+        setup.into_servers(),
+    );
+    let (console, over) = console_of(rt, alloc, console, &sockets, &shared)?;
+    let posts = (shared.posts(rt, alloc)?, shared.posts(rt, alloc)?);
+    let around = (shared.roster, sockets.halt(&shared.stop)?);
+    let jobs = (second_sender, receiver);
+    Ok(Runners {
+        loops: parts_of(sockets, outside, takers, fronts, posts, jobs, around),
+        console,
+        over,
+        front,
+    })
+}
+
+/// What the console has alone: its listeners, its handler of events, its moments and words, and the setup file's servers.
+type OwnOfConsole<'a, R, J> = (
+    Vec<TcpListener>,
+    Caller<'a, R, J>,
+    SystemOutside<'a, R>,
+    ServerList,
+);
+
+/// The console, and what wakes it.
+fn console_of<'a, J: Naming, R: Wait + Net + Clock + RandomSource>(
+    rt: &'a R,
+    alloc: Global,
+    own: OwnOfConsole<'a, R, J>,
+    sockets: &Sockets<'a, R>,
+    shared: &Shared,
+) -> Result<(DeskConsole<'a, R, J>, Over), Fault> {
+    let (listeners, taker, outside, servers) = own;
+    let roster = Arc::try_clone(&shared.roster)?;
+    let operator = Operator::new(alloc, taker, outside, servers, roster);
+    let halt = sockets.halt(&shared.stop)?;
+    let console = Console::made(rt, rt, alloc, listeners, operator, halt)?;
+    let waker = console.waker()?;
+    Ok((console, Over { waker }))
+}
+
+/// What the front of DNS on HTTP has alone: its listeners, its handler of events, its end of the outbox, and its moments and words.
+type OwnOfHttp<'a, R, J> = (Vec<Bound>, Caller<'a, R, J>, Sender, SystemOutside<'a, R>);
+
+/// The front of DNS on HTTP.
+fn front_of_http<'a, J: Naming, R: Wait + Net + Clock + RandomSource>(
+    rt: &'a R,
+    alloc: Global,
+    own: OwnOfHttp<'a, R, J>,
+    sockets: &Sockets<'a, R>,
+    shared: &Shared,
+) -> Result<DeskFront<'a, R, J>, Fault> {
+    let (listeners, taker, sender, outside) = own;
+    let parts = FrontParts {
+        runtime: front_runtime(&(rt, alloc), listeners.as_slice()).map_err(Fault::Front)?,
+        listeners,
+        taker,
+        sender,
+        outside,
+        streams: sockets.streams.waker()?,
+        requests: Arc::try_clone(&shared.requests)?,
+        stop: Arc::try_clone(&shared.stop)?,
+    };
+    Ok(Fronting {
+        parts,
+        halt: sockets.halt(&shared.stop)?,
+    })
+}
+
+/// The handlers of events of the three loops.
+type Callers<'a, R, J> = (Caller<'a, R, J>, Caller<'a, R, J>, Caller<'a, R, J>);
+
+/// What the loops are made of.
+fn parts_of<'a, J: Naming, R: Wait + Net + Clock + RandomSource>(
+    sockets: Sockets<'a, R>,
+    outside: SystemOutside<'a, R>,
+    takers: Callers<'a, R, J>,
+    fronts: (Vec<Front>, Vec<Front>),
+    posts: (HttpPosts<'a, R>, HttpPosts<'a, R>),
+    jobs: (Sender, Receiver),
+    around: (Arc<Mutex<Roster>>, Halt),
+) -> Loops<'a, R, J>
+    ensures { (result.streams.fronts ≡ fronts.0) × (result.clock.fronts ≡ fronts.1) }
+{
+    let (sender, receiver) = jobs;
+    let (roster, halt) = around;
+    let (streams_outside, clock_outside) = (outside.beside(), outside.beside());
+    let Halt {
+        stop,
+        datagrams,
+        streams,
+        clock,
+    } = halt;
+    Parts {
+        datagrams: DatagramParts {
+            sockets: sockets.datagrams,
+            taker: takers.0,
+            outside,
+        },
+        streams: StreamParts {
+            sockets: sockets.streams,
+            receiver,
+            fronts: fronts.0,
+            posts: posts.0,
+            taker: takers.1,
+            outside: streams_outside,
+        },
+        clock: ClockParts {
+            sockets: sockets.clock,
+            sender,
+            fronts: fronts.1,
+            posts: posts.1,
+            taker: takers.2,
+            outside: clock_outside,
+        },
+        roster,
+        gate: OpenGate,
+        stop,
+        datagrams_waker: datagrams,
+        streams_waker: streams,
+        clock_waker: clock,
+    }
+}
