@@ -83,13 +83,13 @@ back_on [] (suc k) p = refl
 back_on (c ∷ cs) zero p = refl
 back_on (c ∷ cs) (suc k) p = back_on cs k p
 
-chunk_on : (cs : List (List Filed)) (k : ℕ) → chunk_at (drop k cs) 0 ≡ chunk_at cs k
+pub chunk_on : (cs : List (List Filed)) (k : ℕ) → chunk_at (drop k cs) 0 ≡ chunk_at cs k
 chunk_on [] zero = refl
 chunk_on [] (suc k) = refl
 chunk_on (c ∷ cs) zero = refl
 chunk_on (c ∷ cs) (suc k) = chunk_on cs k
 
-behind_on : (cs : List (List Filed)) (k : ℕ) → behind (drop k cs) 0 ≡ behind cs k
+pub behind_on : (cs : List (List Filed)) (k : ℕ) → behind (drop k cs) 0 ≡ behind cs k
 behind_on [] zero = refl
 behind_on [] (suc k) = refl
 behind_on (c ∷ cs) zero = refl
@@ -123,7 +123,7 @@ pub pass_more : (cs : List (List Filed)) (p n : ℕ) → n ≡ suc p → 0 < len
 pass_more [] p n next some lt = absurd (omega (arith, some))
 pass_more (c ∷ cs) p n next some lt = ap (λ (i : ℕ). drop i c ++ all_of cs) next ∙ drop_next c (all_of cs) p (omega (arith, lt, next))
 
-start : (cs : List (List Filed)) → back_of cs 0 0 ≡ all_of cs
+pub start : (cs : List (List Filed)) → back_of cs 0 0 ≡ all_of cs
 start [] = refl
 start (c ∷ cs) = refl
 
@@ -211,3 +211,7 @@ put_filled (Err e) c new p y ok err filled = subst IsFilled (sym err) filled
 -- a chunk in which a pair was put is filled, and so is one where that was refused
 pub set_filled : {A E : Type 0} (r : Result A E) (cs : List (List Filed)) (k p : ℕ) (c new : List Filed) (y : Filed) → All IsFilled cs → IsFilled c → OnOk r (new ≡ insert c p y) → OnErr r (new ≡ c) → All IsFilled (set cs k new)
 set_filled r cs k p c new y all filled ok err = All-set IsFilled cs k new (put_filled r c new p y ok err filled) all
+
+pub some_or_none : (c : List Filed) → (c ≡ [] → ⊥) → 0 < length c
+some_or_none [] some = absurd (some refl)
+some_or_none (x ∷ c) some = omega arith

@@ -1,5 +1,5 @@
 -- The front of a chunk's last pair tells where the chunk ends.
-use Rattle.std.proofs.Common.{◌≡◌, true, false, Bool, not, ℕ, ◌-◌, ◌<◌, List, [], ◌∷◌, length, get_or, drop, slice_get, option_map, Some, ◌==◌, refl, sym, ap, ◌∙◌, arith}
+use Rattle.std.proofs.Common.{◌≡◌, false, Bool, not, ℕ, ◌-◌, ◌<◌, List, [], ◌∷◌, length, get_or, drop, slice_get, option_map, Some, ◌==◌, refl, sym, ap, ◌∙◌, arith}
 use Rattle.std.specs.Cmp.Lexicographic.{slice_cmp}
 use Rattle.std.specs.Ordering.{nat_cmp, ordering_then, is_lt}
 use Rattle.std.specs.declared.cmp.Ordering.{Ordering}
@@ -9,7 +9,7 @@ use Rattle.std.proofs.lemmas.Option.{slice_get-get_or, slice_get_read}
 use Rattle.lb_ranks.specs.declared.filed.Filed.{Filed}
 use Rattle.lb_ranks.specs.declared.front.Front.{Front}
 use Rattle.lb_ranks.specs.Chunk.{ends_before, IsFence}
-use Rattle.lb_ranks.specs.Filed.{filed_cmp, is_before}
+use Rattle.lb_ranks.specs.Filed.{filed_cmp}
 use Rattle.lb_ranks.specs.Front.{front_cmp, front_of_key, AreOctets}
 use Rattle.lb_ranks.proofs.Order.{not_own}
 use Rattle.lb_ranks.proofs.Packing.{key_order, then_other}

@@ -2,7 +2,12 @@ pub mod Order
 pub mod Cuts
 pub mod Chunks
 pub mod Spots
+pub mod InPlace
+pub mod Lifts
+pub mod AtSpots
 pub mod Taking
 pub mod Putting
 pub mod Packing
 pub mod Fences
+pub mod Ends
+pub mod Walks

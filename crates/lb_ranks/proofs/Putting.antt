@@ -1,29 +1,31 @@
--- A pair that is put among chunks.
-use Rattle.std.proofs.Common.{◌≡◌, ℕ, List, ◌∷◌, ◌++◌, Contains, Result, Ok, Err, OnOk, OnErr, Some, slice_get, subst, sym}
+-- A pair that is put between front and back.
+use Rattle.std.proofs.Common.{◌≡◌, List, ◌++◌, Result, Ok, Err, OnOk, OnErr, inl, inr, subst, sym}
 use Rattle.lb_ranks.specs.declared.filed.Filed.{Filed}
-use Rattle.lb_ranks.specs.Chunk.{all_of, back_of, front_of}
+use Rattle.lb_ranks.specs.Block.{back_in, front_in, IsFiledIn}
 use Rattle.lb_ranks.specs.Filed.{AreInOrder, HasBesides, IsCut}
-use Rattle.lb_ranks.proofs.Chunks.{whole}
-use Rattle.lb_ranks.proofs.Cuts.{absent, not_first, present, put_has, put_order}
+use Rattle.lb_ranks.proofs.Cuts.{present, put_again, put_has, put_order}
+use Rattle.lb_ranks.proofs.InPlace.{cut_in, order_in, whole_in}
 
--- what holds of the one list and of the other holds whichever it is
-pub either_kept : {A E : Type 0} (r : Result A E) (P : List Filed → Type 0) (new put old : List Filed) → OnOk r (new ≡ put) → OnErr r (new ≡ old) → P put → P old → P new
-either_kept (Ok u) P new put old ok err has was = subst P (sym ok) has
-either_kept (Err e) P new put old ok err has was = subst P (sym err) was
+order_by : (at : Filed) (front back new : List Filed) → AreInOrder (front ++ back) → IsCut at front back → IsFiledIn at front back new → AreInOrder new
+order_by at front back new order cut filed =
+    elim filed [ inl here ↦ subst AreInOrder (sym here.1) order | inr other ↦ subst AreInOrder (sym other.1) (put_order at front back order cut other.0) ]
 
--- a pair that stands at its spot is there already
-pub there : (cs : List (List Filed)) (k p : ℕ) (at : Filed) → slice_get (back_of cs k p) 0 ≡ Some at → Contains (all_of cs) at
-there cs k p at is = subst (λ (xs : List Filed). Contains xs at) (sym (whole cs k p)) (present at (front_of cs k p) (back_of cs k p) is)
+besides_by : (at : Filed) (front back new : List Filed) → IsFiledIn at front back new → HasBesides (front ++ back) at new
+besides_by at front back new filed =
+    elim filed [
+      | inl here ↦ subst (λ (xs : List Filed). HasBesides (front ++ back) at xs) (sym here.1) (put_again (front ++ back) at (present at front back here.0))
+      | inr other ↦ subst (λ (xs : List Filed). HasBesides (front ++ back) at xs) (sym other.1) (put_has at front back)
+    ]
 
--- and one that does not is not there
-pub not_there : (cs : List (List Filed)) (k p : ℕ) (at : Filed) → AreInOrder (all_of cs) → IsCut at (front_of cs k p) (back_of cs k p) → (slice_get (back_of cs k p) 0 ≡ Some at → ⊥) → Contains (all_of cs) at → ⊥
-not_there cs k p at order cut other has =
-    absent at (front_of cs k p) (back_of cs k p) (subst AreInOrder (whole cs k p) order) cut other (subst (λ (xs : List Filed). Contains xs at) (whole cs k p) has)
+-- pairs stay in order where one is filed
+pub filed_order : (at : Filed) (items new : List Filed) → AreInOrder items → IsFiledIn at (front_in at items) (back_in at items) new → AreInOrder new
+filed_order at items new order filed = order_by at (front_in at items) (back_in at items) new (order_in at items order) (cut_in at items order) filed
 
-pub put_in_order : (cs : List (List Filed)) (k p : ℕ) (at : Filed) → AreInOrder (all_of cs) → IsCut at (front_of cs k p) (back_of cs k p) → (Contains (all_of cs) at → ⊥) → AreInOrder (front_of cs k p ++ at ∷ back_of cs k p)
-put_in_order cs k p at order cut none =
-    put_order at (front_of cs k p) (back_of cs k p) (subst AreInOrder (whole cs k p) order) cut
-    (not_first at (front_of cs k p) (back_of cs k p) (λ has. none (subst (λ (xs : List Filed). Contains xs at) (sym (whole cs k p)) has)))
+-- and that one is there besides
+pub filed_besides : (at : Filed) (items new : List Filed) → IsFiledIn at (front_in at items) (back_in at items) new → HasBesides items at new
+filed_besides at items new filed = subst (λ (xs : List Filed). HasBesides xs at new) (whole_in at items) (besides_by at (front_in at items) (back_in at items) new filed)
 
-pub put_besides : (cs : List (List Filed)) (k p : ℕ) (at : Filed) → HasBesides (all_of cs) at (front_of cs k p ++ at ∷ back_of cs k p)
-put_besides cs k p at = subst (λ (xs : List Filed). HasBesides xs at (front_of cs k p ++ at ∷ back_of cs k p)) (sym (whole cs k p)) (put_has at (front_of cs k p) (back_of cs k p))
+-- where filing is refused they are as they were
+pub kept_order : {A E : Type 0} (r : Result A E) (at : Filed) (items new : List Filed) → AreInOrder items → OnOk r (IsFiledIn at (front_in at items) (back_in at items) new) → OnErr r (new ≡ items) → AreInOrder new
+kept_order (Ok u) at items new order ok err = filed_order at items new order ok
+kept_order (Err e) at items new order ok err = subst AreInOrder (sym err) order

@@ -49,14 +49,14 @@ Ends at cs k = IsPartitionPoint (λ c. ends_before at c ≡ true) (λ c. ends_be
 abbrev pub Parts : Filed → List Filed → ℕ → Type 0
 Parts at items k = IsPartitionPoint (λ f. is_before at f ≡ true) (λ f. is_before at f ≡ false) items k
 
-before_place : (at : Filed) (c : List Filed) (p : ℕ) → Parts at c p → p ≤ length c → AllByRecursion (λ (f : Filed). is_before at f ≡ true) (take p c)
+pub before_place : (at : Filed) (c : List Filed) (p : ℕ) → Parts at c p → p ≤ length c → AllByRecursion (λ (f : Filed). is_before at f ≡ true) (take p c)
 before_place at [] zero parts le = tt
 before_place at [] (suc p) parts le = tt
 before_place at (x ∷ c) zero parts le = tt
 before_place at (x ∷ c) (suc p) parts le =
     (parts.0 0 x (omega arith) (omega arith), before_place at c p (λ k d low lt. parts.0 (suc k) d (omega arith) (omega (arith, lt)), λ k d low lt. parts.1 (suc k) d (omega (arith, low)) (omega (arith, lt))) (omega (arith, le)))
 
-after_place : (at : Filed) (c : List Filed) (p : ℕ) → Parts at c p → AllByRecursion (λ (f : Filed). is_before at f ≡ false) (drop p c)
+pub after_place : (at : Filed) (c : List Filed) (p : ℕ) → Parts at c p → AllByRecursion (λ (f : Filed). is_before at f ≡ false) (drop p c)
 after_place at [] zero parts = tt
 after_place at [] (suc p) parts = tt
 after_place at (x ∷ c) zero parts = recursion_from_All (λ (f : Filed). is_before at f ≡ false) (x ∷ c) (λ k d lt. parts.1 k d (omega arith) lt)

@@ -1,14 +1,14 @@
--- Pairs in chunks.
-use Rattle.std.specs.Prelude.{◌≡◌, ℕ, zero, suc, ◌-◌, ◌<◌, ◌≤◌, List, [], ◌∷◌, ◌++◌, Bool, true, Some, option_map, length, take, drop, slice_get, slice_index_or}
+-- Pairs in chunks. What is said of chunks holds of blocks too, of which each is seen as the list of its pairs.
+use Rattle.std.specs.Prelude.{◌≡◌, ℕ, zero, suc, ◌-◌, ◌<◌, ◌≤◌, List, [], ◌∷◌, ◌++◌, Bool, Some, length, take, drop, slice_get, slice_index_or}
 use Rattle.std.specs.List.{flat_map}
 use Rattle.lb_ranks.specs.declared.filed.Filed.{Filed}
 use Rattle.lb_ranks.specs.declared.front.Front.{Front}
-use Rattle.lb_ranks.specs.Filed.{filed_at, is_before, IsCut}
+use Rattle.lb_ranks.specs.Filed.{is_before}
 use Rattle.lb_ranks.specs.Front.{front_of_key, AreOctets}
 
 -- how many pairs a chunk may have
 abbrev pub max_pairs : ℕ
-max_pairs = 128
+max_pairs = 32
 
 -- no chunk is empty
 abbrev pub IsFilled : List Filed → Type 0
@@ -64,9 +64,3 @@ pub record IsPlace (chunks : List (List Filed)) (k place : ℕ) : Type 0 where
 pub record IsTaken (chunks : List (List Filed)) (k place : ℕ) : Type 0 where
   pub there : k < length chunks
   pub within : place < length (chunk_at chunks k)
-
--- at the place stands the first pair whose key is at or after the one and before the other
-pub record IsFirstAt (low high : List ℕ) (chunks : List (List Filed)) (k place : ℕ) : Type 0 where
-  pub taken : IsTaken chunks k place
-  pub cut : IsCut (filed_at low 0) (front_of chunks k place) (back_of chunks k place)
-  pub below : option_map (is_before (filed_at high 0)) (slice_get (back_of chunks k place) 0) ≡ Some true

@@ -1,5 +1,6 @@
 pub mod Least
 pub mod Filed
 pub mod Chunk
+pub mod Block
 pub mod Cursor
 pub mod Front

@@ -14,13 +14,13 @@ use std::cmp::Ordering;
 use std::marker::Model;
 
 /// The most pairs of a chunk.
-const MAX_PAIRS: usize = 128;
+const MAX_PAIRS: usize = 32;
 
 /// How many pairs stay in a chunk that is divided.
 const HALF: usize = MAX_PAIRS / 2;
 
 /// For how many pairs more a chunk takes room where it has none left: no more, so that little of what chunks take is unused.
-const STEP: usize = 16;
+const STEP: usize = 8;
 
 /// Some pairs in order. A contract sees them as their list.
 #[derive(Debug, Drop)]
@@ -75,6 +75,13 @@ impl Chunk {
         ensures { result ≡ length self.now }
     {
         self.items.len()
+    }
+
+    /// The front of its last pair's key.
+    pub(crate) fn fence(&self) -> Front
+        ensures { IsFence result self.now }
+    {
+        self.fence
     }
 
     /// Whether it has as many pairs as it may have.

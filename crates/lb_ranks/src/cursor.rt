@@ -1,10 +1,11 @@
 //! A walk over pairs in their order.
 
-ghost use Rattle.std.specs.Prelude.{◌≡◌, ◌≤◌, drop, length, option_copied, option_map, slice_get};
+ghost use Rattle.std.specs.Prelude.{◌≡◌, ◌<◌, [], ◌++◌, drop, length, option_copied, option_map, slice_get};
 ghost use Rattle.std.specs.List.{All};
 ghost use Rattle.lb_ranks.specs.Cursor.{left_below, next_below as next_below_of};
-ghost use Rattle.lb_ranks.specs.Chunk.{back_of, IsFilled, IsPlace};
+ghost use Rattle.lb_ranks.specs.Chunk.{all_of, back_of, IsFilled, IsPlace};
 
+use crate::block::Block;
 use crate::chunk::Chunk;
 use crate::filed::Filed;
 use crate::key::Probe;
@@ -16,31 +17,63 @@ use std::marker::Model;
 pub struct Cursor<'a> {
     chunks: &'a [Chunk],
     place: usize,
+    /// The blocks behind that of the chunks: none, where there are no chunks.
+    blocks: &'a [Block],
 }
 
 impl<'a> Model for Cursor<'a> {
-    ghost use Rattle.std.specs.Prelude.{List};
+    ghost use Rattle.std.specs.Prelude.{◌<◌, ◌++◌, length, List};
     ghost use Rattle.std.specs.List.{All};
     ghost use Rattle.lb_ranks.specs.declared.filed.Filed.{Filed};
     ghost use Rattle.lb_ranks.specs.Chunk.{back_of, IsFilled, IsPlace};
 
     ghost Value = { List Filed };
 
-    ghost view = { λ c. back_of c.chunks.now 0 c.place };
+    ghost view = { λ c. back_of (c.chunks.now ++ c.blocks.now) 0 c.place };
 
-    ghost invariant = { λ c. All IsFilled c.chunks.now × IsPlace c.chunks.now 0 c.place };
+    ghost invariant = { λ c. All IsFilled (c.chunks.now ++ c.blocks.now) × IsPlace (c.chunks.now ++ c.blocks.now) 0 c.place × (0 < length c.blocks.now → 0 < length c.chunks.now) };
+}
+
+/// What a walk goes on with behind a chunk: the others of its block, and where there are none the chunks of the next block.
+fn behind<'a>(rest: &'a [Chunk], blocks: &'a [Block]) -> (&'a [Chunk], &'a [Block])
+    requires { All IsFilled (rest.now ++ blocks.now) }
+    ensures pairs { all_of (result.0.now ++ result.1.now) ≡ all_of (rest.now ++ blocks.now) }
+    ensures filled { All IsFilled (result.0.now ++ result.1.now) }
+    ensures some { 0 < length result.1.now → 0 < length result.0.now }
+{
+    if !rest.is_empty() {
+        return (rest, blocks);
+    }
+    match blocks.split_first() {
+        Some((block, others)) => (block.chunks(), others),
+        None => (rest, blocks),
+    }
 }
 
 impl<'a> Cursor<'a> {
-    /// A walk from a place of a chunk on.
-    pub(crate) fn new(chunks: &'a [Chunk], chunk: usize, place: usize) -> Cursor<'a>
-        requires filled { All IsFilled chunks.now }
-        requires place { IsPlace chunks.now chunk place }
-        requires within { chunk ≤ length chunks.now }
-        ensures { result ≡ back_of chunks.now chunk place }
+    /// A walk over no pairs.
+    pub(crate) fn none() -> Cursor<'a>
+        ensures { result ≡ [] }
     {
-        let (_, chunks) = chunks.split_at(chunk);
-        Cursor { chunks, place }
+        Cursor {
+            chunks: &[],
+            place: 0,
+            blocks: &[],
+        }
+    }
+
+    /// A walk from a place of the first chunk on, over the blocks behind the chunks too.
+    pub(crate) fn new(chunks: &'a [Chunk], place: usize, blocks: &'a [Block]) -> Cursor<'a>
+        requires filled { All IsFilled (chunks.now ++ blocks.now) }
+        requires place { IsPlace (chunks.now ++ blocks.now) 0 place }
+        requires some { 0 < length chunks.now }
+        ensures { result ≡ back_of (chunks.now ++ blocks.now) 0 place }
+    {
+        Cursor {
+            chunks,
+            place,
+            blocks,
+        }
     }
 
     /// The next pair.
@@ -64,8 +97,10 @@ impl<'a> Cursor<'a> {
         if chunk.len() - self.place > 1 {
             self.place += 1;
         } else {
-            self.chunks = rest;
+            let (chunks, blocks) = behind(rest, self.blocks);
+            self.chunks = chunks;
             self.place = 0;
+            self.blocks = blocks;
         }
     }
 

@@ -1,8 +1,11 @@
 //! Ranks that are filed under keys, in the order of the keys.
 #![tactic(auto)]
 
+mod block;
+mod blocks;
 mod chunk;
 mod cursor;
+mod edits;
 mod filed;
 mod front;
 mod key;

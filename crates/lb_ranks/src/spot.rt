@@ -1,10 +1,10 @@
 //! Where a pair stands among chunks.
 
-ghost use Rattle.std.specs.Prelude.{◌≡◌, slice_get, option_copied, IfSome, IsSome, Some, IsTrue, ◌↔◌, Contains};
+ghost use Rattle.std.specs.Prelude.{◌≡◌, slice_get, option_copied, IsSome, Some, IsTrue, ◌↔◌};
 ghost use Rattle.std.specs.List.{All};
-ghost use Rattle.std.specs.Option.{IfNone};
-ghost use Rattle.lb_ranks.specs.Chunk.{all_of, back_of, front_of, IsFilled, IsFirstAt, IsPlace, IsTaken};
-ghost use Rattle.lb_ranks.specs.Filed.{AreInOrder, IsCut, IsNoneWithin};
+ghost use Rattle.lb_ranks.specs.Block.{IsBelow};
+ghost use Rattle.lb_ranks.specs.Chunk.{all_of, back_of, front_of, IsFilled, IsPlace, IsTaken};
+ghost use Rattle.lb_ranks.specs.Filed.{AreInOrder, IsCut};
 
 use crate::chunk::Chunk;
 use crate::filed::Filed;
@@ -58,35 +58,14 @@ pub(crate) fn stands_at(chunks: &[Chunk], spot: Spot, at: &Probe<'_>) -> bool
     }
 }
 
-/// Where the pair that is looked for stands, if it is there.
-pub(crate) fn find(chunks: &[Chunk], at: &Probe<'_>) -> Option<Spot>
-    requires order { AreInOrder (all_of chunks.now) }
-    requires filled { All IsFilled chunks.now }
-    ensures some { IfSome result (λ spot. IsTaken chunks.now spot.chunk spot.place × (slice_get (back_of chunks.now spot.chunk spot.place) 0 ≡ Some at.now)) }
-    ensures none { IfNone result (Contains (all_of chunks.now) at.now → ⊥) }
+/// Whether at the spot stands a pair that stands before the one that is looked for.
+pub(crate) fn is_below(chunks: &[Chunk], spot: Spot, end: &Probe<'_>) -> bool
+    requires { IsPlace chunks.now spot.chunk spot.place }
+    ensures pair { IsTrue result ↔ IsBelow end.now (back_of chunks.now spot.chunk spot.place) }
+    ensures taken { IsTrue result → IsTaken chunks.now spot.chunk spot.place }
 {
-    let spot = spot_of(chunks, at);
-    if stands_at(chunks, spot, at) {
-        Some(spot)
-    } else {
-        None
-    }
-}
-
-/// Where the first pair stands whose key is at or after the one and before the other, if there is one.
-pub(crate) fn find_within(chunks: &[Chunk], low: &[u8], high: &[u8]) -> Option<Spot>
-    requires order { AreInOrder (all_of chunks.now) }
-    requires filled { All IsFilled chunks.now }
-    ensures some { IfSome result (λ spot. IsFirstAt low.now high.now chunks.now spot.chunk spot.place) }
-    ensures none { IfNone result (IsNoneWithin low.now high.now (all_of chunks.now)) }
-{
-    let first = Probe::of(low, 0);
-    let spot = spot_of(chunks, &first);
-    let filed = pair_at(chunks, spot)?;
-    let end = Probe::of(high, 0);
-    if filed.is_before(&end) {
-        Some(spot)
-    } else {
-        None
+    match pair_at(chunks, spot) {
+        Some(filed) => filed.is_before(end),
+        None => false,
     }
 }

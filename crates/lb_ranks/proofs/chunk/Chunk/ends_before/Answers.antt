@@ -1,6 +1,5 @@
-use Rattle.std.proofs.Common.{◌≡◌, ◌==◌, length, List, ap, subst, sym, ◌∙◌, rules}
-use Rattle.lb_ranks.specs.declared.filed.Filed.{Filed}
-use Rattle.lb_ranks.specs.Chunk.{ends_before, IsFence}
+use Rattle.std.proofs.Common.{ap, sym, ◌∙◌, rules}
+use Rattle.lb_ranks.specs.Chunk.{ends_before}
 use Rattle.lb_ranks.proofs.Fences.{fence_greater, fence_less}
 use Rattle.lb_ranks.proofs.chunk.Chunk.ends_before.Goals as goal
 

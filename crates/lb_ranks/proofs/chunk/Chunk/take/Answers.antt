@@ -1,4 +1,4 @@
-use Rattle.std.proofs.Common.{◌≡◌, List, length, get_or, ap, subst, sym, ◌∙◌, rules}
+use Rattle.std.proofs.Common.{List, subst, rules}
 use Rattle.lb_ranks.specs.declared.filed.Filed.{Filed}
 use Rattle.lb_ranks.specs.Chunk.{IsFence}
 use Rattle.lb_ranks.proofs.Fences.{rank_at}

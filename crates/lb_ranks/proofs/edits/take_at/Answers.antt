@@ -3,7 +3,7 @@ use Rattle.lb_ranks.specs.declared.filed.Filed.{Filed}
 use Rattle.lb_ranks.specs.Chunk.{all_of, chunk_at}
 use Rattle.lb_ranks.proofs.Chunks.{filled_but, get_taken, take_whole}
 use Rattle.lb_ranks.proofs.Spots.{same_at}
-use Rattle.lb_ranks.proofs.ranks.take_at.Goals as goal
+use Rattle.lb_ranks.proofs.edits.take_at.Goals as goal
 
 pub returns-clause-rank : goal.returns-clause-rank
 returns-clause-rank c =

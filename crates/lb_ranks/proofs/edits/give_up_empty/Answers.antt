@@ -3,7 +3,7 @@ use Rattle.lb_ranks.specs.declared.filed.Filed.{Filed}
 use Rattle.lb_ranks.specs.Chunk.{all_of, chunk_at}
 use Rattle.lb_ranks.proofs.Chunks.{empty_gone, filled_with, no_pair}
 use Rattle.lb_ranks.proofs.Spots.{same_at}
-use Rattle.lb_ranks.proofs.ranks.give_up_empty.Goals as goal
+use Rattle.lb_ranks.proofs.edits.give_up_empty.Goals as goal
 
 pub returns-then-len-eq0-clause-pairs : goal.returns-then-len-eq0-clause-pairs
 returns-then-len-eq0-clause-pairs c =

@@ -4,7 +4,7 @@ use Rattle.lb_ranks.specs.declared.filed.Filed.{Filed}
 use Rattle.lb_ranks.specs.Chunk.{all_of, chunk_at, IsFilled}
 use Rattle.lb_ranks.proofs.Chunks.{put_whole, set_filled}
 use Rattle.lb_ranks.proofs.Spots.{same_at}
-use Rattle.lb_ranks.proofs.ranks.put_at.Goals as goal
+use Rattle.lb_ranks.proofs.edits.put_at.Goals as goal
 
 pub returns-clause-ok : goal.returns-clause-ok
 returns-clause-ok c =

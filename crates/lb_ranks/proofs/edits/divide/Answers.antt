@@ -2,7 +2,7 @@ use Rattle.std.proofs.Common.{◌∙◌, ◌≡◌, ◌+◌, [], ap, arith, inse
 use Rattle.lb_ranks.specs.Chunk.{all_of, chunk_at}
 use Rattle.lb_ranks.proofs.Chunks.{divided}
 use Rattle.lb_ranks.proofs.Spots.{same_at}
-use Rattle.lb_ranks.proofs.ranks.divide.Goals as goal
+use Rattle.lb_ranks.proofs.edits.divide.Goals as goal
 
 pub returns-clause-pairs : goal.returns-clause-pairs
 returns-clause-pairs c =
