@@ -1,14 +1,16 @@
 -- Where the last of several chunks ends.
-use Rattle.std.proofs.Common.{◌≡◌, ◌==◌, ◌↔◌, IsTrue, Bool, ℕ, zero, suc, ◌+◌, ◌-◌, ◌<◌, false, take, drop, take-append-drop, List, [], ◌∷◌, ◌++◌, length, get_or, slice_get, refl, sym, ap, subst, ◌∙◌, arith}
+use Rattle.std.proofs.Common.{◌≡◌, ◌==◌, ◌↔◌, IsTrue, Bool, ℕ, zero, suc, ◌+◌, ◌-◌, ◌<◌, ◌≤◌, false, take, drop, take-append-drop, append_assoc, List, [], ◌∷◌, ◌++◌, length, get_or, slice_get, refl, sym, ap, subst, ◌∙◌, arith, inl, inr}
 use Rattle.std.specs.List.{All}
-use Rattle.std.proofs.lemmas.Bool.{ne_eqb}
+use Rattle.std.proofs.lemmas.Bool.{cases_lt, ne_eqb}
 use Rattle.std.proofs.lemmas.List.Elements.{All-drop, All-take}
 use Rattle.std.proofs.lemmas.List.{append-nil, get_or-append-add, length-append, length-drop, length-take-le}
 use Rattle.std.proofs.lemmas.List.Concat.{flat_map-append}
 use Rattle.lb_ranks.specs.declared.filed.Filed.{Filed}
 use Rattle.lb_ranks.specs.declared.front.Front.{Front}
-use Rattle.lb_ranks.specs.Chunk.{all_of, ends_before, IsFence, IsFilled}
+use Rattle.lb_ranks.specs.Chunk.{all_of, back_of, behind, chunk_at, ends_before, front_of, rest_of, IsFence, IsFilled}
 use Rattle.lb_ranks.specs.Filed.{is_before}
+use Rattle.lb_ranks.proofs.Chunks.{whole}
+use Rattle.lb_ranks.proofs.Lifts.{own_back}
 use Rattle.lb_ranks.proofs.Order.{not_own}
 
 seam_get : (xs ys : List Filed) (m n : ℕ) → n ≡ length xs + m → slice_get (xs ++ ys) n ≡ slice_get ys m
@@ -82,3 +84,39 @@ halves cs n low high filled some lt low_is high_is =
       ap all_of (sym (take-append-drop n cs)) ∙ flat_map-append (λ (c : List Filed). c) (take n cs) (drop n cs)
           ∙ ap (λ (xs : List (List Filed)). all_of xs ++ all_of (drop n cs)) (sym low_is) ∙ ap (λ (xs : List (List Filed)). all_of low ++ all_of xs) (sym high_is),
     )
+
+behind_some : (cs : List (List Filed)) (k : ℕ) → All IsFilled cs → suc k < length cs → 0 < length (behind cs k)
+behind_some [] k filled lt = absurd (omega (arith, lt))
+behind_some (c ∷ cs) zero filled lt = some_pairs cs (λ i d within. filled (suc i) d (omega (arith, within))) (omega (arith, lt))
+behind_some (c ∷ cs) (suc k) filled lt = behind_some cs k (λ i d within. filled (suc i) d (omega (arith, within))) (omega (arith, lt))
+
+-- the fence is that of the pairs at the end alone
+fence_tail : (fence : Front) (xs ys rest : List Filed) → 0 < length rest → IsFence fence (xs ++ rest) → IsFence fence (ys ++ rest)
+fence_tail fence xs ys rest some own f got = own f (last_get xs rest some ∙ sym (last_get ys rest some) ∙ got)
+
+-- so it stays where another chunk than the last changes
+fence_kept : (fence : Front) (cs : List (List Filed)) (k p : ℕ) (ys new : List Filed) → All IsFilled cs → suc k < length cs → IsFence fence (all_of cs) → new ≡ ys ++ behind cs k → IsFence fence new
+fence_kept fence cs k p ys new filled lt own is =
+    let own_whole : all_of cs ≡ (front_of cs k p ++ drop p (chunk_at cs k)) ++ behind cs k =
+    whole cs k p ∙ ap (λ (xs : List Filed). front_of cs k p ++ xs) (own_back cs k p (omega (arith, lt))) ∙ sym (append_assoc (front_of cs k p) (drop p (chunk_at cs k)) (behind cs k)) in
+    subst (λ (xs : List Filed). IsFence fence xs) (sym is)
+    (fence_tail fence (front_of cs k p ++ drop p (chunk_at cs k)) ys (behind cs k) (behind_some cs k filled lt) (subst (λ (xs : List Filed). IsFence fence xs) own_whole own))
+
+pub fence_put : (fence : Front) (cs : List (List Filed)) (k p : ℕ) (y : Filed) (new : List Filed) → All IsFilled cs → suc k < length cs → IsFence fence (all_of cs) → new ≡ front_of cs k p ++ y ∷ back_of cs k p → IsFence fence new
+fence_put fence cs k p y new filled lt own is =
+    fence_kept fence cs k p (front_of cs k p ++ y ∷ drop p (chunk_at cs k)) new filled lt own
+    (is ∙ ap (λ (xs : List Filed). front_of cs k p ++ y ∷ xs) (own_back cs k p (omega (arith, lt))) ∙ sym (append_assoc (front_of cs k p) (y ∷ drop p (chunk_at cs k)) (behind cs k)))
+
+own_rest : (cs : List (List Filed)) (k p : ℕ) → k < length cs → rest_of cs k p ≡ drop (suc p) (chunk_at cs k) ++ behind cs k
+own_rest [] k p lt = absurd (omega (arith, lt))
+own_rest (c ∷ cs) zero p lt = refl
+own_rest (c ∷ cs) (suc k) p lt = own_rest cs k p (omega (arith, lt))
+
+pub fence_take : (fence : Front) (cs : List (List Filed)) (k p : ℕ) (new : List Filed) → All IsFilled cs → suc k < length cs → IsFence fence (all_of cs) → new ≡ front_of cs k p ++ rest_of cs k p → IsFence fence new
+fence_take fence cs k p new filled lt own is =
+    fence_kept fence cs k p (front_of cs k p ++ drop (suc p) (chunk_at cs k)) new filled lt own
+    (is ∙ ap (λ (xs : List Filed). front_of cs k p ++ xs) (own_rest cs k p (omega (arith, lt))) ∙ sym (append_assoc (front_of cs k p) (drop (suc p) (chunk_at cs k)) (behind cs k)))
+
+-- a chunk that is not the last has one behind it
+pub not_last : (last : Bool) (k n : ℕ) → IsTrue last ↔ (n ≤ k + 1) → last ≡ false → suc k < n
+not_last last k n told is = elim (cases_lt (suc k) n) [ inl lt ↦ lt | inr le ↦ (let yes : IsTrue last = told.1 (omega (arith, le)) in absurd (cc (yes, is))) ]

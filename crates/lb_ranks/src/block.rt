@@ -1,10 +1,10 @@
 //! Some chunks in order.
 
-ghost use Rattle.std.specs.Prelude.{◌≡◌, ◌<◌, ◌^◌, ◌↔◌, [], ◌∷◌, ◌++◌, length, slice_get, option_copied, IsTrue, IfSome, OnOk, OnErr, IfOk};
+ghost use Rattle.std.specs.Prelude.{◌≡◌, ◌<◌, ◌≤◌, ◌+◌, ◌^◌, ◌↔◌, [], ◌∷◌, ◌++◌, length, slice_get, option_copied, option_map, Some, IsTrue, IfSome, OnOk, OnErr, IfOk};
 ghost use Rattle.std.specs.List.{All};
 ghost use Rattle.std.specs.Option.{IfNone};
 ghost use Rattle.lb_ranks.specs.Block.{back_in, front_in, IsFiledIn, IsUnfiledIn, TakesBelow};
-ghost use Rattle.lb_ranks.specs.Chunk.{all_of, back_of, ends_before as ends_before_of, IsFence, IsFilled, IsPlace};
+ghost use Rattle.lb_ranks.specs.Chunk.{all_of, back_of, ends_before as ends_before_of, front_of, IsFence, IsFilled, IsPlace, IsTaken, rest_of};
 ghost use Rattle.lb_ranks.specs.Filed.{AreInOrder};
 
 use crate::chunk::Chunk;
@@ -12,7 +12,7 @@ use crate::edits::{put_at, room_at, take_at};
 use crate::filed::Filed;
 use crate::front::Front;
 use crate::key::Probe;
-use crate::spot::{is_below, pair_at, spot_of, stands_at};
+use crate::spot::{Spot, is_below, pair_at, spot_of, stands_at};
 use std::alloc::{AllocError, Global};
 use std::cmp::Ordering;
 use std::marker::Model;
@@ -61,6 +61,54 @@ fn last_is_before(chunks: &[Chunk], at: &Probe<'_>) -> bool
         Some((chunk, _)) => chunk.ends_before(at),
         None => false,
     }
+}
+
+/// Whether no chunk stands behind the one at a place.
+fn is_last(chunks: &[Chunk], at: usize) -> bool
+    ensures { IsTrue result ↔ (length chunks.now ≤ at + 1) }
+{
+    chunks.len().saturating_sub(at) <= 1
+}
+
+/// Puts a pair at a spot. The fence is made anew only where the last chunk changes, so that no other put reads that one.
+fn put_in(
+    chunks: &mut Vec<Chunk>,
+    fence: &mut Front,
+    spot: Spot,
+    filed: Filed,
+) -> Result<(), AllocError>
+    requires place { IsPlace chunks.old.items spot.chunk spot.place }
+    requires filled { All IsFilled chunks.old.items }
+    requires fence { IsFence fence.old (all_of chunks.old.items) }
+    ensures ok { OnOk result (all_of chunks.new.items ≡ front_of chunks.old.items spot.chunk spot.place ++ filed ∷ back_of chunks.old.items spot.chunk spot.place) }
+    ensures err { OnErr result (all_of chunks.new.items ≡ all_of chunks.old.items) }
+    ensures filled { All IsFilled chunks.new.items }
+    ensures fence { IsFence fence.new (all_of chunks.new.items) }
+{
+    let last = is_last(chunks.as_slice(), spot.chunk);
+    put_at(chunks, spot, filed)?;
+    if last {
+        *fence = fence_of(chunks.as_slice());
+    }
+    Ok(())
+}
+
+/// Takes the pair at a spot out and gives its rank. The fence is made anew only where the last chunk changes.
+fn take_out(chunks: &mut Vec<Chunk>, fence: &mut Front, spot: Spot) -> u64
+    requires taken { IsTaken chunks.old.items spot.chunk spot.place }
+    requires filled { All IsFilled chunks.old.items }
+    requires fence { IsFence fence.old (all_of chunks.old.items) }
+    ensures rank { option_map (λ f. f.rank) (slice_get (back_of chunks.old.items spot.chunk spot.place) 0) ≡ Some result }
+    ensures pairs { all_of chunks.new.items ≡ front_of chunks.old.items spot.chunk spot.place ++ rest_of chunks.old.items spot.chunk spot.place }
+    ensures filled { All IsFilled chunks.new.items }
+    ensures fence { IsFence fence.new (all_of chunks.new.items) }
+{
+    let last = is_last(chunks.as_slice(), spot.chunk);
+    let rank = take_at(chunks, spot);
+    if last {
+        *fence = fence_of(chunks.as_slice());
+    }
+    rank
 }
 
 impl Block {
@@ -161,9 +209,7 @@ impl Block {
         }
         let filed = Filed::copied(*self.chunks.allocator(), at)?;
         let spot = room_at(&mut self.chunks, spot, at)?;
-        put_at(&mut self.chunks, spot, filed)?;
-        self.fence = fence_of(self.chunks.as_slice());
-        Ok(())
+        put_in(&mut self.chunks, &mut self.fence, spot, filed)
     }
 
     /// Takes the pair that is looked for out, where it is there.
@@ -171,10 +217,10 @@ impl Block {
         requires { AreInOrder self.old }
         ensures { IsUnfiledIn at.now (front_in at.now self.old) (back_in at.now self.old) self.new }
     {
-        let spot = spot_of(self.chunks.as_slice(), at);
-        if stands_at(self.chunks.as_slice(), spot, at) {
-            let _rank = take_at(&mut self.chunks, spot);
-            self.fence = fence_of(self.chunks.as_slice());
+        let chunks = self.chunks.as_slice();
+        let spot = spot_of(chunks, at);
+        if stands_at(chunks, spot, at) {
+            let _rank = take_out(&mut self.chunks, &mut self.fence, spot);
         }
     }
 
@@ -184,13 +230,12 @@ impl Block {
         requires { AreInOrder self.old }
         ensures { TakesBelow end.now (front_in low.now self.old) (back_in low.now self.old) result self.new }
     {
-        let spot = spot_of(self.chunks.as_slice(), low);
-        if !is_below(self.chunks.as_slice(), spot, end) {
+        let chunks = self.chunks.as_slice();
+        let spot = spot_of(chunks, low);
+        if !is_below(chunks, spot, end) {
             return None;
         }
-        let rank = take_at(&mut self.chunks, spot);
-        self.fence = fence_of(self.chunks.as_slice());
-        Some(rank)
+        Some(take_out(&mut self.chunks, &mut self.fence, spot))
     }
 
     /// Divides it: the chunks from the middle on become a block of their own. None where it has one chunk alone.
@@ -204,6 +249,7 @@ impl Block {
             return Ok(None);
         }
         let upper = self.chunks.split_off(half)?;
+        self.chunks.shrink_to_fit();
         self.fence = fence_of(self.chunks.as_slice());
         Ok(Some(Block::of(upper)))
     }

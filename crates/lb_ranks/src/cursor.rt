@@ -18,7 +18,7 @@ pub struct Cursor<'a> {
     chunks: &'a [Chunk],
     place: usize,
     /// The blocks behind that of the chunks: none, where there are no chunks.
-    blocks: &'a [Block],
+    others: &'a [Block],
 }
 
 impl<'a> Model for Cursor<'a> {
@@ -29,9 +29,9 @@ impl<'a> Model for Cursor<'a> {
 
     ghost Value = { List Filed };
 
-    ghost view = { λ c. back_of (c.chunks.now ++ c.blocks.now) 0 c.place };
+    ghost view = { λ c. back_of (c.chunks.now ++ c.others.now) 0 c.place };
 
-    ghost invariant = { λ c. All IsFilled (c.chunks.now ++ c.blocks.now) × IsPlace (c.chunks.now ++ c.blocks.now) 0 c.place × (0 < length c.blocks.now → 0 < length c.chunks.now) };
+    ghost invariant = { λ c. All IsFilled (c.chunks.now ++ c.others.now) × IsPlace (c.chunks.now ++ c.others.now) 0 c.place × (0 < length c.others.now → 0 < length c.chunks.now) };
 }
 
 /// What a walk goes on with behind a chunk: the others of its block, and where there are none the chunks of the next block.
@@ -58,21 +58,21 @@ impl<'a> Cursor<'a> {
         Cursor {
             chunks: &[],
             place: 0,
-            blocks: &[],
+            others: &[],
         }
     }
 
     /// A walk from a place of the first chunk on, over the blocks behind the chunks too.
-    pub(crate) fn new(chunks: &'a [Chunk], place: usize, blocks: &'a [Block]) -> Cursor<'a>
-        requires filled { All IsFilled (chunks.now ++ blocks.now) }
-        requires place { IsPlace (chunks.now ++ blocks.now) 0 place }
+    pub(crate) fn new(chunks: &'a [Chunk], place: usize, others: &'a [Block]) -> Cursor<'a>
+        requires filled { All IsFilled (chunks.now ++ others.now) }
+        requires place { IsPlace (chunks.now ++ others.now) 0 place }
         requires some { 0 < length chunks.now }
-        ensures { result ≡ back_of (chunks.now ++ blocks.now) 0 place }
+        ensures { result ≡ back_of (chunks.now ++ others.now) 0 place }
     {
         Cursor {
             chunks,
             place,
-            blocks,
+            others,
         }
     }
 
@@ -97,10 +97,10 @@ impl<'a> Cursor<'a> {
         if chunk.len() - self.place > 1 {
             self.place += 1;
         } else {
-            let (chunks, blocks) = behind(rest, self.blocks);
+            let (chunks, others) = behind(rest, self.others);
             self.chunks = chunks;
             self.place = 0;
-            self.blocks = blocks;
+            self.others = others;
         }
     }
 

@@ -1,4 +1,5 @@
 use Rattle.std.proofs.Common.{◌∙◌, ◌≡◌, ◌∷◌, ◌++◌, IsTrue, List, Some, ap, rules, slice_get, subst, sym}
+use Rattle.std.proofs.lemmas.Result.{on_ok_weaker}
 use Rattle.lb_ranks.specs.declared.filed.Filed.{Filed}
 use Rattle.lb_ranks.specs.Chunk.{all_of, back_of, front_of, IsFence}
 use Rattle.lb_ranks.specs.Filed.{IsCut}
@@ -18,9 +19,6 @@ returns-then-stands_at-clause-ok c =
 pub invariant_of-self : goal.invariant_of-self
 invariant_of-self c = (c.room_at.ensures.filled, subst (λ (xs : List Filed). IsFence c.self.inside.fence xs) (sym c.room_at.ensures.pairs) c.self.invariant.1)
 
-pub invariant_of-self-in_err-put_at : goal.invariant_of-self-in_err-put_at
-invariant_of-self-in_err-put_at c = (c.put_at.ensures.filled, subst (λ (xs : List Filed). IsFence c.self.inside.fence xs) (sym (c.in_err-put_at.ensures.err ∙ c.room_at.ensures.pairs)) c.self.invariant.1)
-
 pub returns-clause-ok : goal.returns-clause-ok
 returns-clause-ok c =
     let at = c.args.at.now in
@@ -36,5 +34,8 @@ returns-clause-ok c =
     let yes : IsTrue c.stands_at.result = c.stands_at.ensures.pair.1 (subst (λ (xs : List (List Filed)). slice_get (back_of xs j o) 0 ≡ Some at) (sym c.as_slice-2.ensures.value) same) in
     absurd (cc (yes, c.if-stands_at.false))
     ) in
-    filed_here at c.args.self.now was j o cs k p (all_of c.put_at.new.chunks.items) (sym c.self.view_is) cut other (sym c.self.view_is ∙ sym c.room_at.ensures.pairs) c.in_ok-spot.ensures.cut
-    (c.in_ok-put_at.ensures.ok ∙ ap (λ (f : Filed). front_of cs k p ++ f ∷ back_of cs k p) filed)
+    on_ok_weaker c.put_in.result
+    (λ put.
+    filed_here at c.args.self.now was j o cs k p (all_of c.put_in.new.chunks.items) (sym c.self.view_is) cut other (sym c.self.view_is ∙ sym c.room_at.ensures.pairs) c.in_ok-spot.ensures.cut
+    (put ∙ ap (λ (f : Filed). front_of cs k p ++ f ∷ back_of cs k p) filed))
+    c.put_in.ensures.ok
