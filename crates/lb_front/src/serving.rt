@@ -2,7 +2,7 @@
 
 ghost use Rattle.std.specs.Prelude.{IfOk, IsSome, None, Ok, length, ◌<◌, ◌≡◌};
 
-use crate::connections::{Connections, Maker};
+use crate::connections::{Connections, Make, Maker};
 use crate::cut::FrontFault;
 use crate::shared::Shared;
 use hyper::rt::TokioTimer;
@@ -100,6 +100,20 @@ pub fn run_front<
 >(rt: R, alloc: Global, parts: FrontParts<T, O, W>) -> Result<FrontEnded<T>, FrontFault>
     ensures none { length parts.listeners.items ≡ 0 → result ≡ Ok (record { taker = parts.taker; sender = parts.sender }) }
 {
+    if parts.listeners.is_empty() {
+        let FrontParts { taker, sender, .. } = parts;
+        return Ok(FrontEnded { taker, sender });
+    }
+    serve_by(rt, alloc, parts)
+}
+
+/// Serves by what a front is made of until the flag is set.
+fn serve_by<
+    R: Wait + Clock + Net + RandomSource + AllocGlobal + Copy + Drop,
+    T: Taker,
+    O: Outside,
+    W: Waker,
+>(rt: R, alloc: Global, parts: FrontParts<T, O, W>) -> Result<FrontEnded<T>, FrontFault> {
     let FrontParts {
         listeners,
         runtime,
@@ -110,19 +124,25 @@ pub fn run_front<
         requests,
         stop,
     } = parts;
-    if listeners.is_empty() {
-        return Ok(FrontEnded { taker, sender });
-    }
-    let mut runtime = match runtime {
-        Some(runtime) => runtime,
-        None => LocalRuntime::new(&rt)?,
-    };
-    runtime.set_shutdown_timeout(Some(Duration::from_millis(END)));
     let asker = Asker::new(taker, sender, outside, streams);
+    let mut runtime = runtime_of(&rt, runtime)?;
     let shared = shared_by(alloc, runtime.handle().time(), asker, requests)?;
     let listeners = registered(alloc, listeners, runtime.handle().reactor())?;
-    serve(rt, alloc, &mut runtime, listeners, &shared, stop)?;
+    serve_shared(rt, alloc, &mut runtime, listeners, stop, &shared)?;
     ended(&rt, &shared)
+}
+
+/// The runtime, which is made where there is none, with the time that its end may take.
+fn runtime_of<R: Clock + Net + RandomSource + AllocGlobal>(
+    rt: &R,
+    runtime: Option<LocalRuntime>,
+) -> io::Result<LocalRuntime> {
+    let mut runtime = match runtime {
+        Some(runtime) => runtime,
+        None => LocalRuntime::new(rt)?,
+    };
+    runtime.set_shutdown_timeout(Some(Duration::from_millis(END)));
+    Ok(runtime)
 }
 
 /// What the connections share.
@@ -143,8 +163,8 @@ fn shared_by<T: Taker, O: Outside, W: Waker>(
     )?)
 }
 
-/// Serves the connections of the listeners until the flag is set.
-fn serve<
+/// Serves the connections of the listeners, which share this, until the flag is set.
+fn serve_shared<
     R: Wait + Clock + Net + RandomSource + AllocGlobal + Copy + Drop,
     T: Taker,
     O: Outside,
@@ -154,23 +174,51 @@ fn serve<
     alloc: Global,
     runtime: &mut LocalRuntime,
     listeners: Vec<(u8, TcpListener)>,
-    shared: &Arc<Shared<T, O, W>>,
     stop: Arc<AtomicBool>,
+    shared: &Arc<Shared<T, O, W>>,
 ) -> Result<(), FrontFault> {
-    let timers = runtime.handle().time();
+    let maker = maker_of(rt, alloc, runtime.handle().time(), shared)?;
+    serve(&rt, alloc, runtime, listeners, stop, maker)
+}
+
+/// Serves the connections of the listeners until the flag is set. What a connection is made of is not said here: whoever makes them is any.
+fn serve<R: Wait + Clock + Net + RandomSource + AllocGlobal, M: Make>(
+    rt: &R,
+    alloc: Global,
+    runtime: &mut LocalRuntime,
+    listeners: Vec<(u8, TcpListener)>,
+    stop: Arc<AtomicBool>,
+    maker: M,
+) -> Result<(), FrontFault> {
+    let places = Arc::new(alloc, Semaphore::new(alloc, CONNECTIONS)?)?;
+    let looks = runtime
+        .handle()
+        .time()
+        .interval(rt, Duration::from_millis(LOOK))?;
     let connections = Connections {
         listeners,
-        maker: Maker {
-            rt,
-            alloc,
-            shared: Arc::try_clone(shared)?,
-            http: settings(rt, alloc, timers.clone()?)?,
-        },
-        places: Arc::new(alloc, Semaphore::new(alloc, CONNECTIONS)?)?,
+        maker,
+        places,
         stop,
-        looks: timers.interval(&rt, Duration::from_millis(LOOK))?,
+        looks,
     };
-    Ok(runtime.run_all(&rt, connections)?)
+    Ok(runtime.run_all(rt, connections)?)
+}
+
+/// What makes connections that share this.
+fn maker_of<R: Clock + RandomSource + Copy + Drop, T: Taker, O: Outside, W: Waker>(
+    rt: R,
+    alloc: Global,
+    timers: &time::Handle,
+    shared: &Arc<Shared<T, O, W>>,
+) -> Result<Maker<R, T, O, W>, FrontFault> {
+    let http = settings(rt, alloc, timers.clone()?)?;
+    Ok(Maker {
+        rt,
+        alloc,
+        shared: Arc::try_clone(shared)?,
+        http,
+    })
 }
 
 /// What a front leaves whose connections have ended.
