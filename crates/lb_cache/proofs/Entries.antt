@@ -1,5 +1,5 @@
 -- Keys with their slots, in the order of the keys.
-use Rattle.std.proofs.Common.{◌≡◌, ◌⊎◌, ℕ, Bool, true, false, not, cond, ◌&&◌, T, List, [], ◌∷◌, Option, None, Some, Contains, ◌↔◌, inl, inr, refl, sym, ap, subst, ◌∙◌}
+use Rattle.std.proofs.Common.{◌≡◌, ◌⊎◌, ℕ, Bool, true, false, not, cond, ◌&&◌, T, List, [], ◌∷◌, Option, None, Some, Result, Ok, Err, OnOk, OnErr, Contains, ◌↔◌, inl, inr, refl, sym, ap, subst, ◌∙◌}
 use Rattle.std.specs.FinMap.Entries.{below_all, find, find-put, find-where_key, is_sorted, is_sorted-put, is_sorted-where_key, put, same_entries}
 use Rattle.std.specs.Ordering.{eq_by_cmp, is_eq, is_lt, ordering_reverse}
 use Rattle.std.specs.declared.cmp.Ordering.{Ordering}
@@ -35,10 +35,10 @@ some_is x y is = cc is
 one_key : (a b : Key) → cmp_key a b ≡ Equal → a ≡ b
 one_key a b tied = same_is a b (key_ties a b ∙ ap is_eq tied)
 
-tied_key : (a b : Key) → eq_by_cmp cmp_key a b ≡ true → a ≡ b
+pub tied_key : (a b : Key) → eq_by_cmp cmp_key a b ≡ true → a ≡ b
 tied_key a b tied = same_is a b (key_ties a b ∙ tied)
 
-own_key : (a : Key) → eq_by_cmp cmp_key a a ≡ true
+pub own_key : (a : Key) → eq_by_cmp cmp_key a a ≡ true
 own_key a = ap is_eq (tied_itself key_total a)
 
 -- a key that ties with another is not told from it
@@ -138,3 +138,8 @@ but_is k v es fs sorted_es sorted_fs is but =
     (λ q.
     but_found k v es fs sorted_es sorted_fs is but q (eq_by_cmp cmp_key k q) refl
     ∙ sym (find-where_key cmp_key (λ (x : Key). not (eq_by_cmp cmp_key k x)) q (λ x tied. ap (λ (y : Key). not (eq_by_cmp cmp_key k y)) (sym (one_key q x tied))) es))
+
+-- what follows from the new and from the old
+pub either_way : {A E P Q R : Type 0} (r : Result A E) → OnOk r P → OnErr r Q → (P → R) → (Q → R) → R
+either_way (Ok a) ok err new old = new ok
+either_way (Err e) ok err new old = old err

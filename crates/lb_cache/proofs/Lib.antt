@@ -10,12 +10,16 @@ mod Questions
 mod WithCache
 pub mod AreKept
 mod Members
+mod Fronts
+mod Filings
 mod Entries
-mod Sides
+mod KeySides
+mod Listings
 mod MarkOrder
 mod Listed
 mod Marked
 mod Shelved
 mod Views
 mod Stores
+mod Collected
 mod Whole

@@ -1,17 +1,15 @@
 -- What the cache's calls leave of its replies.
-use Rattle.std.proofs.Common.{◌≡◌, ◌≢◌, ◌==◌, ℕ, ◌+◌, ◌-◌, ◌<◌, ◌≤◌, Bool, true, false, inl, inr, List, length, Option, Some, None, refl, sym, ap, ◌∙◌, arith}
+use Rattle.std.proofs.Common.{◌≡◌, ℕ, ◌-◌, Bool, true, false, not, cond, List, length, Option, Some, None, refl, sym, ap, ◌∙◌}
 use Rattle.std.specs.Prelude.{nat_lt}
 use Rattle.std.specs.List.{filter, list_any}
-use Rattle.std.proofs.lemmas.Bool.{cases_Bool, cond-true, cond-false, eqb-true}
-use Rattle.lb_slots.specs.Slots.{Updates}
+use Rattle.std.proofs.lemmas.Bool.{cond-true, cond-false}
 use Rattle.lb_wire.specs.declared.kept.Kept.{Kept}
 use Rattle.lb_wire.specs.declared.kept.Kept.TheVariants.{NoRoom, NoMemory}
 use Rattle.lb_cache.specs.declared.reply.CachedReply.{CachedReply}
 use Rattle.lb_cache.specs.Reply.{has_key, has_other, is_dead, lives}
 use Rattle.lb_cache.specs.Cache.{Caching, expunged, kept_with, lacks, placed, put_among, written}
-use Rattle.lb_cache.specs.Store.{AreFiled, Stored, goes, in_slot, others, replies_of, stays}
+use Rattle.lb_cache.specs.Store.{AreFiled, Stored, in_slot, others, replies_of, stays}
 use Rattle.lb_cache.proofs.Expunged.{expunged_is, living_left}
-use Rattle.lb_cache.proofs.Shelved.{apart}
 use Rattle.lb_cache.proofs.Views.{length_view, replies_filter}
 
 abbrev pub cached : ℕ → ℕ → ℕ → Stored → Caching
@@ -33,6 +31,14 @@ pub purged : (now max shards max_ttl : ℕ) (old new : Stored) (before after : �
 purged now max shards max_ttl old new before after so sn is b a =
     expunged_is (is_dead now) (cached max shards max_ttl old) (replies_of new) before after (replies_filter (lives now) old new so sn is ∙ living_left now (replies_of old)) (b ∙ sym (length_view old so)) (a ∙ sym (length_view new sn))
 
+stays_same : (p q : CachedReply → Bool) (o : Option CachedReply) → ((r : CachedReply) → p r ≡ q r) → stays (others p) o ≡ stays (others q) o
+stays_same p q None same = refl
+stays_same p q (Some r) same = ap (λ (b : Bool). cond (not b) (Some r) None) (same r)
+
+-- what one test leaves, a test that is the same everywhere does
+pub left_too : (p q : CachedReply → Bool) (old new : Stored) → ((r : CachedReply) → p r ≡ q r) → ((s : ℕ) → in_slot new s ≡ stays (others p) (in_slot old s)) → (s : ℕ) → in_slot new s ≡ stays (others q) (in_slot old s)
+left_too p q old new same left s = left s ∙ stays_same p q (in_slot old s) same
+
 -- ---- keeping
 
 abbrev Among : Caching → CachedReply → List CachedReply → List CachedReply → Kept → Type 0
@@ -52,51 +58,3 @@ among_living cache r now items kept new full dead is = put_is cache r (filter (l
 
 pub no_room : (cache : Caching) (r : CachedReply) (now : ℕ) → list_any (has_key r.key) cache.replies ≡ false → nat_lt (length cache.replies) cache.max ≡ false → list_any (is_dead now) cache.replies ≡ false → (cache, NoRoom) ≡ kept_with (lacks NoRoom) cache r now
 no_room cache r now new full none = sym (cond-false _ _ _ new ∙ cond-false _ _ _ full ∙ cond-false _ _ _ none)
-
--- ---- a walk over all slots
-
--- a slot of a walk that takes out what passes
-step_gone : (p : CachedReply → Bool) (o : Option CachedReply) → goes p o ≡ true → None ≡ stays (others p) o
-step_gone p None on = absurd (cc)
-step_gone p (Some r) on = rw on refl
-
-step_stays : (p : CachedReply → Bool) (o : Option CachedReply) → goes p o ≡ false → o ≡ stays (others p) o
-step_stays p None off = refl
-step_stays p (Some r) off = rw off refl
-
--- the slots before one are done, and the others are as they were
-abbrev pub Walked : (CachedReply → Bool) → Stored → Stored → ℕ → Type 0
-Walked p init cur n = ((s : ℕ) → s < n → in_slot cur s ≡ stays (others p) (in_slot init s)) × ((s : ℕ) → n ≤ s → in_slot cur s ≡ in_slot init s)
-
-pub walked_gone : (p : CachedReply → Bool) (init cur next : Stored) (slot : ℕ) → Walked p init cur slot → goes p (in_slot cur slot) ≡ true → Updates cur.cells next.cells slot None → Walked p init next (slot + 1)
-walked_gone p init cur next slot was on up = (
-  λ s lt. elim (cases_Bool (s == slot)) [
-    | inl t ↦
-        let same : s ≡ slot = eqb-true s slot t in
-        let own : in_slot cur slot ≡ in_slot init slot = was.1 slot (omega arith) in
-        ap (in_slot next) same ∙ up.changed ∙ step_gone p (in_slot cur slot) on ∙ ap (stays (others p)) own ∙ ap (λ (k : ℕ). stays (others p) (in_slot init k)) (sym same)
-    | inr t ↦
-        let other : s ≢ slot = apart s slot t in
-        let low : s < slot = omega (arith, lt, other) in
-        up.others s other ∙ was.0 s low
-  ],
-  λ s le.
-      let other : s ≢ slot = λ e. absurd (omega (arith, le, e)) in
-      let high : slot ≤ s = omega (arith, le) in
-      up.others s other ∙ was.1 s high,
-)
-
-pub walked_stays : (p : CachedReply → Bool) (init cur : Stored) (slot : ℕ) → Walked p init cur slot → goes p (in_slot cur slot) ≡ false → Walked p init cur (slot + 1)
-walked_stays p init cur slot was off = (
-  λ s lt. elim (cases_Bool (s == slot)) [
-    | inl t ↦
-        let same : s ≡ slot = eqb-true s slot t in
-        let own : in_slot cur slot ≡ in_slot init slot = was.1 slot (omega arith) in
-        ap (in_slot cur) same ∙ step_stays p (in_slot cur slot) off ∙ ap (stays (others p)) own ∙ ap (λ (k : ℕ). stays (others p) (in_slot init k)) (sym same)
-    | inr t ↦
-        let other : s ≢ slot = apart s slot t in
-        let low : s < slot = omega (arith, lt, other) in
-        was.0 s low
-  ],
-  λ s le. let high : slot ≤ s = omega (arith, le) in was.1 s high,
-)

@@ -3,10 +3,11 @@ pub use Rattle.lb_wire.specs.Message
 pub use Rattle.lb_wire.specs.Aging
 pub use Rattle.lb_name.specs.Name
 pub mod Reply
+pub mod Question
 pub mod Keys
+pub mod Listing
 pub mod Ends
 pub mod Packed
 pub mod Store
-pub mod Question
 pub mod Cache
 pub mod Caches

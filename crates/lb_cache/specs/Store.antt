@@ -6,7 +6,7 @@ use Rattle.lb_slots.specs.Slots.{get}
 use Rattle.lb_wire.specs.declared.key.Key.{Key}
 use Rattle.lb_cache.specs.declared.ends.Ends.{Ends}
 use Rattle.lb_cache.specs.Ends.{has}
-use Rattle.lb_cache.specs.Keys.{slots_of}
+use Rattle.lb_cache.specs.Keys.{is_within, slots_of}
 use Rattle.lb_cache.specs.declared.reply.CachedReply.{CachedReply}
 use Rattle.lb_cache.specs.Reply.{cmp_key, end_of}
 
@@ -72,10 +72,20 @@ abbrev pub stays : (CachedReply → Bool) → Option CachedReply → Option Cach
 stays p None = None
 stays p (Some r) = cond (p r) (Some r) None
 
--- whether a slot's reply passes, and the test that the others pass
-abbrev pub goes : (CachedReply → Bool) → Option CachedReply → Bool
-goes p None = false
-goes p (Some r) = p r
-
+-- the test that the others pass
 abbrev pub others : (CachedReply → Bool) → CachedReply → Bool
 others p r = not (p r)
+
+-- no two slots hold replies of one key
+abbrev pub AreApart : List (List (Option CachedReply)) → Type 0
+AreApart cells = (s t : ℕ) (q r : CachedReply) → get cells s ≡ Some q → get cells t ≡ Some r → q.key ≡ r.key → s ≡ t
+
+-- the entries are those of the replies in the slots before one
+pub record AreListed (cells : List (List (Option CachedReply))) (top : ℕ) (entries : List (Key × ℕ)) : Type 0 where
+  pub order : T (is_sorted cmp_key entries)
+  pub all : (slot : ℕ) (r : CachedReply) → get cells slot ≡ Some r → slot < top → find cmp_key r.key entries ≡ Some slot
+  pub only : (key : Key) (slot : ℕ) → find cmp_key key entries ≡ Some slot → (slot < top) × Holds cells (key, slot)
+
+-- whether a reply's key is filed at or after the one and before the other
+abbrev pub within : List ℕ → List ℕ → CachedReply → Bool
+within low high r = is_within low high r.key.octets

@@ -7,13 +7,13 @@ ghost use Rattle.lb_wire.specs.Octets.{max_message};
 ghost use Rattle.lb_cache.specs.Cache.{AreReplies, empty_cache, expunged, kept_with, lacks, looked, placed, written};
 ghost use Rattle.lb_cache.specs.Question.{covers_all, covers_name, covers_suffix};
 ghost use Rattle.lb_cache.specs.Reply.{cmp_key, has_other, is_dead, lives};
-ghost use Rattle.lb_cache.specs.Store.{goes, in_slot, others, replies_at, replies_of, stays};
+ghost use Rattle.lb_cache.specs.Store.{in_slot, others, replies_at, replies_of, stays};
 
+use crate::filing::Span;
 use crate::limits::{MaxEntries, MaxTtl, Shards};
 use crate::packed::Packed;
-use crate::question::{asks_name, asks_under};
 use crate::reply::{CachedReply, Hit};
-use crate::store::{Store, purge, purge_but};
+use crate::store::{Store, purge, purge_but, take_within};
 use lb_name::Name;
 use lb_wire::{Kept, Key, RecordType};
 use std::alloc::{AllocError, Global};
@@ -132,36 +132,16 @@ fn any_dead(store: &Store, now: u64) -> bool
     store.first_dead(now).is_some()
 }
 
-/// Whether the reply in a slot is one that an expunge by name takes out.
-fn has_name(store: &Store, slot: u64, name: &Name, qtype: Option<RecordType>) -> bool
-    ensures { result ≡ goes (covers_name name.now qtype) (in_slot store.now slot) }
-{
-    match store.get(slot) {
-        Some(reply) => asks_name(reply.key_octets(), name, qtype),
-        None => false,
-    }
-}
-
-/// Whether the reply in a slot is one that an expunge by suffix takes out.
-fn has_suffix(store: &Store, slot: u64, name: &Name) -> bool
-    ensures { result ≡ goes (covers_suffix name.now) (in_slot store.now slot) }
-{
-    match store.get(slot) {
-        Some(reply) => asks_under(reply.key_octets(), name),
-        None => false,
-    }
-}
-
 /// Takes out what an expunge by name covers.
 fn take_name(store: &mut Store, name: &Name, qtype: Option<RecordType>)
     ensures left { (s : ℕ) → in_slot store.new s ≡ stays (others (covers_name name.now qtype)) (in_slot store.old s) }
     ensures few { length store.new.keys ≤ length store.old.keys }
 {
-    for slot in 0..store.top() {
-        if has_name(store, slot, name, qtype) {
-            store.remove(slot);
-        }
-    }
+    let span = match qtype {
+        Some(rtype) => Span::of_type(name, rtype),
+        None => Span::of_name(name),
+    };
+    take_within(store, &span);
 }
 
 /// Takes out what an expunge by suffix covers.
@@ -169,11 +149,8 @@ fn take_suffix(store: &mut Store, name: &Name)
     ensures left { (s : ℕ) → in_slot store.new s ≡ stays (others (covers_suffix name.now)) (in_slot store.old s) }
     ensures few { length store.new.keys ≤ length store.old.keys }
 {
-    for slot in 0..store.top() {
-        if has_suffix(store, slot, name) {
-            store.remove(slot);
-        }
-    }
+    let span = Span::of_suffix(name);
+    take_within(store, &span);
 }
 
 impl Cache {

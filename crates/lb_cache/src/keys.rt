@@ -1,11 +1,14 @@
 //! Slots by the keys of the replies in them.
 
-ghost use Rattle.std.specs.Prelude.{◌≡◌, [], ◌++◌, None, Some, T, IfOk, OnErr, OnOk, map};
-ghost use Rattle.std.specs.FinMap.Entries.{find, is_sorted, put};
-ghost use Rattle.lb_cache.specs.Keys.{key_with, slots_of, without_key};
+ghost use Rattle.std.specs.Prelude.{◌≡◌, ℕ, true, false, [], ◌++◌, None, Some, IfNone, IfSome, OnErr, OnOk};
+ghost use Rattle.std.specs.FinMap.Entries.{find, put};
+ghost use Rattle.std.specs.List.{Contains};
+ghost use Rattle.lb_wire.specs.declared.key.Key.{Key};
+ghost use Rattle.lb_ranks.specs.declared.filed.Filed.{Filed};
+ghost use Rattle.lb_cache.specs.Keys.{is_filed_within, is_within, key_with, without_key};
 ghost use Rattle.lb_cache.specs.Reply.{cmp_key};
-ghost use Rattle.lb_ranks.specs.Filed.{filed_at, AreInOrder, HasBesides, HasBut};
 
+use crate::filing::{Span, head_of};
 use lb_ranks::Ranks;
 use lb_wire::Kind;
 use std::alloc::{AllocError, Global};
@@ -19,51 +22,26 @@ pub(crate) struct Keys {
 }
 
 impl Model for Keys {
-    ghost use Rattle.std.specs.Prelude.{ℕ, List, T};
-    ghost use Rattle.std.specs.FinMap.Entries.{is_sorted};
+    ghost use Rattle.std.specs.Prelude.{ℕ, List};
     ghost use Rattle.lb_wire.specs.declared.key.Key.{Key};
-    ghost use Rattle.lb_cache.specs.Keys.{entries_of};
-    ghost use Rattle.lb_cache.specs.Reply.{cmp_key};
+    ghost use Rattle.lb_cache.specs.Keys.{entries_of, AreKeys};
 
     ghost Value = { List (Key × ℕ) };
 
     ghost view = { λ k. entries_of k.datagrams k.streams };
 
-    ghost invariant = { λ k. T (is_sorted cmp_key (entries_of k.datagrams k.streams)) };
+    ghost invariant = { λ k. AreKeys k.datagrams × AreKeys k.streams };
 }
 
-/// Files a slot under octets. The one error is want of memory, and leaves all as it was.
-fn file(slots: &mut Ranks, octets: &[u8], slot: u64) -> Result<(), AllocError>
-    ensures filed { OnOk result (HasBesides slots.old (filed_at octets.now slot) slots.new) }
-    ensures kept { OnErr result (slots.new ≡ slots.old) }
-    ensures order { AreInOrder slots.new }
+/// A slot whose key is filed at or after the one and before the other.
+fn first_in(slots: &Ranks, span: &Span) -> Option<u64>
+    ensures some { IfSome result (λ slot. (f : Filed) × Contains slots.now f × (f.rank ≡ slot) × (is_filed_within span.now.low.items span.now.high.items f ≡ true)) }
+    ensures none { IfNone result ((f : Filed) → Contains slots.now f → is_filed_within span.now.low.items span.now.high.items f ≡ false) }
 {
-    let filed = slots.file(octets, slot);
     // a law: it does nothing
     slots.stand_in_order();
-    filed
-}
-
-/// Takes a slot from octets.
-fn unfile(slots: &mut Ranks, octets: &[u8], slot: u64)
-    ensures but { HasBut slots.old (filed_at octets.now slot) slots.new }
-    ensures order { AreInOrder slots.new }
-{
-    slots.unfile(octets, slot);
-    // a law: it does nothing
-    slots.stand_in_order();
-}
-
-/// Puts all slots behind a list, in the order of their keys. The one error is want of memory.
-fn list_slots(slots: &Ranks, list: &mut Vec<u64>) -> Result<(), AllocError>
-    ensures { OnOk result (list.new.items ≡ list.old.items ++ map (λ f. f.rank) slots.now) }
-{
-    list.reserve(slots.len())?;
-    let mut walk = slots.walk_from(&[]);
-    'slots: while let Some(slot) = walk.next() {
-        list.push(slot)?;
-    }
-    Ok(())
+    let mut walk = slots.walk_from(span.low.as_slice());
+    walk.next_below(span.high.as_slice())
 }
 
 impl Keys {
@@ -81,9 +59,10 @@ impl Keys {
     pub(crate) fn get(&self, kind: Kind, octets: &[u8]) -> Option<u64>
         ensures { result ≡ find cmp_key (key_with kind octets.now) self.now }
     {
+        let head = head_of(octets);
         match kind {
-            Kind::Datagram => self.datagrams.next_at(octets, 0),
-            Kind::Stream => self.streams.next_at(octets, 0),
+            Kind::Datagram => self.datagrams.next_joined(head.as_slice(), octets, 0),
+            Kind::Stream => self.streams.next_joined(head.as_slice(), octets, 0),
         }
     }
 
@@ -93,9 +72,10 @@ impl Keys {
         ensures put { OnOk result (self.new ≡ put cmp_key (key_with kind octets.now) slot self.old) }
         ensures kept { OnErr result (self.new ≡ self.old) }
     {
+        let head = head_of(octets);
         match kind {
-            Kind::Datagram => file(&mut self.datagrams, octets, slot),
-            Kind::Stream => file(&mut self.streams, octets, slot),
+            Kind::Datagram => self.datagrams.file_joined(head.as_slice(), octets, slot),
+            Kind::Stream => self.streams.file_joined(head.as_slice(), octets, slot),
         }
     }
 
@@ -104,27 +84,21 @@ impl Keys {
         requires { find cmp_key (key_with kind octets.now) self.old ≡ Some slot }
         ensures { self.new ≡ without_key (key_with kind octets.now) self.old }
     {
+        let head = head_of(octets);
         match kind {
-            Kind::Datagram => unfile(&mut self.datagrams, octets, slot),
-            Kind::Stream => unfile(&mut self.streams, octets, slot),
+            Kind::Datagram => self.datagrams.unfile_joined(head.as_slice(), octets, slot),
+            Kind::Stream => self.streams.unfile_joined(head.as_slice(), octets, slot),
         }
     }
 
-    /// The slots in the order of their keys. The one error is want of memory.
-    pub(crate) fn slot_list(&self, alloc: Global) -> Result<Vec<u64>, AllocError>
-        ensures { IfOk result (λ list. list.items ≡ slots_of self.now) }
+    /// The slot of a key within a span, if there is one. It takes no memory.
+    pub(crate) fn first_within(&self, span: &Span) -> Option<u64>
+        ensures some { IfSome result (λ slot. (key : Key) × (find cmp_key key self.now ≡ Some slot) × (is_within span.now.low.items span.now.high.items key.octets ≡ true)) }
+        ensures none { IfNone result ((key : Key) (slot : ℕ) → find cmp_key key self.now ≡ Some slot → is_within span.now.low.items span.now.high.items key.octets ≡ false) }
     {
-        let mut list = Vec::new(alloc);
-        list_slots(&self.datagrams, &mut list)?;
-        list_slots(&self.streams, &mut list)?;
-        Ok(list)
-    }
-
-    /// A law: the keys stand in their order, none twice. It does nothing.
-    pub(crate) fn law_of_order(&self)
-        ensures { T (is_sorted cmp_key self.now) }
-    {
-        // Read, so that what the index keeps true is at hand.
-        let _ = &self.datagrams;
+        match first_in(&self.datagrams, span) {
+            Some(slot) => Some(slot),
+            None => first_in(&self.streams, span),
+        }
     }
 }

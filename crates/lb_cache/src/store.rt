@@ -4,13 +4,15 @@ ghost use Rattle.std.specs.Prelude.{◌≡◌, ◌≢◌, ◌+◌, ◌<◌, ◌�
 ghost use Rattle.std.specs.FinMap.Entries.{find, put};
 ghost use Rattle.lb_slots.specs.Slots.{Updates, get};
 ghost use Rattle.lb_cache.specs.Ends.{has, is_end_mark};
-ghost use Rattle.lb_cache.specs.Keys.{slots_of, without_key};
+ghost use Rattle.lb_cache.specs.Keys.{is_within, slots_of, without_key};
 ghost use Rattle.lb_cache.specs.Reply.{cmp_key, end_of, is_dead, lives};
-ghost use Rattle.lb_cache.specs.Store.{AreFiled, in_slot, is_at, stays};
+ghost use Rattle.lb_cache.specs.Store.{AreApart, AreFiled, AreListed, in_slot, is_at, others, stays, within};
 ghost use Rattle.lb_cache.specs.declared.reply.CachedReply.{CachedReply};
 
 use crate::ends::Ends;
+use crate::filing::Span;
 use crate::keys::Keys;
+use crate::listing::Listing;
 use crate::packed::Packed;
 use lb_slots::Slots;
 use lb_wire::Key;
@@ -114,6 +116,30 @@ fn move_end(
     Ok(())
 }
 
+/// Puts the key of the reply in a slot, if there is one, into the listing. The one error is want of memory.
+fn list_key(listing: &mut Listing, cells: &Slots<Packed>, slot: u64) -> Result<(), AllocError>
+    requires new { (r : CachedReply) → get cells.now slot ≡ Some r → find cmp_key r.key listing.old ≡ None }
+    ensures put { OnOk result ((r : CachedReply) → get cells.now slot ≡ Some r → listing.new ≡ put cmp_key r.key slot listing.old) }
+    ensures none { OnOk result (get cells.now slot ≡ None → listing.new ≡ listing.old) }
+{
+    match cells.get(slot as usize) {
+        Some(reply) => listing.put(reply.kind(), reply.key_octets(), slot),
+        None => Ok(()),
+    }
+}
+
+/// The keys of the replies in the slots before one. The one error is want of memory.
+fn listing_of(alloc: Global, cells: &Slots<Packed>, top: u64) -> Result<Listing, AllocError>
+    requires { AreApart cells.now }
+    ensures { IfOk result (λ listing. AreListed cells.now top listing) }
+{
+    let mut listing = Listing::new(alloc);
+    for slot in 0..top {
+        list_key(&mut listing, cells, slot)?;
+    }
+    Ok(listing)
+}
+
 impl Store {
     /// No reply. It takes no memory.
     pub(crate) fn new(alloc: Global) -> Store
@@ -157,18 +183,20 @@ impl Store {
         self.cells.get(slot as usize)
     }
 
-    /// All replies are in slots before this one.
-    pub(crate) fn top(&self) -> u64
-        ensures { (s : ℕ) → IsSome (in_slot self.now s) → s < result }
-    {
-        self.top
-    }
-
     /// The slots in the order of the keys. The one error is want of memory.
     pub(crate) fn slot_list(&self, alloc: Global) -> Result<Vec<u64>, AllocError>
         ensures { IfOk result (λ list. list.items ≡ slots_of self.now.keys) }
     {
-        self.keys.slot_list(alloc)
+        let listing = listing_of(alloc, &self.cells, self.top)?;
+        listing.slots(alloc)
+    }
+
+    /// The slot of a reply whose key is within a span, if there is one. It takes no memory.
+    pub(crate) fn first_within(&self, span: &Span) -> Option<u64>
+        ensures some { IfSome result (λ slot. (r : CachedReply) × (in_slot self.now slot ≡ Some r) × (is_within span.now.low.items span.now.high.items r.key.octets ≡ true)) }
+        ensures none { IfNone result ((s : ℕ) (r : CachedReply) → in_slot self.now s ≡ Some r → is_within span.now.low.items span.now.high.items r.key.octets ≡ false) }
+    {
+        self.keys.first_within(span)
     }
 
     /// Puts a reply, whose key no other has, in a slot of its own, and gives that. The one error is want of memory.
@@ -244,6 +272,16 @@ impl Store {
             Some((end, slot)) if end <= now => Some(slot),
             _ => None,
         }
+    }
+}
+
+/// Takes the replies out whose keys are within a span. It takes no memory.
+pub(crate) fn take_within(store: &mut Store, span: &Span)
+    ensures left { (s : ℕ) → in_slot store.new s ≡ stays (others (within span.now.low.items span.now.high.items)) (in_slot store.old s) }
+    ensures few { length store.new.keys ≤ length store.old.keys }
+{
+    while let Some(slot) = store.first_within(span) {
+        store.remove(slot);
     }
 }
 

@@ -8,6 +8,7 @@ pub mod AtSpots
 pub mod Taking
 pub mod Putting
 pub mod Packing
+pub mod Pieces
 pub mod Fences
 pub mod Ends
 pub mod Walks

@@ -29,7 +29,7 @@ more_by a b Greater e lt = refl
 more_cmp : (a b : ℕ) → b < a → nat_cmp a b ≡ Greater
 more_cmp a b lt = more_by a b (nat_cmp a b) refl lt
 
-then_then : (o r s : Ordering) → ordering_then (ordering_then o r) s ≡ ordering_then o (ordering_then r s)
+pub then_then : (o r s : Ordering) → ordering_then (ordering_then o r) s ≡ ordering_then o (ordering_then r s)
 then_then Less r s = refl
 then_then Equal r s = refl
 then_then Greater r s = refl
@@ -314,7 +314,7 @@ packed_front f g r s a b same = (a.front_is ∙ ap front_of_key same ∙ sym b.f
 pub least_of : (a b m : ℕ) → m ≡ min a b → (m ≤ a) × (m ≤ b) × (a ≤ m ⊎ b ≤ m)
 least_of a b m is = grind arith
 
-drop_over : (n : ℕ) (key : List ℕ) → length key ≤ n → drop n key ≡ []
+pub drop_over : (n : ℕ) (key : List ℕ) → length key ≤ n → drop n key ≡ []
 drop_over zero [] le = refl
 drop_over (suc n) [] le = refl
 drop_over zero (x ∷ key) le = absurd (omega (arith, le))

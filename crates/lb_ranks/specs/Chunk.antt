@@ -8,7 +8,7 @@ use Rattle.lb_ranks.specs.Front.{front_of_key, AreOctets}
 
 -- how many pairs a chunk may have
 abbrev pub max_pairs : ℕ
-max_pairs = 32
+max_pairs = 64
 
 -- no chunk is empty
 abbrev pub IsFilled : List Filed → Type 0

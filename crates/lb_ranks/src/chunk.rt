@@ -14,13 +14,13 @@ use std::cmp::Ordering;
 use std::marker::Model;
 
 /// The most pairs of a chunk.
-const MAX_PAIRS: usize = 32;
+const MAX_PAIRS: usize = 64;
 
 /// How many pairs stay in a chunk that is divided.
 const HALF: usize = MAX_PAIRS / 2;
 
 /// For how many pairs more a chunk takes room where it has none left: no more, so that little of what chunks take is unused.
-const STEP: usize = 8;
+const STEP: usize = 2;
 
 /// Some pairs in order. A contract sees them as their list.
 #[derive(Debug, Drop)]

@@ -1,6 +1,6 @@
 //! The first octets of a key in three numbers.
 
-ghost use Rattle.std.specs.Prelude.{◌≡◌, ◌≤◌, ◌++◌, drop, IsTrue, ◌↔◌, length};
+ghost use Rattle.std.specs.Prelude.{◌≡◌, ◌+◌, ◌≤◌, ◌++◌, drop, take, IsTrue, ◌↔◌, length};
 ghost use Rattle.std.specs.Int.{from_be_bytes, w64};
 ghost use Rattle.lb_ranks.specs.Front.{counted, front_cmp, front_from, front_octets as octets_of_key, front_of_key};
 
@@ -21,33 +21,32 @@ pub(crate) struct Front {
     third: u64,
 }
 
-/// Puts octets over the first of others.
-fn put_front(octets: &mut [u8], piece: &[u8])
-    requires { length piece.now ≤ length octets.old }
-    ensures { octets.new ≡ piece.now ++ drop (length piece.now) octets.old }
+/// Puts octets over others from a place on.
+fn put_at(octets: &mut [u8], place: usize, piece: &[u8])
+    requires { place + length piece.now ≤ length octets.old }
+    ensures { octets.new ≡ take place octets.old ++ (piece.now ++ drop (place + length piece.now) octets.old) }
 {
-    octets[..piece.len()].copy_from_slice(piece);
+    octets[place..place + piece.len()].copy_from_slice(piece);
 }
 
-/// How many octets of the key stand in its front, one more where there are others.
-fn count_of(key: &[u8]) -> u8
-    ensures { result ≡ counted 23 key.now }
+/// How many octets of the key of two pieces stand in its front, one more where there are others.
+fn count_of(head: &[u8], tail: &[u8]) -> u8
+    ensures { result ≡ counted 23 (head.now ++ tail.now) }
 {
-    if key.len() > FRONT {
-        OCTETS as u8
-    } else {
-        key.len() as u8
-    }
+    let len = head.len().saturating_add(tail.len());
+    if len > FRONT { OCTETS as u8 } else { len as u8 }
 }
 
-/// The octets of the key's front, and how many there are.
-fn octets_of(key: &[u8]) -> [u8; OCTETS]
-    ensures { result ≡ octets_of_key key.now }
+/// The octets of the front of the key of two pieces, and how many there are.
+fn octets_of(head: &[u8], tail: &[u8]) -> [u8; OCTETS]
+    ensures { result ≡ octets_of_key (head.now ++ tail.now) }
 {
     let mut octets = [0; OCTETS];
-    let (front, _) = key.split_at(key.len().min(FRONT));
-    put_front(&mut octets, front);
-    octets[FRONT] = count_of(key);
+    let (first, _) = head.split_at(head.len().min(FRONT));
+    let (second, _) = tail.split_at(tail.len().min(FRONT - first.len()));
+    put_at(&mut octets, 0, first);
+    put_at(&mut octets, first.len(), second);
+    octets[FRONT] = count_of(head, tail);
     octets
 }
 
@@ -77,7 +76,14 @@ impl Front {
     pub(crate) fn of(key: &[u8]) -> Front
         ensures { result ≡ front_of_key key.now }
     {
-        let octets = octets_of(key);
+        Front::joined(key, &[])
+    }
+
+    /// The front of the key of two pieces.
+    pub(crate) fn joined(head: &[u8], tail: &[u8]) -> Front
+        ensures { result ≡ front_of_key (head.now ++ tail.now) }
+    {
+        let octets = octets_of(head, tail);
         front_from(&octets)
     }
 

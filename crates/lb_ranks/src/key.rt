@@ -1,6 +1,6 @@
 //! Keys: as they are kept, and as they are looked for.
 
-ghost use Rattle.std.specs.Prelude.{◌≡◌, IsTrue, ◌↔◌, IfOk};
+ghost use Rattle.std.specs.Prelude.{◌≡◌, ◌++◌, IsTrue, ◌↔◌, IfOk};
 ghost use Rattle.std.specs.Cmp.Lexicographic.{slice_cmp};
 ghost use Rattle.std.specs.Ordering.{nat_cmp};
 ghost use Rattle.lb_ranks.specs.Filed.{filed_at};
@@ -35,20 +35,53 @@ impl Model for Key {
 #[derive(Debug, Drop)]
 pub(crate) struct Probe<'a> {
     front: Front,
+    /// The octets behind the front, in two pieces.
     rest: &'a [u8],
+    more: &'a [u8],
     rank: u64,
 }
 
 impl<'a> Model for Probe<'a> {
+    ghost use Rattle.std.specs.Prelude.{◌++◌};
     ghost use Rattle.lb_ranks.specs.declared.filed.Filed.{Filed};
     ghost use Rattle.lb_ranks.specs.Filed.{filed_at};
     ghost use Rattle.lb_ranks.specs.Front.{key_from, IsPacked};
 
     ghost Value = { Filed };
 
-    ghost view = { λ p. filed_at (key_from p.front p.rest.now) p.rank };
+    ghost view = { λ p. filed_at (key_from p.front (p.rest.now ++ p.more.now)) p.rank };
 
-    ghost invariant = { λ p. IsPacked p.front p.rest.now };
+    ghost invariant = { λ p. IsPacked p.front (p.rest.now ++ p.more.now) };
+}
+
+/// The order of octets to those of two pieces.
+fn order_to(octets: &[u8], first: &[u8], second: &[u8]) -> Ordering
+    ensures { result ≡ slice_cmp nat_cmp octets.now (first.now ++ second.now) }
+{
+    let (front, back) = octets.split_at(octets.len().min(first.len()));
+    match front.cmp(first) {
+        Ordering::Equal => back.cmp(second),
+        order => order,
+    }
+}
+
+/// Whether octets are those of two pieces.
+fn is_joined(octets: &[u8], first: &[u8], second: &[u8]) -> bool
+    ensures { IsTrue result ↔ (octets.now ≡ first.now ++ second.now) }
+{
+    let (front, back) = octets.split_at(octets.len().min(first.len()));
+    front == first && back == second
+}
+
+/// The octets of two pieces in a block that is as long as they are. The one error is want of memory.
+fn joined(alloc: Global, first: &[u8], second: &[u8]) -> Result<Vec<u8>, AllocError>
+    ensures { IfOk result (λ octets. octets.items ≡ first.now ++ second.now) }
+{
+    let mut octets = Vec::new(alloc);
+    octets.reserve_exact(first.len().saturating_add(second.len()))?;
+    octets.extend_from_slice(first)?;
+    octets.extend_from_slice(second)?;
+    Ok(octets)
 }
 
 impl<'a> Probe<'a> {
@@ -56,9 +89,23 @@ impl<'a> Probe<'a> {
     pub(crate) fn of(key: &'a [u8], rank: u64) -> Probe<'a>
         ensures { result ≡ filed_at key.now rank }
     {
-        let front = Front::of(key);
-        let (_, rest) = key.split_at(key.len().min(FRONT));
-        Probe { front, rest, rank }
+        Probe::joined(key, &[], rank)
+    }
+
+    /// The key of two pieces, and this rank.
+    pub(crate) fn joined(head: &'a [u8], tail: &'a [u8], rank: u64) -> Probe<'a>
+        ensures { result ≡ filed_at (head.now ++ tail.now) rank }
+    {
+        let front = Front::joined(head, tail);
+        let cut = head.len().min(FRONT);
+        let (_, rest) = head.split_at(cut);
+        let (_, more) = tail.split_at(tail.len().min(FRONT - cut));
+        Probe {
+            front,
+            rest,
+            more,
+            rank,
+        }
     }
 
     /// The rank.
@@ -90,7 +137,7 @@ impl Key {
     pub(crate) fn copied(alloc: Global, at: &Probe<'_>) -> Result<Key, AllocError>
         ensures { IfOk result (λ key. key ≡ at.now.key) }
     {
-        let rest = Vec::from_slice(alloc, at.rest)?;
+        let rest = joined(alloc, at.rest, at.more)?;
         Ok(Key {
             front: at.front,
             rest,
@@ -102,7 +149,7 @@ impl Key {
         ensures { result ≡ slice_cmp nat_cmp self.now at.now.key }
     {
         match self.front.order(&at.front) {
-            Ordering::Equal => self.rest.as_slice().cmp(at.rest),
+            Ordering::Equal => order_to(self.rest.as_slice(), at.rest, at.more),
             order => order,
         }
     }
@@ -112,6 +159,6 @@ impl Key {
         ensures { IsTrue result ↔ (self.now ≡ at.now.key) }
     {
         let rest = self.rest.as_slice();
-        self.front.is(&at.front) && rest == at.rest
+        self.front.is(&at.front) && is_joined(rest, at.rest, at.more)
     }
 }

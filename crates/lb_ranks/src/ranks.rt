@@ -1,6 +1,6 @@
 //! Ranks that are filed under keys.
 
-ghost use Rattle.std.specs.Prelude.{◌≡◌, ◌<◌, ◌^◌, [], length, OnOk, OnErr};
+ghost use Rattle.std.specs.Prelude.{◌≡◌, ◌<◌, ◌^◌, ◌++◌, [], length, OnOk, OnErr};
 ghost use Rattle.lb_ranks.specs.Filed.{filed_at, AreInOrder, HasBesides, HasBut, IsFiledAt, IsFrom, TakesFirst};
 ghost use Rattle.lb_ranks.specs.Least.{IsLeastFrom};
 
@@ -47,7 +47,15 @@ impl Ranks {
         ensures ok { OnOk result (HasBesides self.old (filed_at key.now rank) self.new) }
         ensures err { OnErr result (self.new ≡ self.old) }
     {
-        let at = Probe::of(key, rank);
+        self.file_joined(key, &[], rank)
+    }
+
+    /// `file` under the key of two pieces.
+    pub fn file_joined(&mut self, head: &[u8], tail: &[u8], rank: u64) -> Result<(), AllocError>
+        ensures ok { OnOk result (HasBesides self.old (filed_at (head.now ++ tail.now) rank) self.new) }
+        ensures err { OnErr result (self.new ≡ self.old) }
+    {
+        let at = Probe::joined(head, tail, rank);
         file_in(&mut self.blocks, &at)
     }
 
@@ -55,7 +63,14 @@ impl Ranks {
     pub fn unfile(&mut self, key: &[u8], rank: u64)
         ensures { HasBut self.old (filed_at key.now rank) self.new }
     {
-        let at = Probe::of(key, rank);
+        self.unfile_joined(key, &[], rank);
+    }
+
+    /// `unfile` from the key of two pieces.
+    pub fn unfile_joined(&mut self, head: &[u8], tail: &[u8], rank: u64)
+        ensures { HasBut self.old (filed_at (head.now ++ tail.now) rank) self.new }
+    {
+        let at = Probe::joined(head, tail, rank);
         unfile_in(&mut self.blocks, &at);
     }
 
@@ -63,7 +78,14 @@ impl Ranks {
     pub fn next_at(&self, key: &[u8], from: u64) -> Option<u64>
         ensures { IsLeastFrom (IsFiledAt self.now key.now) from result }
     {
-        let at = Probe::of(key, from);
+        self.next_joined(key, &[], from)
+    }
+
+    /// `next_at` for the key of two pieces.
+    pub fn next_joined(&self, head: &[u8], tail: &[u8], from: u64) -> Option<u64>
+        ensures { IsLeastFrom (IsFiledAt self.now (head.now ++ tail.now)) from result }
+    {
+        let at = Probe::joined(head, tail, from);
         let filed = first_in(self.blocks.as_slice(), &at)?;
         if filed.has_key(&at) {
             Some(filed.rank())

@@ -99,7 +99,7 @@ impl SuffixIndex {
         self.ranks.take_first(key.as_slice(), key.as_end())
     }
 
-    /// How many pairs are filed, where that can be said in 64 bits. It does not look at each pair, but at each 64 or so.
+    /// How many pairs are filed, where that can be said in 64 bits. It counts them by chunks.
     pub fn len(&self) -> usize
         ensures { length self.now < 2 ^ 64 → result ≡ length self.now }
     {

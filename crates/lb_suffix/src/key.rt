@@ -14,7 +14,7 @@ const ROOM: usize = MAX_NAME + 1;
 
 /// The key of a name, in the room of a name. A contract sees it as the list of its octets.
 #[derive(Debug, Drop)]
-pub(crate) struct NameKey {
+pub struct NameKey {
     octets: [u8; ROOM],
     start: usize,
 }
@@ -32,15 +32,16 @@ impl Model for NameKey {
 
 impl NameKey {
     /// The octets.
-    pub(crate) fn as_slice(&self) -> &[u8]
-        ensures { result.now ≡ self.now }
+    pub fn as_slice(&self) -> &[u8]
+        ensures octets { result.now ≡ self.now }
+        ensures short { length result.now ≤ 255 }
     {
         let (key, _) = self.as_end().split_at(MAX_NAME - self.start);
         key
     }
 
     /// The octets of the first key that stands behind all those that begin with this one.
-    pub(crate) fn as_end(&self) -> &[u8]
+    pub fn as_end(&self) -> &[u8]
         ensures { result.now ≡ end_of self.now }
     {
         let (_, end) = self.octets.split_at(self.start);
@@ -92,8 +93,9 @@ fn reversed(wire: &[u8]) -> NameKey
     NameKey { octets, start }
 }
 
-/// The key of the name: its labels in lower case from the root, each after its length.
-pub(crate) fn key_of(name: &Name) -> NameKey
+/// The key of the name: its labels in lower case from the root, each after its length. So a name stands at or below another
+/// exactly where its key begins with the other's. It takes no memory.
+pub fn key_of(name: &Name) -> NameKey
     ensures key { result ≡ key_of_name name.now }
     ensures name { IsName (lower_name name.now) }
     ensures back { SplitsBack }

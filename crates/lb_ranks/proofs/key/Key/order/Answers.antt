@@ -1,4 +1,4 @@
-use Rattle.std.proofs.Common.{◌≡◌, List, ℕ, ap, sym, ◌∙◌, Ordering, Equal}
+use Rattle.std.proofs.Common.{◌≡◌, ◌++◌, List, ℕ, ap, sym, ◌∙◌, Ordering, Equal}
 use Rattle.std.specs.Cmp.Lexicographic.{slice_cmp}
 use Rattle.std.specs.Ordering.{nat_cmp, ordering_then}
 use Rattle.lb_ranks.specs.declared.filed.Filed.{Filed}
@@ -10,19 +10,19 @@ pub returns-in-Equal : goal.returns-in-Equal
 returns-in-Equal c =
     let own = c.self.inside in
     let other = c.at.inside in
-    let key : key_from other.front other.rest.now ≡ c.args.at.now.key = ap (λ (f : Filed). f.key) c.at.view_is in
+    let key : key_from other.front (other.rest.now ++ other.more.now) ≡ c.args.at.now.key = ap (λ (f : Filed). f.key) c.at.view_is in
     let fronts : front_cmp own.front other.front ≡ Equal = sym c.order.ensures ∙ c.in-Equal.is in
-    c.cmp.ensures ∙ ap (λ (xs : List ℕ). slice_cmp nat_cmp xs other.rest.now) c.as_slice.ensures.value
-    ∙ ap (λ (o : Ordering). ordering_then o (slice_cmp nat_cmp own.rest.items other.rest.now)) (sym fronts)
-    ∙ sym (packed_order own.front other.front own.rest.items other.rest.now c.self.invariant c.at.invariant)
-    ∙ ap (λ (xs : List ℕ). slice_cmp nat_cmp xs (key_from other.front other.rest.now)) c.self.view_is ∙ ap (λ (xs : List ℕ). slice_cmp nat_cmp c.args.self.now xs) key
+    c.order_to.ensures ∙ ap (λ (xs : List ℕ). slice_cmp nat_cmp xs (other.rest.now ++ other.more.now)) c.as_slice.ensures.value
+    ∙ ap (λ (o : Ordering). ordering_then o (slice_cmp nat_cmp own.rest.items (other.rest.now ++ other.more.now))) (sym fronts)
+    ∙ sym (packed_order own.front other.front own.rest.items (other.rest.now ++ other.more.now) c.self.invariant c.at.invariant)
+    ∙ ap (λ (xs : List ℕ). slice_cmp nat_cmp xs (key_from other.front (other.rest.now ++ other.more.now))) c.self.view_is ∙ ap (λ (xs : List ℕ). slice_cmp nat_cmp c.args.self.now xs) key
 
 pub returns-in_default : goal.returns-in_default
 returns-in_default c =
     let own = c.self.inside in
     let other = c.at.inside in
-    let key : key_from other.front other.rest.now ≡ c.args.at.now.key = ap (λ (f : Filed). f.key) c.at.view_is in
+    let key : key_from other.front (other.rest.now ++ other.more.now) ≡ c.args.at.now.key = ap (λ (f : Filed). f.key) c.at.view_is in
     c.order.ensures
-    ∙ sym (then_other (front_cmp own.front other.front) (slice_cmp nat_cmp own.rest.items other.rest.now) (λ same. c.in_default.not-Equal (c.order.ensures ∙ same)))
-    ∙ sym (packed_order own.front other.front own.rest.items other.rest.now c.self.invariant c.at.invariant)
-    ∙ ap (λ (xs : List ℕ). slice_cmp nat_cmp xs (key_from other.front other.rest.now)) c.self.view_is ∙ ap (λ (xs : List ℕ). slice_cmp nat_cmp c.args.self.now xs) key
+    ∙ sym (then_other (front_cmp own.front other.front) (slice_cmp nat_cmp own.rest.items (other.rest.now ++ other.more.now)) (λ same. c.in_default.not-Equal (c.order.ensures ∙ same)))
+    ∙ sym (packed_order own.front other.front own.rest.items (other.rest.now ++ other.more.now) c.self.invariant c.at.invariant)
+    ∙ ap (λ (xs : List ℕ). slice_cmp nat_cmp xs (key_from other.front (other.rest.now ++ other.more.now))) c.self.view_is ∙ ap (λ (xs : List ℕ). slice_cmp nat_cmp c.args.self.now xs) key

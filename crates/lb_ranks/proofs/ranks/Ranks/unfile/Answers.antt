@@ -1,15 +1,7 @@
-use Rattle.std.proofs.Common.{List, subst}
-use Rattle.lb_ranks.specs.declared.filed.Filed.{Filed}
-use Rattle.lb_ranks.specs.Chunk.{all_of}
-use Rattle.lb_ranks.specs.Filed.{HasBut}
-use Rattle.lb_ranks.proofs.Taking.{unfiled_but, unfiled_order}
+use Rattle.std.proofs.Common.{List, ℕ, subst}
+use Rattle.std.proofs.lemmas.List.{append-nil}
+use Rattle.lb_ranks.specs.Filed.{filed_at, HasBut}
 use Rattle.lb_ranks.proofs.ranks.Ranks.unfile.Goals as goal
 
-pub invariant_of-self : goal.invariant_of-self
-invariant_of-self c = (unfiled_order c.of-at.result (all_of c.self.inside.blocks.items) (all_of c.unfile_in.new.blocks.items) c.self.invariant.0 c.unfile_in.ensures.taken, c.unfile_in.ensures.filled)
-
 pub returns : goal.returns
-returns c =
-    let new = all_of c.unfile_in.new.blocks.items in
-    subst (λ (f : Filed). HasBut c.args.self.now f new) c.of-at.ensures
-    (subst (λ (xs : List Filed). HasBut xs c.of-at.result new) c.self.view_is (unfiled_but c.of-at.result (all_of c.self.inside.blocks.items) new c.self.invariant.0 c.unfile_in.ensures.taken))
+returns c = subst (λ (key : List ℕ). HasBut c.args.self.now (filed_at key c.args.rank) c.unfile_joined.new.self) (append-nil c.args.key.now) c.unfile_joined.ensures

@@ -11,7 +11,7 @@ invariant_of-self c =
     let name = c.args.name.now in
     let old = c.self.inside.ranks in
     let new = c.file.new.self in
-    let key : c.as_slice.result.now ≡ key_of name = c.as_slice.ensures ∙ c.key_of-key.ensures.key in
+    let key : c.as_slice.result.now ≡ key_of name = c.as_slice.ensures.octets ∙ c.key_of-key.ensures.key in
     let ok = subst (λ (k : List ℕ). OnOk c.file.result (HasBesides old (filed_at k c.args.rank) new)) key c.file.ensures.ok in
     keyed_put c.file.result old new name c.args.rank c.self.invariant c.key_of-key.ensures.name ok c.file.ensures.err
 
@@ -20,7 +20,7 @@ returns-clause-ok c =
     let name = c.args.name.now in
     let old = c.self.inside.ranks in
     let new = c.file.new.self in
-    let key : c.as_slice.result.now ≡ key_of name = c.as_slice.ensures ∙ c.key_of-key.ensures.key in
+    let key : c.as_slice.result.now ≡ key_of name = c.as_slice.ensures.octets ∙ c.key_of-key.ensures.key in
     let ok = subst (λ (k : List ℕ). OnOk c.file.result (HasBesides old (filed_at k c.args.rank) new)) key c.file.ensures.ok in
     on_ok_weaker c.file.result
     (λ has. subst (λ (ps : List Pair). IsFiledWith ps (pair_of name c.args.rank) (map shown new)) c.self.view_is

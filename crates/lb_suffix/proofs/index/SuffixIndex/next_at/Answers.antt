@@ -12,7 +12,7 @@ returns c =
     let name = c.args.name.now in
     let items = c.self.inside.ranks in
     let back = c.key_of-key.ensures.back in
-    let key : c.as_slice.result.now ≡ key_of name = c.as_slice.ensures ∙ c.key_of-key.ensures.key in
+    let key : c.as_slice.result.now ≡ key_of name = c.as_slice.ensures.octets ∙ c.key_of-key.ensures.key in
     let least = subst (λ (k : List ℕ). IsLeastFrom (IsFiledAt items k) c.args.from c.next_at.result) key c.next_at.ensures in
     subst (λ (ps : List Pair). IsLeastFrom (IsFiledAtName ps name) c.args.from c.next_at.result) c.self.view_is
     (least_same (IsFiledAt items (key_of name)) (IsFiledAtName (map shown items) name) c.args.from c.next_at.result

@@ -17,7 +17,7 @@ returns c =
     let name = c.args.name.now in
     let old = c.self.inside.ranks in
     let new = c.take_first.new.self in
-    let low : c.as_slice.result.now ≡ key_of name = c.as_slice.ensures ∙ c.key_of-key.ensures.key in
+    let low : c.as_slice.result.now ≡ key_of name = c.as_slice.ensures.octets ∙ c.key_of-key.ensures.key in
     let high : c.as_end.result.now ≡ end_of (key_of name) = c.as_end.ensures ∙ ap end_of c.key_of-key.ensures.key in
     let takes : TakesFirst (key_of name) (end_of (key_of name)) old c.take_first.result new =
     subst (λ (k : List ℕ). TakesFirst k (end_of (key_of name)) old c.take_first.result new) low

@@ -12,7 +12,7 @@ returns-clause-pairs c =
     let name = c.args.name.now in
     let items = c.self.inside.ranks in
     let rest : List Filed = c.walk_from-cursor.result in
-    let key : c.as_slice.result.now ≡ key_of name = c.as_slice.ensures ∙ c.key_of-key.ensures.key in
+    let key : c.as_slice.result.now ≡ key_of name = c.as_slice.ensures.octets ∙ c.key_of-key.ensures.key in
     let from : IsFrom (filed_at (key_of name) 0) items rest = subst (λ (k : List ℕ). IsFrom (filed_at k 0) items rest) key c.walk_from-cursor.ensures in
     let is : c.new.result ≡ pairs_before (end_of (key_of name)) rest = c.new.ensures ∙ ap (λ (k : List ℕ). pairs_before (end_of k) rest) c.key_of-key.ensures.key in
     λ p.

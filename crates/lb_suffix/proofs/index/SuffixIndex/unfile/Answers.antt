@@ -13,7 +13,7 @@ returns c =
     let name = c.args.name.now in
     let old = c.self.inside.ranks in
     let new = c.unfile.new.self in
-    let key : c.as_slice.result.now ≡ key_of name = c.as_slice.ensures ∙ c.key_of-key.ensures.key in
+    let key : c.as_slice.result.now ≡ key_of name = c.as_slice.ensures.octets ∙ c.key_of-key.ensures.key in
     let has = subst (λ (k : List ℕ). HasBut old (filed_at k c.args.rank) new) key c.unfile.ensures in
     subst (λ (ps : List Pair). IsFiledWithout ps (pair_of name c.args.rank) (map shown new)) c.self.view_is
     (unfiled_pairs c.key_of-key.ensures.back old new name c.args.rank c.self.invariant c.key_of-key.ensures.name has)
