@@ -81,7 +81,7 @@ impl Listing {
     }
 
     /// The slots in the order of their keys. The one error is want of memory.
-    pub(crate) fn slots(&self, alloc: Global) -> Result<Vec<u64>, AllocError>
+    pub(crate) fn slot_list(&self, alloc: Global) -> Result<Vec<u64>, AllocError>
         ensures { IfOk result (λ list. list.items ≡ slots_of self.now) }
     {
         let mut list = Vec::new(alloc);

@@ -188,7 +188,7 @@ impl Store {
         ensures { IfOk result (λ list. list.items ≡ slots_of self.now.keys) }
     {
         let listing = listing_of(alloc, &self.cells, self.top)?;
-        listing.slots(alloc)
+        listing.slot_list(alloc)
     }
 
     /// The slot of a reply whose key is within a span, if there is one. It takes no memory.

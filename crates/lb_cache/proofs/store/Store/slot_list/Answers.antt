@@ -13,4 +13,4 @@ pub returns : goal.returns
 returns c =
     let keys : c.in_ok-listing.listing ≡ c.args.self.now.keys =
     listed_keys c.self.inside.keys c.in_ok-listing.listing c.self.inside.cells c.self.inside.top c.self.invariant.are c.self.invariant.below c.in_ok-listing.ensures ∙ ap (λ (s : Stored). s.keys) c.self.view_is in
-    subst (λ (keys : List (Key × ℕ)). IfOk c.slots.result (λ list. list.items ≡ slots_of keys)) keys c.slots.ensures
+    subst (λ (keys : List (Key × ℕ)). IfOk c.slot_list.result (λ list. list.items ≡ slots_of keys)) keys c.slot_list.ensures

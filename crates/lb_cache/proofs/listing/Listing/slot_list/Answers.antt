@@ -2,7 +2,7 @@ use Rattle.std.proofs.Common.{◌≡◌, ◌∙◌, ◌++◌, List, ap, map, rul
 use Rattle.lb_ranks.specs.declared.filed.Filed.{Filed}
 use Rattle.lb_cache.specs.Keys.{slots_of}
 use Rattle.lb_cache.proofs.Listings.{slots_are}
-use Rattle.lb_cache.proofs.listing.Listing.slots.Goals as goal
+use Rattle.lb_cache.proofs.listing.Listing.slot_list.Goals as goal
 
 pub returns : goal.returns
 returns c =
