@@ -160,13 +160,12 @@ impl<'a, R: Wait + Clock, T: Taker, O: Outside> Console<'a, R, T, O> {
 
     /// A client that waits. Where one could not be taken in, the descriptor that is kept back is given up for it.
     fn admitted(&mut self) -> io::Result<TcpStream> {
-        match accepted(self.listeners.as_slice()) {
-            Err(error) if error.kind() != ErrorKind::WouldBlock => {
-                self.spare = None;
-                accepted(self.listeners.as_slice())
-            }
-            other => other,
+        let first = accepted(self.listeners.as_slice());
+        if !is_refused(&first) {
+            return first;
         }
+        self.spare = None;
+        accepted(self.listeners.as_slice())
     }
 
     /// Serves a client from now on. Where the system or memory is wanting for it, it is closed.
@@ -236,6 +235,14 @@ fn accepted(listeners: &[TcpListener]) -> io::Result<TcpStream> {
         }
     }
     Err(none)
+}
+
+/// Whether a client may wait that could not be taken in.
+fn is_refused(accepted: &io::Result<TcpStream>) -> bool {
+    match accepted {
+        Ok(_) => false,
+        Err(error) => error.kind() != ErrorKind::WouldBlock,
+    }
 }
 
 /// Whether a client came.

@@ -1,6 +1,6 @@
 //! The desk that the threads of serving call, and its closing.
 
-ghost use Rattle.std.specs.Prelude.{Err, IfErr, IfOk, List, OnOk, Option, string_bytes, ◌≡◌, ℕ};
+ghost use Rattle.std.specs.Prelude.{Err, IfErr, IfOk, List, OnOk, Option, string_bytes, vec_len, ◌+◌, ◌<◌, ◌≡◌, ℕ};
 ghost use Rattle.std.specs.Io.KnownBytes.{Appends};
 ghost use Rattle.lb_core.specs.Snapshot.{Snapshot, snapshot_of};
 ghost use Rattle.lb_serve.specs.Serving.{Closes, Served, closed_text, output_end, ready_text};
@@ -37,6 +37,9 @@ type Ran<'a, R, J> = (
     LoopsEnd<Caller<'a, R, J>>,
     (DeskConsole<'a, R, J>, FrontEnd<Caller<'a, R, J>>),
 );
+
+/// The seats of the three loops.
+type LoopSeats<J> = (Seat<J>, Seat<J>, Seat<J>);
 
 /// What threads leave: their seats, and the console's client that said stop.
 #[derive(Drop)]
@@ -106,36 +109,61 @@ fn serve_named<
     }
 }
 
-/// Five seats out of these.
+/// Five seats out of these, where there are so many.
 fn taken<J: Naming>(seats: &mut Vec<Seat<J>>) -> Option<Seats<J>> {
+    if seats.len() < usize::from(SEATS) {
+        return None;
+    }
     Some((
-        seats.pop()?,
-        seats.pop()?,
-        seats.pop()?,
-        seats.pop()?,
-        seats.pop()?,
+        popped(seats),
+        popped(seats),
+        popped(seats),
+        popped(seats),
+        popped(seats),
     ))
+}
+
+/// The last of some seats.
+fn popped<J: Naming>(seats: &mut Vec<Seat<J>>) -> Seat<J>
+    requires { 0 < vec_len seats.old }
+    ensures { vec_len seats.new + 1 ≡ vec_len seats.old }
+{
+    match seats.pop() {
+        Some(seat) => seat,
+        None => unreachable!(),
+    }
+}
+
+/// These seats and five more. The one error is want of memory.
+fn gathered<J: Naming>(
+    mut seats: Vec<Seat<J>>,
+    five: Seats<J>,
+) -> Result<Vec<Seat<J>>, AllocError> {
+    seats.reserve(usize::from(SEATS))?;
+    let (first, second, third, fourth, fifth) = five;
+    seats.push_reserved(first);
+    seats.push_reserved(second);
+    seats.push_reserved(third);
+    seats.push_reserved(fourth);
+    seats.push_reserved(fifth);
+    Ok(seats)
 }
 
 /// Closes the desk, and tells how many calls it had: on the output, and to the client that said stop.
 fn close<J: Naming, W: Write>(
     alloc: Global,
     desk: Desk<J>,
-    mut seats: Vec<Seat<J>>,
+    seats: Vec<Seat<J>>,
     left: Left<J>,
     output: &mut W,
 ) -> Result<(), Fault>
     ensures { (old : Option (List ℕ)) → Appends old (W.contents output.old) ready_text → Served J.opening J.limit old (W.contents output.new) result }
 {
     let Left {
-        seats: (first, second, third, fourth, fifth),
+        seats: five,
         client,
     } = left;
-    seats.push(first)?;
-    seats.push(second)?;
-    seats.push(third)?;
-    seats.push(fourth)?;
-    seats.push(fifth)?;
+    let seats = gathered(seats, five)?;
     match counted(desk, seats) {
         Ok(count) => tell_closed(alloc, count, client, output),
         Err(fault) => Err(fault),
@@ -310,31 +338,60 @@ fn left_by<'a, J: Naming, R: Wait + Net + Clock + RandomSource>(
     console: DeskConsole<'a, R, J>,
     front: FrontEnd<Caller<'a, R, J>>,
 ) -> Result<Left<J>, Fault> {
-    let Ended {
-        datagrams,
-        streams,
-        clock,
-        ..
-    } = match ended {
-        Ok(ended) => ended,
-        Err(fault) => return Err(Fault::Loops(fault)),
-    };
-    let front = match front {
-        Ok(front) => front,
-        Err(fault) => return Err(Fault::Front(fault)),
-    };
+    let loops = left_by_loops(ended);
+    let front = left_by_front(front);
     let (taker, client, fault) = console.into_parts();
-    if let Some(fault) = fault {
-        return Err(fault);
+    let console = match fault {
+        None => Ok(taker.into_seat()),
+        Some(fault) => Err(fault),
+    };
+    joined(loops, console, front, client)
+}
+
+/// The seats that the loops leave, or why one ended by itself.
+fn left_by_loops<'a, J: Naming, R: Wait>(
+    ended: LoopsEnd<Caller<'a, R, J>>,
+) -> Result<LoopSeats<J>, Fault> {
+    match ended {
+        Ok(ended) => {
+            let Ended {
+                datagrams,
+                streams,
+                clock,
+                ..
+            } = ended;
+            Ok((
+                datagrams.into_seat(),
+                streams.into_seat(),
+                clock.into_seat(),
+            ))
+        }
+        Err(fault) => Err(Fault::Loops(fault)),
     }
+}
+
+/// The seat that the front leaves, or why it ended by itself.
+fn left_by_front<'a, J: Naming, R: Wait>(
+    front: FrontEnd<Caller<'a, R, J>>,
+) -> Result<Seat<J>, Fault> {
+    match front {
+        Ok(front) => Ok(front.taker.into_seat()),
+        Err(fault) => Err(Fault::Front(fault)),
+    }
+}
+
+/// What all leave: the fault of the loops comes first, then that of the front.
+fn joined<J: Naming>(
+    loops: Result<LoopSeats<J>, Fault>,
+    console: Result<Seat<J>, Fault>,
+    front: Result<Seat<J>, Fault>,
+    client: Option<TcpStream>,
+) -> Result<Left<J>, Fault> {
+    let (first, second, third) = loops?;
+    let fifth = front?;
+    let fourth = console?;
     Ok(Left {
-        seats: (
-            datagrams.into_seat(),
-            streams.into_seat(),
-            clock.into_seat(),
-            taker.into_seat(),
-            front.taker.into_seat(),
-        ),
+        seats: (first, second, third, fourth, fifth),
         client,
     })
 }

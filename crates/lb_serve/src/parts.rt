@@ -91,6 +91,9 @@ impl<'a, R: Net + Clock> Sockets<'a, R> {
     }
 }
 
+/// The roster, and what ends the loops.
+type Around = (Arc<Mutex<Roster>>, Halt);
+
 /// What several threads share.
 #[derive(Drop)]
 struct Shared {
@@ -109,6 +112,12 @@ impl Shared {
             roster: Arc::new(alloc, Mutex::new(roster_of(alloc, servers)?))?,
             requests: Arc::new(alloc, Mutex::new(Waiting::new(alloc)))?,
         })
+    }
+
+    /// The roster, and what ends the loops, for one more.
+    fn around<R: Net + Clock>(&self, sockets: &Sockets<'_, R>) -> Result<Around, Fault> {
+        let roster = Arc::try_clone(&self.roster)?;
+        Ok((roster, sockets.halt(&self.stop)?))
     }
 
     /// What hands answers to the requests by HTTP.
@@ -184,10 +193,20 @@ fn console_of<'a, J: Naming, R: Wait + Net + Clock + RandomSource>(
     sockets: &Sockets<'a, R>,
     shared: &Shared,
 ) -> Result<(DeskConsole<'a, R, J>, Over), Fault> {
+    let around = shared.around(sockets)?;
+    console_by(rt, alloc, own, around)
+}
+
+/// The console that works on this roster and ends the loops so, and what wakes it.
+fn console_by<'a, J: Naming, R: Wait + Net + Clock + RandomSource>(
+    rt: &'a R,
+    alloc: Global,
+    own: OwnOfConsole<'a, R, J>,
+    around: Around,
+) -> Result<(DeskConsole<'a, R, J>, Over), Fault> {
     let (listeners, taker, outside, servers) = own;
-    let roster = Arc::try_clone(&shared.roster)?;
+    let (roster, halt) = around;
     let operator = Operator::new(alloc, taker, outside, servers, roster);
-    let halt = sockets.halt(&shared.stop)?;
     let console = Console::made(rt, rt, alloc, listeners, operator, halt)?;
     let waker = console.waker()?;
     Ok((console, Over { waker }))
@@ -232,7 +251,7 @@ fn parts_of<'a, J: Naming, R: Wait + Net + Clock + RandomSource>(
     fronts: (Vec<Front>, Vec<Front>),
     posts: (HttpPosts<'a, R>, HttpPosts<'a, R>),
     jobs: (Sender, Receiver),
-    around: (Arc<Mutex<Roster>>, Halt),
+    around: Around,
 ) -> Loops<'a, R, J>
     ensures { (result.streams.fronts ≡ fronts.0) × (result.clock.fronts ≡ fronts.1) }
 {
