@@ -1,5 +1,5 @@
 -- Where keys are filed: behind the name and the type of their question.
-use Rattle.std.proofs.Common.{◌≡◌, Bool, true, false, ◌==◌, ℕ, ◌+◌, ◌*◌, ◌/◌, ◌%◌, ◌<◌, List, [], ◌∷◌, ◌++◌, length, drop, reverse, Option, None, Some, inl, inr, refl, sym, ap, subst, ◌∙◌, arith, append_assoc, append-nil}
+use Rattle.std.proofs.Common.{◌≡◌, Bool, true, false, ◌==◌, ℕ, ◌+◌, ◌*◌, ◌/◌, ◌%◌, ◌<◌, ◌≤◌, List, [], ◌∷◌, ◌++◌, length, take, drop, reverse, Option, None, Some, inl, inr, refl, sym, ap, subst, ◌∙◌, arith, append_assoc, append-nil}
 use Rattle.std.specs.Bool.{Decides, one_answer}
 use Rattle.std.specs.Char.{to_ascii_lowercase}
 use Rattle.std.specs.List.{AllByRecursion}
@@ -253,3 +253,11 @@ type_within on name rtype is_name octets = type_by on name rtype is_name octets 
 
 pub under_within : LabelsGoOn → (name : List (List ℕ)) → IsName (lower_name name) → (octets : List ℕ) → is_within (key_of name ++ []) ((key_of name ++ []) ++ 64 ∷ []) octets ≡ asks_under name (question_of_key octets)
 under_within on name is_name octets = under_by on name is_name octets (question_of_key octets) refl
+
+-- octets in room of one more at least, and that one
+pub one_more : (tail : List ℕ) (end : ℕ) → length tail ≤ 3 → take (length tail + 1) (tail ++ drop (length tail) (end ∷ end ∷ end ∷ end ∷ [])) ≡ tail ++ end ∷ []
+one_more [] end few = refl
+one_more (a ∷ []) end few = refl
+one_more (a ∷ b ∷ []) end few = refl
+one_more (a ∷ b ∷ c ∷ []) end few = refl
+one_more (a ∷ b ∷ c ∷ d ∷ tail) end few = absurd (omega (arith, few))

@@ -120,6 +120,15 @@ stays_on p a on = rw on refl
 stays_off : (p : CachedReply → Bool) (a : CachedReply) → p a ≡ false → stays p (Some a) ≡ None
 stays_off p a off = rw off refl
 
+-- where one that does not stay is taken out, the same stay
+pub same_stay : (p : CachedReply → Bool) (o n : Stored) (slot : ℕ) (r : CachedReply) → in_slot o slot ≡ Some r → p r ≡ false → Updates o.cells n.cells slot None → (s : ℕ) → stays p (in_slot n s) ≡ stays p (in_slot o s)
+same_stay p o n slot r there off up s = elim (cases_Bool (s == slot)) [
+  | inl t ↦
+      let same : s ≡ slot = eqb-true s slot t in
+      ap (λ (k : ℕ). stays p (in_slot n k)) same ∙ ap (stays p) up.changed ∙ sym (stays_off p r off) ∙ ap (stays p) (sym there) ∙ ap (λ (k : ℕ). stays p (in_slot o k)) (sym same)
+  | inr t ↦ ap (stays p) (up.others s (apart s slot t))
+]
+
 -- where all pass, all stay
 pub all_stay : (p : CachedReply → Bool) (o : Option CachedReply) → ((r : CachedReply) → o ≡ Some r → not (p r) ≡ false) → stays p o ≡ o
 all_stay p None all = refl

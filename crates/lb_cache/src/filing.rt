@@ -1,18 +1,17 @@
 //! Under what a key is filed, so that the keys of a name, and those of the names below it, stand together.
 
-ghost use Rattle.std.specs.Prelude.{◌≡◌, ℕ, ◌+◌, ◌≤◌, List, [], ◌∷◌, ◌++◌, None, Some, length};
-ghost use Rattle.arrayvec.specs.ArrayVec.{array_vec_len};
-ghost use Rattle.lb_name.specs.Laws.{LabelsGoOn};
-ghost use Rattle.lb_name.specs.Name.{lower_name, IsName};
+ghost use Rattle.std.specs.Prelude.{◌≡◌, ℕ, ◌≤◌, List, [], ◌∷◌, ◌++◌, None, Some, length};
+ghost use Rattle.lb_name.specs.Laws.{LabelsGoOn, SplitsBack};
+ghost use Rattle.lb_name.specs.Name.{labels_of, lower_name, IsName, IsWire};
 ghost use Rattle.lb_suffix.specs.Key.{key_of as key_of_name};
 ghost use Rattle.lb_cache.specs.Keys.{head_of as head_of_question, is_within};
 ghost use Rattle.lb_cache.specs.Question.{asks_name, asks_under, question_of_key};
 
 use crate::question::question_of;
-use arrayvec::ArrayVec;
 use lb_name::{MAX_NAME, Name};
-use lb_suffix::key_of;
+use lb_suffix::put_key;
 use lb_wire::RecordType;
+use std::marker::Model;
 
 /// What stands behind the labels of a name: a zero, the type, and a zero.
 const TYPE: usize = 4;
@@ -26,8 +25,22 @@ const NO_QUESTION: u8 = 255;
 /// The first octet that stands behind every label's length.
 const PAST_LABELS: u8 = 64;
 
-/// Octets that stand before those of a key.
-pub(crate) type Head = ArrayVec<u8, HEAD>;
+/// Octets that stand before those of a key, laid from behind, so that each is laid once. A contract sees them as a list.
+#[derive(Debug, Drop)]
+pub(crate) struct Head {
+    octets: [u8; HEAD],
+    start: usize,
+}
+
+impl Model for Head {
+    ghost use Rattle.std.specs.Prelude.{List, ℕ, ◌≤◌, drop};
+
+    ghost Value = { List ℕ };
+
+    ghost view = { λ h. drop h.start h.octets };
+
+    ghost invariant = { λ h. h.start ≤ 259 };
+}
 
 /// The keys that are filed at or after the one and before the other.
 #[derive(Debug, Drop)]
@@ -36,44 +49,51 @@ pub(crate) struct Span {
     pub(crate) high: Head,
 }
 
-/// Puts octets behind others, for which there is room.
-fn put(octets: &mut Head, piece: &[u8])
-    requires { array_vec_len octets.old + length piece.now ≤ 259 }
-    ensures octets { octets.new.items ≡ octets.old.items ++ piece.now }
-    ensures len { array_vec_len octets.new ≡ array_vec_len octets.old + length piece.now }
-{
-    match octets.try_extend_from_slice(piece) {
-        Ok(()) => (),
-        Err(_) => unreachable!(),
+impl Head {
+    /// The labels of a name on the wire from the root in lower case, each after its length, and these octets behind them.
+    #[inline(always)]
+    fn of(wire: &[u8], tail: &[u8]) -> Head
+        requires name { IsWire wire.now }
+        requires few { length tail.now ≤ 4 }
+        ensures octets { result ≡ key_of_name (labels_of wire.now) ++ tail.now }
+        ensures name { IsName (lower_name (labels_of wire.now)) }
+        ensures back { SplitsBack }
+        ensures on { LabelsGoOn }
+    {
+        let mut octets = [0; HEAD];
+        let end = HEAD - tail.len();
+        octets[end..].copy_from_slice(tail);
+        let start = put_key(&mut octets, end, wire);
+        Head { octets, start }
+    }
+
+    /// What stands before a key that has no question.
+    fn unasked() -> Head
+        ensures { result ≡ 255 ∷ [] }
+    {
+        Head {
+            octets: [NO_QUESTION; HEAD],
+            start: HEAD - 1,
+        }
+    }
+
+    /// The octets.
+    pub(crate) fn as_slice(&self) -> &[u8]
+        ensures { result.now ≡ self.now }
+    {
+        let (_, octets) = self.octets.split_at(self.start);
+        octets
     }
 }
 
-/// The labels of a name from the root in lower case, each after its length, and these octets behind them.
-fn laid(name: &Name, tail: &[u8]) -> Head
-    requires { length tail.now ≤ 4 }
-    ensures octets { result.items ≡ key_of_name name.now ++ tail.now }
-    ensures len { array_vec_len result ≤ 255 + length tail.now }
-    ensures name { IsName (lower_name name.now) }
-    ensures on { LabelsGoOn }
-{
-    let key = key_of(name);
-    let mut octets = Head::new();
-    put(&mut octets, key.as_slice());
-    put(&mut octets, tail);
-    octets
-}
-
 /// What stands before a key's octets where it is filed.
+#[inline(always)]
 pub(crate) fn head_of(octets: &[u8]) -> Head
-    ensures { result.items ≡ head_of_question (question_of_key octets.now) }
+    ensures { result ≡ head_of_question (question_of_key octets.now) }
 {
     match question_of(octets) {
-        Some((name, rtype)) => laid(&name, &[0, (rtype / 256) as u8, (rtype % 256) as u8, 0]),
-        None => {
-            let mut octets = Head::new();
-            octets.push(NO_QUESTION);
-            octets
-        }
+        Some((name, rtype)) => Head::of(name, &[0, (rtype / 256) as u8, (rtype % 256) as u8, 0]),
+        None => Head::unasked(),
     }
 }
 
@@ -81,27 +101,32 @@ impl Span {
     /// The keys that are filed under the labels of a name and these octets, where what follows stands before this.
     fn of(name: &Name, tail: &[u8], end: u8) -> Span
         requires { length tail.now ≤ 3 }
-        ensures low { result.low.items ≡ key_of_name name.now ++ tail.now }
-        ensures high { result.high.items ≡ (key_of_name name.now ++ tail.now) ++ end ∷ [] }
+        ensures low { result.low ≡ key_of_name name.now ++ tail.now }
+        ensures high { result.high ≡ (key_of_name name.now ++ tail.now) ++ end ∷ [] }
         ensures name { IsName (lower_name name.now) }
         ensures on { LabelsGoOn }
     {
-        let low = laid(name, tail);
-        let mut high = laid(name, tail);
-        put(&mut high, &[end]);
-        Span { low, high }
+        // of a name of one's own, and not of one that is lent, it is known that its octets are a name's
+        let name = name.copy();
+        let mut behind = [end; TYPE];
+        behind[..tail.len()].copy_from_slice(tail);
+        let (behind, _) = behind.split_at(tail.len() + 1);
+        Span {
+            low: Head::of(name.as_wire(), tail),
+            high: Head::of(name.as_wire(), behind),
+        }
     }
 
     /// The keys whose question has this name.
     pub(crate) fn of_name(name: &Name) -> Span
-        ensures { (octets : List ℕ) → is_within result.low.items result.high.items octets ≡ asks_name name.now None (question_of_key octets) }
+        ensures { (octets : List ℕ) → is_within result.low result.high octets ≡ asks_name name.now None (question_of_key octets) }
     {
         Span::of(name, &[], 1)
     }
 
     /// The keys whose question has this name and this type.
     pub(crate) fn of_type(name: &Name, rtype: RecordType) -> Span
-        ensures { (octets : List ℕ) → is_within result.low.items result.high.items octets ≡ asks_name name.now (Some rtype) (question_of_key octets) }
+        ensures { (octets : List ℕ) → is_within result.low result.high octets ≡ asks_name name.now (Some rtype) (question_of_key octets) }
     {
         let high = (rtype.0 / 256) as u8;
         let low = (rtype.0 % 256) as u8;
@@ -110,7 +135,7 @@ impl Span {
 
     /// The keys whose question has this name or one below it.
     pub(crate) fn of_suffix(name: &Name) -> Span
-        ensures { (octets : List ℕ) → is_within result.low.items result.high.items octets ≡ asks_under name.now (question_of_key octets) }
+        ensures { (octets : List ℕ) → is_within result.low result.high octets ≡ asks_under name.now (question_of_key octets) }
     {
         Span::of(name, &[], PAST_LABELS)
     }

@@ -35,8 +35,8 @@ impl Model for Keys {
 
 /// A slot whose key is filed at or after the one and before the other.
 fn first_in(slots: &Ranks, span: &Span) -> Option<u64>
-    ensures some { IfSome result (λ slot. (f : Filed) × Contains slots.now f × (f.rank ≡ slot) × (is_filed_within span.now.low.items span.now.high.items f ≡ true)) }
-    ensures none { IfNone result ((f : Filed) → Contains slots.now f → is_filed_within span.now.low.items span.now.high.items f ≡ false) }
+    ensures some { IfSome result (λ slot. (f : Filed) × Contains slots.now f × (f.rank ≡ slot) × (is_filed_within span.now.low span.now.high f ≡ true)) }
+    ensures none { IfNone result ((f : Filed) → Contains slots.now f → is_filed_within span.now.low span.now.high f ≡ false) }
 {
     // a law: it does nothing
     slots.stand_in_order();
@@ -93,8 +93,8 @@ impl Keys {
 
     /// The slot of a key within a span, if there is one. It takes no memory.
     pub(crate) fn first_within(&self, span: &Span) -> Option<u64>
-        ensures some { IfSome result (λ slot. (key : Key) × (find cmp_key key self.now ≡ Some slot) × (is_within span.now.low.items span.now.high.items key.octets ≡ true)) }
-        ensures none { IfNone result ((key : Key) (slot : ℕ) → find cmp_key key self.now ≡ Some slot → is_within span.now.low.items span.now.high.items key.octets ≡ false) }
+        ensures some { IfSome result (λ slot. (key : Key) × (find cmp_key key self.now ≡ Some slot) × (is_within span.now.low span.now.high key.octets ≡ true)) }
+        ensures none { IfNone result ((key : Key) (slot : ℕ) → find cmp_key key self.now ≡ Some slot → is_within span.now.low span.now.high key.octets ≡ false) }
     {
         match first_in(&self.datagrams, span) {
             Some(slot) => Some(slot),

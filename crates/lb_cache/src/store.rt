@@ -193,8 +193,8 @@ impl Store {
 
     /// The slot of a reply whose key is within a span, if there is one. It takes no memory.
     pub(crate) fn first_within(&self, span: &Span) -> Option<u64>
-        ensures some { IfSome result (λ slot. (r : CachedReply) × (in_slot self.now slot ≡ Some r) × (is_within span.now.low.items span.now.high.items r.key.octets ≡ true)) }
-        ensures none { IfNone result ((s : ℕ) (r : CachedReply) → in_slot self.now s ≡ Some r → is_within span.now.low.items span.now.high.items r.key.octets ≡ false) }
+        ensures some { IfSome result (λ slot. (r : CachedReply) × (in_slot self.now slot ≡ Some r) × (is_within span.now.low span.now.high r.key.octets ≡ true)) }
+        ensures none { IfNone result ((s : ℕ) (r : CachedReply) → in_slot self.now s ≡ Some r → is_within span.now.low span.now.high r.key.octets ≡ false) }
     {
         self.keys.first_within(span)
     }
@@ -277,7 +277,7 @@ impl Store {
 
 /// Takes the replies out whose keys are within a span. It takes no memory.
 pub(crate) fn take_within(store: &mut Store, span: &Span)
-    ensures left { (s : ℕ) → in_slot store.new s ≡ stays (others (within span.now.low.items span.now.high.items)) (in_slot store.old s) }
+    ensures left { (s : ℕ) → in_slot store.new s ≡ stays (others (within span.now.low span.now.high)) (in_slot store.old s) }
     ensures few { length store.new.keys ≤ length store.old.keys }
 {
     while let Some(slot) = store.first_within(span) {

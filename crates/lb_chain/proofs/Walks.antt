@@ -240,3 +240,8 @@ ends_behind rules i view addr kind now a b ps t whole at before =
     ∙ sym (with_flags a b ps t no_rule refl refl)
     ∙ sym (ap (λ (ns : List Numbered). with_before a b ps t (walk_of ns view addr kind now)) none)
     ∙ before
+
+-- a walk that no rule ended
+pub not_ended : (walked : Walked) → walked.rule ≡ None → walked.verdict ≡ verdicts.Allow → walked ≡ record walked { rule = None; verdict = verdicts.Allow }
+not_ended walked rule verdict =
+    ap (λ (r : _). record walked { rule = r }) rule ∙ ap (λ (v : Verdict). record walked { rule = None; verdict = v }) verdict

@@ -15,7 +15,6 @@ use crate::action::Action;
 use crate::numbered::Numbered;
 use crate::offers::Offers;
 use crate::walked::{Passed, PassedList, Verdict, Walked};
-use arrayvec::ArrayVec;
 use lb_terms::{CheckedTerm, Term, holds};
 use lb_wire::{Addr, Class, Kind, QueryView, RecordType, RuleId, fits_type};
 
@@ -133,41 +132,24 @@ pub(crate) fn walk_rules(
     requires offers { AreOffers offers.now (terms_of rules.now) }
     ensures { result ≡ walk_of rules.now view.now addr.now kind now }
 {
-    let mut no_recurse = false;
-    let mut skip_cache = false;
-    let mut passes = PassedList {
-        items: ArrayVec::new(),
-    };
-    let mut tests = 0;
+    let mut walked = Walked::begun();
     let mut ahead = offers.ahead();
     'rules: while let Some(place) = offers.next(&mut ahead, view, addr) {
         let n = &rules[place];
-        tests += 1;
-        if test_rule(n, view, addr, now, &mut passes) {
+        walked.tests += 1;
+        if test_rule(n, view, addr, now, &mut walked.passes) {
             match ending_of(&n.rule.action, view, kind) {
                 Some(verdict) => {
-                    return Walked {
-                        rule: Some(n.id),
-                        verdict,
-                        no_recurse,
-                        skip_cache,
-                        passes,
-                        tests,
-                    };
+                    walked.rule = Some(n.id);
+                    walked.verdict = verdict;
+                    return walked;
                 }
                 None => {
-                    no_recurse |= is_no_recurse(&n.rule.action);
-                    skip_cache |= is_skip_cache(&n.rule.action);
+                    walked.no_recurse |= is_no_recurse(&n.rule.action);
+                    walked.skip_cache |= is_skip_cache(&n.rule.action);
                 }
             }
         }
     }
-    Walked {
-        rule: None,
-        verdict: Verdict::Allow,
-        no_recurse,
-        skip_cache,
-        passes,
-        tests,
-    }
+    walked
 }

@@ -1,6 +1,7 @@
 //! What a walk gives.
 
-ghost use Rattle.std.specs.Prelude.{◌≡◌, ◌≤◌, length};
+ghost use Rattle.std.specs.Prelude.{◌≡◌, ◌≤◌, length, false, [], None};
+ghost use Rattle.lb_chain.specs.declared.walked.Verdict.TheVariants.{Allow};
 
 use crate::addrs::Addrs;
 use arrayvec::ArrayVec;
@@ -86,4 +87,22 @@ pub struct Walked {
     /// How many rules were tested, up to the one that ended it or, where none did, of all: those that ask for no set of names or
     /// of masks first, and those whose first set has the query's name or address. No other can hold.
     pub tests: usize,
+}
+
+impl Walked {
+    /// A walk that has met no rule yet.
+    pub(crate) fn begun() -> Walked
+        ensures { result ≡ record { rule = None; verdict = Allow; no_recurse = false; skip_cache = false; passes = []; tests = 0 } }
+    {
+        Walked {
+            rule: None,
+            verdict: Verdict::Allow,
+            no_recurse: false,
+            skip_cache: false,
+            passes: PassedList {
+                items: ArrayVec::new(),
+            },
+            tests: 0,
+        }
+    }
 }

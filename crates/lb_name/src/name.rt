@@ -133,6 +133,15 @@ impl Name {
         Ok(at + len)
     }
 
+    /// The name that these octets are on the wire, where they are one. It takes no memory.
+    #[inline(always)]
+    pub fn of_wire(wire: &[u8]) -> Name
+        requires { (labels : List (List ℕ)) × IsName labels × (wire.now ≡ wire_of labels) }
+        ensures { (labels : List (List ℕ)) → IsName labels → wire.now ≡ wire_of labels → result ≡ labels }
+    {
+        Name { wire: copied(wire) }
+    }
+
     /// Reads a text: labels of letters, digits, `-`, `_` and `*`, joined by dots (RFC 1035 section 2.3.1). One dot may
     /// end the last label, and `.` is the root (section 5.1). The fault is that of the first label that has one, and
     /// else `LongName` where the name has over 255 octets on the wire. It takes no memory.

@@ -1,12 +1,13 @@
 //! The key of a name.
 
-ghost use Rattle.std.specs.Prelude.{◌≡◌, ◌++◌, ◌-◌, ◌≤◌, List, [], ◌∷◌, length, drop, IfSome};
+ghost use Rattle.std.specs.Prelude.{◌≡◌, ◌++◌, ◌+◌, ◌-◌, ◌≤◌, List, [], ◌∷◌, length, drop, map, take, IfSome};
+ghost use Rattle.std.specs.Char.{to_ascii_lowercase};
 ghost use Rattle.std.specs.Option.{IfNone};
 ghost use Rattle.lb_name.specs.Laws.{LabelsGoOn, SplitsBack};
 ghost use Rattle.lb_name.specs.Name.{labels_of, lower_name, IsName, IsWire};
 ghost use Rattle.lb_suffix.specs.Key.{end_of, key_of as key_of_name, reversed_octets, FirstOctets};
 
-use lb_name::{LABEL_END, MAX_NAME, Name, labels_go_on, splits_back};
+use lb_name::{LABEL_END, MAX_NAME, Name, labels_go_on, lowers_on_wire, splits_back};
 use std::marker::Model;
 
 /// How many octets a key has room for: those of a name, and the octet that stands behind every label's length.
@@ -76,21 +77,57 @@ fn put_before(octets: &mut [u8], place: usize, piece: &[u8])
     octets[place - piece.len()..place].copy_from_slice(piece);
 }
 
-/// The labels of a name on the wire from the root, each after its length.
-fn reversed(wire: &[u8]) -> NameKey
+/// Puts the labels of a name on the wire, from the root and each after its length, in front of a place, and gives the place
+/// where they begin.
+fn put_reversed(room: &mut [u8], end: usize, wire: &[u8]) -> usize
     requires name { IsWire wire.now }
-    requires short { length wire.now ≤ 255 }
-    ensures { result ≡ reversed_octets (labels_of wire.now) }
+    requires within { end ≤ length room.old }
+    requires room { length wire.now ≤ end + 1 }
+    ensures octets { drop result room.new ≡ reversed_octets (labels_of wire.now) ++ drop end room.old }
+    ensures start { result ≤ end }
+    ensures len { length room.new ≡ length room.old }
 {
-    let mut octets = [LABEL_END; ROOM];
-    let mut start = MAX_NAME;
+    let mut start = end;
     let mut wire = wire;
     'labels: while let Some((label, rest)) = first_octets(wire) {
-        put_before(&mut octets, start, label);
+        put_before(room, start, label);
         start -= label.len();
         wire = rest;
     }
-    NameKey { octets, start }
+    start
+}
+
+/// Lowers the octets from a place up to another.
+fn lower_in_place(octets: &mut [u8], start: usize, end: usize)
+    requires piece { start ≤ end }
+    requires within { end ≤ length octets.old }
+    ensures octets { drop start octets.new ≡ map to_ascii_lowercase (take (end - start) (drop start octets.old)) ++ drop end octets.old }
+    ensures len { length octets.new ≡ length octets.old }
+{
+    octets[start..end].make_ascii_lowercase();
+}
+
+/// Puts the key of a name on the wire in front of a place, and gives the place where it begins. It takes no memory.
+pub fn put_key(room: &mut [u8], end: usize, wire: &[u8]) -> usize
+    requires name { IsWire wire.now }
+    requires within { end ≤ length room.old }
+    // a key has one octet less than its name on the wire
+    requires room { length wire.now ≤ end + 1 }
+    ensures key { drop result room.new ≡ key_of_name (labels_of wire.now) ++ drop end room.old }
+    ensures start { result ≤ end }
+    ensures len { length room.new ≡ length room.old }
+    ensures name { IsName (lower_name (labels_of wire.now)) }
+    ensures back { SplitsBack }
+    ensures on { LabelsGoOn }
+{
+    // Three laws, which do nothing.
+    splits_back();
+    labels_go_on();
+    lowers_on_wire();
+    let start = put_reversed(room, end, wire);
+    // A length octet is below 64, and `A` is 65: the whole key can be lowered.
+    lower_in_place(room, start, end);
+    start
 }
 
 /// The key of the name: its labels in lower case from the root, each after its length. So a name stands at or below another
@@ -105,5 +142,7 @@ pub fn key_of(name: &Name) -> NameKey
     splits_back();
     labels_go_on();
     let name = name.lower();
-    reversed(name.as_wire())
+    let mut octets = [LABEL_END; ROOM];
+    let start = put_reversed(&mut octets, MAX_NAME, name.as_wire());
+    NameKey { octets, start }
 }

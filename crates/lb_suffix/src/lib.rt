@@ -7,5 +7,5 @@ mod over;
 mod under;
 
 pub use index::{SuffixIndex, equal_where_same};
-pub use key::{NameKey, key_of};
+pub use key::{NameKey, key_of, put_key};
 pub use under::Under;

@@ -7,7 +7,7 @@ use crate::flags::Flags;
 use crate::header::{HEADER_LEN, Header, read_header};
 use crate::layout::lay;
 use crate::opt::Opt;
-use crate::question::read_question;
+use crate::question::{question_to, skip_question};
 use crate::record_type::{Class, RecordType};
 use lb_name::{Name, labels_go_on};
 use thiserror::Error;
@@ -63,6 +63,7 @@ ghost use Rattle.lb_wire.specs.declared.query.QueryFault.TheVariants.{Malformed}
 /// bytes without the layout of a query are `Malformed`: QDCOUNT 1, one question whose name has no pointer, as many
 /// records as the header counts, and one OPT among them at most (RFC 6891 section 6.1.1). Octets after the last
 /// counted record are part of the message.
+#[inline(always)]
 pub fn read_query(bytes: &[u8]) -> Result<QueryView, QueryFault>
     ensures { Reads bytes.now result }
 {
@@ -77,6 +78,7 @@ pub fn read_query(bytes: &[u8]) -> Result<QueryView, QueryFault>
 }
 
 /// Reads what stands behind the header of a query.
+#[inline(always)]
 fn read_parts(bytes: &[u8], header: Header) -> Result<QueryView, QueryFault>
     requires fits { IsHeader header }
     requires parts { bytes.now ≡ header_octets header ++ drop 12 bytes.now }
@@ -89,7 +91,7 @@ fn read_parts(bytes: &[u8], header: Header) -> Result<QueryView, QueryFault>
     if header.questions != 1 {
         return Err(QueryFault::Malformed);
     }
-    let Some((question, question_end)) = read_question(bytes, HEADER_LEN) else {
+    let Some(question_end) = skip_question(bytes, HEADER_LEN) else {
         return Err(QueryFault::Malformed);
     };
     let Some(laid) = lay(bytes, question_end, header) else {
@@ -98,6 +100,7 @@ fn read_parts(bytes: &[u8], header: Header) -> Result<QueryView, QueryFault>
     if laid.all.twice {
         return Err(QueryFault::Malformed);
     }
+    let question = question_to(bytes, HEADER_LEN, question_end);
     Ok(QueryView {
         id: header.id,
         flags: header.flags,

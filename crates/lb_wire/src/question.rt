@@ -31,29 +31,7 @@ pub struct Question {
 /// How many octets stand after a question's name: QTYPE and QCLASS.
 const AFTER_NAME: usize = 4;
 
-/// Reads the question at a place: a name without a pointer, a type and a class; and the place after it.
-pub(crate) fn read_question(bytes: &[u8], at: usize) -> Option<(Question, usize)>
-    ensures found { IfSome result (λ q. Asks (drop at bytes.now) q.0 (drop q.1 bytes.now) × (q.1 ≡ at + length (question_octets q.0.name q.0.qtype q.0.qclass))) }
-    ensures within { IfSome result (λ q. q.1 ≤ length bytes.now) }
-    ensures none { IfNone result ((q : Question) (rest : List ℕ) → Asks (drop at bytes.now) q rest → ⊥) }
-{
-    let Ok((name, place)) = Name::read(bytes, at) else {
-        return None;
-    };
-    if bytes.len() - place < AFTER_NAME {
-        return None;
-    }
-    let qtype = RecordType(read_u16(bytes, place));
-    let qclass = Class(read_u16(bytes, place + 2));
-    let question = Question {
-        name,
-        qtype,
-        qclass,
-    };
-    Some((question, place + AFTER_NAME))
-}
-
-/// The place after the question at a place: what `read_question` gives, where the question itself is not wanted.
+/// The place after the question at a place: a name without a pointer, a type and a class.
 pub(crate) fn skip_question(bytes: &[u8], at: usize) -> Option<usize>
     ensures found { IfSome result (λ end. (q : Question) × Asks (drop at bytes.now) q (drop end bytes.now) × (end ≡ at + length (question_octets q.name q.qtype q.qclass))) }
     ensures within { IfSome result (λ end. end ≤ length bytes.now) }
@@ -66,4 +44,22 @@ pub(crate) fn skip_question(bytes: &[u8], at: usize) -> Option<usize>
         return None;
     }
     Some(place + AFTER_NAME)
+}
+
+/// The question from a place up to the one after it, as `skip_question` gave that. Its name is laid where the question stands, once.
+#[inline(always)]
+pub(crate) fn question_to(bytes: &[u8], at: usize, end: usize) -> Question
+    requires within { end ≤ length bytes.now }
+    requires there { (q : Question) × Asks (drop at bytes.now) q (drop end bytes.now) × (end ≡ at + length (question_octets q.name q.qtype q.qclass)) }
+    ensures asks { Asks (drop at bytes.now) result (drop end bytes.now) }
+    ensures long { end ≡ at + length (question_octets result.name result.qtype result.qclass) }
+{
+    let place = end - AFTER_NAME;
+    let (_, there) = bytes.split_at(at);
+    let (name, _) = there.split_at(place - at);
+    Question {
+        name: Name::of_wire(name),
+        qtype: RecordType(read_u16(bytes, place)),
+        qclass: Class(read_u16(bytes, place + 2)),
+    }
 }

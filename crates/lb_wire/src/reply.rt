@@ -11,7 +11,7 @@ use crate::header::{HEADER_LEN, read_header};
 use crate::layout::lay;
 use crate::octets::overwrite;
 use crate::opcode::Opcode;
-use crate::question::{Question, read_question, skip_question};
+use crate::question::{Question, question_to, skip_question};
 use crate::rcode::Rcode;
 use crate::tally::Survey;
 use lb_name::{Name, labels_go_on};
@@ -59,6 +59,7 @@ ghost use Rattle.lb_wire.specs.Question.{Asks};
 
 /// Reads the header and the question of a reply. The faults are tested in their order: fewer than 12 octets are
 /// `Short`, QR 0 is `NotReply`.
+#[inline(always)]
 pub fn read_reply(bytes: &[u8]) -> Result<ReplyView, ReplyFault>
     ensures { ReadsReply bytes.now result }
 {
@@ -69,10 +70,10 @@ pub fn read_reply(bytes: &[u8]) -> Result<ReplyView, ReplyFault>
     if !header.flags.is_response() {
         return Err(ReplyFault::NotReply);
     }
-    let question = if header.questions == 0 {
+    let question_end = if header.questions == 0 {
         None
     } else {
-        read_question(bytes, HEADER_LEN).map(|(question, _)| question)
+        skip_question(bytes, HEADER_LEN)
     };
     Ok(ReplyView {
         id: header.id,
@@ -80,7 +81,10 @@ pub fn read_reply(bytes: &[u8]) -> Result<ReplyView, ReplyFault>
         truncated: header.flags.is_truncated(),
         rcode: header.flags.rcode(),
         questions: header.questions,
-        question,
+        question: match question_end {
+            Some(end) => Some(question_to(bytes, HEADER_LEN, end)),
+            None => None,
+        },
     })
 }
 

@@ -5,4 +5,4 @@ use Rattle.lb_cache.proofs.cache.take_suffix.Goals as goal
 
 pub returns-clause-left : goal.returns-clause-left
 returns-clause-left c =
-    left_too (within c.of_suffix-span.result.low.items c.of_suffix-span.result.high.items) (covers_suffix c.args.name.now) c.args.store.now c.take_within.new.store (λ r. c.of_suffix-span.ensures r.key.octets) c.take_within.ensures.left
+    left_too (within c.of_suffix-span.result.low c.of_suffix-span.result.high) (covers_suffix c.args.name.now) c.args.store.now c.take_within.new.store (λ r. c.of_suffix-span.ensures r.key.octets) c.take_within.ensures.left

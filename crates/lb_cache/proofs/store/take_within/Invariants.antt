@@ -4,7 +4,7 @@ use Rattle.lb_cache.proofs.store.take_within.Given as goal
 
 abbrev pub invariant-loop-slot : goal.invariant-loop-slot
 invariant-loop-slot l =
-    ((s : ℕ) → stays (others (within l.span.low.items l.span.high.items)) (in_slot l.store s) ≡ stays (others (within l.span.low.items l.span.high.items)) (in_slot l.fn.store s))
+    ((s : ℕ) → stays (others (within l.span.low l.span.high)) (in_slot l.store s) ≡ stays (others (within l.span.low l.span.high)) (in_slot l.fn.store s))
     × (length l.store.keys ≤ length l.fn.store.keys)
 
 abbrev pub decreases-loop-slot : goal.decreases-loop-slot

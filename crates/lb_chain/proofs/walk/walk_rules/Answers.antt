@@ -1,22 +1,27 @@
 use Rattle.std.proofs.Common.{◌≡◌, ◌<◌, ◌≤◌, ◌+◌, ◌||◌, Bool, false, ℕ, List, length, drop, sym, refl, ap, subst, ◌∙◌, arith}
-use Rattle.lb_chain.specs.declared.walked.Passed.{Passed}
+use Rattle.lb_chain.specs.declared.walked.Walked.{Walked}
 use Rattle.lb_chain.specs.Edits.{limiters_in}
 use Rattle.lb_chain.specs.Offers.{terms_of}
 use Rattle.lb_chain.specs.Walk.{tests_of, walk_of, with_before}
 use Rattle.lb_chain.proofs.PassedBy.{fewer, offered_may, offered_within, walk_to, walk_to_end}
-use Rattle.lb_chain.proofs.Walks.{ends_behind, ends_here, held_counts, walk_room, next_fails, next_goes_on, room_next, with_none}
+use Rattle.lb_chain.proofs.Walks.{ends_behind, ends_here, held_counts, walk_room, next_fails, next_goes_on, not_ended, room_next, with_none}
 use Rattle.lb_chain.proofs.walk.walk_rules.Goals as goal
 
 pub rules-init : goal.rules-init
 rules-init c =
     let rules = c.args.rules.now in
-    let start = c.ahead-ahead.ensures.start in (
+    let whole = walk_of rules c.args.view.now c.args.addr.now c.args.kind c.args.now in
+    let start = c.ahead-ahead.ensures.start in
+    let begun = c.begun-walked.ensures in
+    let before : with_before c.begun-walked.result.no_recurse c.begun-walked.result.skip_cache c.begun-walked.result.passes c.begun-walked.result.tests whole ≡ whole =
+    ap (λ (w : Walked). with_before w.no_recurse w.skip_cache w.passes w.tests whole) begun ∙ sym (with_none whole) in (
       omega (arith, start),
-      subst (λ (k : ℕ). length c.new.result.items + limiters_in (drop k rules) ≤ 16) (sym start) (omega (arith, ap length c.new.ensures, c.requires.few)),
-      subst (λ (k : ℕ). with_before false false c.new.result.items 0 (walk_of (drop k rules) c.args.view.now c.args.addr.now c.args.kind c.args.now) ≡ walk_of rules c.args.view.now c.args.addr.now c.args.kind c.args.now) (sym start)
-          (ap (λ (ps : List Passed). with_before false false ps 0 (walk_of rules c.args.view.now c.args.addr.now c.args.kind c.args.now)) c.new.ensures ∙ sym (with_none (walk_of rules c.args.view.now c.args.addr.now c.args.kind c.args.now))),
+      subst (λ (k : ℕ). length c.begun-walked.result.passes + limiters_in (drop k rules) ≤ 16) (sym start) (omega (arith, ap (λ (w : Walked). length w.passes) begun, c.requires.few)),
+      subst (λ (k : ℕ). with_before c.begun-walked.result.no_recurse c.begun-walked.result.skip_cache c.begun-walked.result.passes c.begun-walked.result.tests (walk_of (drop k rules) c.args.view.now c.args.addr.now c.args.kind c.args.now) ≡ whole) (sym start) before,
       c.ahead-ahead.ensures.ahead c.args.view.now c.args.addr.now,
-      omega arith,
+      omega (arith, ap (λ (w : Walked). w.tests) begun),
+      ap (λ (w : Walked). w.rule) begun,
+      ap (λ (w : Walked). w.verdict) begun,
     )
 
 pub test_rule-requires-clause-room : goal.test_rule-requires-clause-room
@@ -25,8 +30,8 @@ test_rule-requires-clause-room c =
     let place = c.in-Some.place in
     let next = c.in-Some.ensures.next (terms_of rules) c.requires.offers c.rules.invariant.3 in
     let lt : place < length rules = offered_within rules c.rules.ahead.at place c.args.view.now c.args.addr.now next in
-    let left : length c.rules.passes + limiters_in (drop place rules) ≤ 16 = omega (arith, fewer rules c.rules.ahead.at place next.0, c.rules.invariant.1) in
-    omega (arith, room_next rules place c.index-rules-place.result (length c.rules.passes) lt c.index-rules-place.is left)
+    let left : length c.rules.walked.passes + limiters_in (drop place rules) ≤ 16 = omega (arith, fewer rules c.rules.ahead.at place next.0, c.rules.invariant.1) in
+    omega (arith, room_next rules place c.index-rules-place.result (length c.rules.walked.passes) lt c.index-rules-place.is left)
 
 pub returns-in-Some-ending_of : goal.returns-in-Some-ending_of
 returns-in-Some-ending_of c =
@@ -36,9 +41,9 @@ returns-in-Some-ending_of c =
     let next = c.in-Some.ensures.next (terms_of rules) c.requires.offers c.rules.invariant.3 in
     let lt : place < length rules = offered_within rules c.rules.ahead.at place c.args.view.now c.args.addr.now next in
     let counts = held_counts n c.args.view.now c.args.addr.now (offered_may rules c.rules.ahead.at place c.args.view.now c.args.addr.now n next c.index-rules-place.is) in
-    let more : c.rules.tests + 1 ≡ c.rules.tests + tests_of n c.args.view.now c.args.addr.now = omega (arith, counts) in
-    ends_here rules place n c.in-Some-ending_of.verdict c.args.view.now c.args.addr.now c.args.kind c.args.now c.rules.no_recurse c.rules.skip_cache c.rules.passes c.test_rule.new.passes c.rules.tests (c.rules.tests + 1) _ lt c.index-rules-place.is (sym c.test_rule.ensures.truth ∙ c.if-test_rule.true) (sym c.ending_of.ensures ∙ c.in-Some-ending_of.is) c.test_rule.ensures.passes more
-    (walk_to rules c.rules.ahead.at place c.args.view.now c.args.addr.now c.args.kind c.args.now c.rules.no_recurse c.rules.skip_cache c.rules.passes c.rules.tests _ next c.rules.invariant.2)
+    let more : c.rules.walked.tests + 1 ≡ c.rules.walked.tests + tests_of n c.args.view.now c.args.addr.now = omega (arith, counts) in
+    ends_here rules place n c.in-Some-ending_of.verdict c.args.view.now c.args.addr.now c.args.kind c.args.now c.rules.walked.no_recurse c.rules.walked.skip_cache c.rules.walked.passes c.test_rule.new.passes c.rules.walked.tests (c.rules.walked.tests + 1) _ lt c.index-rules-place.is (sym c.test_rule.ensures.truth ∙ c.if-test_rule.true) (sym c.ending_of.ensures ∙ c.in-Some-ending_of.is) c.test_rule.ensures.passes more
+    (walk_to rules c.rules.ahead.at place c.args.view.now c.args.addr.now c.args.kind c.args.now c.rules.walked.no_recurse c.rules.walked.skip_cache c.rules.walked.passes c.rules.walked.tests _ next c.rules.invariant.2)
 
 pub rules-preserved-in-None : goal.rules-preserved-in-None
 rules-preserved-in-None c =
@@ -50,19 +55,21 @@ rules-preserved-in-None c =
     let at = c.in-Some.ensures.at in
     let lt : place < length rules = offered_within rules c.rules.ahead.at place c.args.view.now c.args.addr.now next in
     let counts = held_counts n c.args.view.now c.args.addr.now (offered_may rules c.rules.ahead.at place c.args.view.now c.args.addr.now n next c.index-rules-place.is) in
-    let more : c.rules.tests + 1 ≡ c.rules.tests + tests_of n c.args.view.now c.args.addr.now = omega (arith, counts) in
-    let left : length c.rules.passes + limiters_in (drop place rules) ≤ 16 = omega (arith, fewer rules c.rules.ahead.at place next.0, c.rules.invariant.1) in
-    let room = walk_room rules place n c.args.view.now c.args.addr.now c.args.now c.rules.passes c.test_rule.new.passes c.requires.limiters lt c.index-rules-place.is left c.test_rule.ensures.passes in
-    let here = walk_to rules c.rules.ahead.at place c.args.view.now c.args.addr.now c.args.kind c.args.now c.rules.no_recurse c.rules.skip_cache c.rules.passes c.rules.tests _ next c.rules.invariant.2 in
-    let no_recurse : Bool = c.rules.no_recurse || c.is_no_recurse-no_recurse.result in
-    let skip_cache : Bool = c.rules.skip_cache || c.is_skip_cache-skip_cache.result in (
+    let more : c.rules.walked.tests + 1 ≡ c.rules.walked.tests + tests_of n c.args.view.now c.args.addr.now = omega (arith, counts) in
+    let left : length c.rules.walked.passes + limiters_in (drop place rules) ≤ 16 = omega (arith, fewer rules c.rules.ahead.at place next.0, c.rules.invariant.1) in
+    let room = walk_room rules place n c.args.view.now c.args.addr.now c.args.now c.rules.walked.passes c.test_rule.new.passes c.requires.limiters lt c.index-rules-place.is left c.test_rule.ensures.passes in
+    let here = walk_to rules c.rules.ahead.at place c.args.view.now c.args.addr.now c.args.kind c.args.now c.rules.walked.no_recurse c.rules.walked.skip_cache c.rules.walked.passes c.rules.walked.tests _ next c.rules.invariant.2 in
+    let no_recurse : Bool = c.rules.walked.no_recurse || c.is_no_recurse.result in
+    let skip_cache : Bool = c.rules.walked.skip_cache || c.is_skip_cache.result in (
       omega (arith, at, lt),
       subst (λ (k : ℕ). length c.test_rule.new.passes + limiters_in (drop k rules) ≤ 16) (sym at) room,
-      subst (λ (k : ℕ). with_before no_recurse skip_cache c.test_rule.new.passes (c.rules.tests + 1) (walk_of (drop k rules) c.args.view.now c.args.addr.now c.args.kind c.args.now) ≡ whole) (sym at)
-          (next_goes_on rules place n c.args.view.now c.args.addr.now c.args.kind c.args.now c.rules.no_recurse c.rules.skip_cache no_recurse skip_cache c.rules.passes c.test_rule.new.passes c.rules.tests (c.rules.tests + 1) _ lt c.index-rules-place.is (sym c.test_rule.ensures.truth ∙ c.if-test_rule.true) (sym c.ending_of.ensures ∙ c.in-None.is) c.test_rule.ensures.passes more
-          (ap (λ (x : Bool). c.rules.no_recurse || x) c.is_no_recurse-no_recurse.ensures) (ap (λ (x : Bool). c.rules.skip_cache || x) c.is_skip_cache-skip_cache.ensures) here),
+      subst (λ (k : ℕ). with_before no_recurse skip_cache c.test_rule.new.passes (c.rules.walked.tests + 1) (walk_of (drop k rules) c.args.view.now c.args.addr.now c.args.kind c.args.now) ≡ whole) (sym at)
+          (next_goes_on rules place n c.args.view.now c.args.addr.now c.args.kind c.args.now c.rules.walked.no_recurse c.rules.walked.skip_cache no_recurse skip_cache c.rules.walked.passes c.test_rule.new.passes c.rules.walked.tests (c.rules.walked.tests + 1) _ lt c.index-rules-place.is (sym c.test_rule.ensures.truth ∙ c.if-test_rule.true) (sym c.ending_of.ensures ∙ c.in-None.is) c.test_rule.ensures.passes more
+          (ap (λ (x : Bool). c.rules.walked.no_recurse || x) c.is_no_recurse.ensures) (ap (λ (x : Bool). c.rules.walked.skip_cache || x) c.is_skip_cache.ensures) here),
       c.in-Some.ensures.ahead (terms_of rules) c.requires.offers c.rules.invariant.3,
       omega (arith, at, next.0, c.rules.invariant.4),
+      c.rules.invariant.5,
+      c.rules.invariant.6,
     )
 
 pub rules-preserved : goal.rules-preserved
@@ -75,21 +82,25 @@ rules-preserved c =
     let at = c.in-Some.ensures.at in
     let lt : place < length rules = offered_within rules c.rules.ahead.at place c.args.view.now c.args.addr.now next in
     let counts = held_counts n c.args.view.now c.args.addr.now (offered_may rules c.rules.ahead.at place c.args.view.now c.args.addr.now n next c.index-rules-place.is) in
-    let more : c.rules.tests + 1 ≡ c.rules.tests + tests_of n c.args.view.now c.args.addr.now = omega (arith, counts) in
-    let left : length c.rules.passes + limiters_in (drop place rules) ≤ 16 = omega (arith, fewer rules c.rules.ahead.at place next.0, c.rules.invariant.1) in
-    let room = walk_room rules place n c.args.view.now c.args.addr.now c.args.now c.rules.passes c.test_rule.new.passes c.requires.limiters lt c.index-rules-place.is left c.test_rule.ensures.passes in
-    let here = walk_to rules c.rules.ahead.at place c.args.view.now c.args.addr.now c.args.kind c.args.now c.rules.no_recurse c.rules.skip_cache c.rules.passes c.rules.tests _ next c.rules.invariant.2 in (
+    let more : c.rules.walked.tests + 1 ≡ c.rules.walked.tests + tests_of n c.args.view.now c.args.addr.now = omega (arith, counts) in
+    let left : length c.rules.walked.passes + limiters_in (drop place rules) ≤ 16 = omega (arith, fewer rules c.rules.ahead.at place next.0, c.rules.invariant.1) in
+    let room = walk_room rules place n c.args.view.now c.args.addr.now c.args.now c.rules.walked.passes c.test_rule.new.passes c.requires.limiters lt c.index-rules-place.is left c.test_rule.ensures.passes in
+    let here = walk_to rules c.rules.ahead.at place c.args.view.now c.args.addr.now c.args.kind c.args.now c.rules.walked.no_recurse c.rules.walked.skip_cache c.rules.walked.passes c.rules.walked.tests _ next c.rules.invariant.2 in (
       omega (arith, at, lt),
       subst (λ (k : ℕ). length c.test_rule.new.passes + limiters_in (drop k rules) ≤ 16) (sym at) room,
-      subst (λ (k : ℕ). with_before c.rules.no_recurse c.rules.skip_cache c.test_rule.new.passes (c.rules.tests + 1) (walk_of (drop k rules) c.args.view.now c.args.addr.now c.args.kind c.args.now) ≡ whole) (sym at)
-          (next_fails rules place n c.args.view.now c.args.addr.now c.args.kind c.args.now c.rules.no_recurse c.rules.skip_cache c.rules.no_recurse c.rules.skip_cache c.rules.passes c.test_rule.new.passes c.rules.tests (c.rules.tests + 1) _ lt c.index-rules-place.is (sym c.test_rule.ensures.truth ∙ c.if-test_rule.false) c.test_rule.ensures.passes more refl refl here),
+      subst (λ (k : ℕ). with_before c.rules.walked.no_recurse c.rules.walked.skip_cache c.test_rule.new.passes (c.rules.walked.tests + 1) (walk_of (drop k rules) c.args.view.now c.args.addr.now c.args.kind c.args.now) ≡ whole) (sym at)
+          (next_fails rules place n c.args.view.now c.args.addr.now c.args.kind c.args.now c.rules.walked.no_recurse c.rules.walked.skip_cache c.rules.walked.no_recurse c.rules.walked.skip_cache c.rules.walked.passes c.test_rule.new.passes c.rules.walked.tests (c.rules.walked.tests + 1) _ lt c.index-rules-place.is (sym c.test_rule.ensures.truth ∙ c.if-test_rule.false) c.test_rule.ensures.passes more refl refl here),
       c.in-Some.ensures.ahead (terms_of rules) c.requires.offers c.rules.invariant.3,
       omega (arith, at, next.0, c.rules.invariant.4),
+      c.rules.invariant.5,
+      c.rules.invariant.6,
     )
 
 pub returns : goal.returns
 returns c =
     let rules = c.args.rules.now in
+    let walked = c.rules.walked in
     let next = c.in_default.ensures.next (terms_of rules) c.requires.offers c.rules.invariant.3 in
-    ends_behind rules (length rules) c.args.view.now c.args.addr.now c.args.kind c.args.now c.rules.no_recurse c.rules.skip_cache c.rules.passes c.rules.tests _ refl
-    (walk_to_end rules c.rules.ahead.at c.args.view.now c.args.addr.now c.args.kind c.args.now c.rules.no_recurse c.rules.skip_cache c.rules.passes c.rules.tests _ c.rules.invariant.0 next c.rules.invariant.2)
+    not_ended walked c.rules.invariant.5 c.rules.invariant.6
+    ∙ ends_behind rules (length rules) c.args.view.now c.args.addr.now c.args.kind c.args.now walked.no_recurse walked.skip_cache walked.passes walked.tests _ refl
+    (walk_to_end rules c.rules.ahead.at c.args.view.now c.args.addr.now c.args.kind c.args.now walked.no_recurse walked.skip_cache walked.passes walked.tests _ c.rules.invariant.0 next c.rules.invariant.2)

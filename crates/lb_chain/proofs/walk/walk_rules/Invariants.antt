@@ -1,4 +1,5 @@
-use Rattle.std.proofs.Common.{◌≡◌, ◌+◌, ◌-◌, ◌≤◌, length, drop}
+use Rattle.std.proofs.Common.{◌≡◌, ◌+◌, ◌-◌, ◌≤◌, length, drop, None}
+use Rattle.lb_chain.specs.declared.walked.Verdict.TheVariants.{Allow}
 use Rattle.lb_chain.specs.Ahead.{IsAhead}
 use Rattle.lb_chain.specs.Edits.{limiters_in}
 use Rattle.lb_chain.specs.Walk.{walk_of, with_before}
@@ -7,10 +8,12 @@ use Rattle.lb_chain.proofs.walk.walk_rules.Given as goal
 abbrev pub invariant-rules : goal.invariant-rules
 invariant-rules l =
     (l.ahead.at ≤ length l.rules)
-    × (length l.passes + limiters_in (drop l.ahead.at l.rules) ≤ 16)
-    × (with_before l.no_recurse l.skip_cache l.passes l.tests (walk_of (drop l.ahead.at l.rules) l.view l.addr l.kind l.now) ≡ walk_of l.rules l.view l.addr l.kind l.now)
+    × (length l.walked.passes + limiters_in (drop l.ahead.at l.rules) ≤ 16)
+    × (with_before l.walked.no_recurse l.walked.skip_cache l.walked.passes l.walked.tests (walk_of (drop l.ahead.at l.rules) l.view l.addr l.kind l.now) ≡ walk_of l.rules l.view l.addr l.kind l.now)
     × IsAhead l.offers l.view l.addr l.ahead
-    × (l.tests ≤ l.ahead.at)
+    × (l.walked.tests ≤ l.ahead.at)
+    × (l.walked.rule ≡ None)
+    × (l.walked.verdict ≡ Allow)
 
 abbrev pub decreases-rules : goal.decreases-rules
 decreases-rules l = length l.rules - l.ahead.at
