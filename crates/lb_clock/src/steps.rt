@@ -17,8 +17,8 @@ use crate::probes::Answered;
 use crate::sending::{send_outcome, send_probe};
 use crate::watched::{Waits, Watched};
 use lb_lines::{
-    Datagram, Datagrams, Gate, Line, Outcome, Outside, Place, Posts, Received, Roster, Sending,
-    Taker, outcome_of,
+    Datagram, Datagrams, Gate, Line, Outcome, Outside, Place, Posts, Received, Rooms, Roster,
+    Sending, Taker, outcome_of,
 };
 use std::sync::Wait;
 
@@ -51,7 +51,7 @@ impl<S: Datagrams, P: Posts, T: Taker, O: Outside> ClockLoop<S, P, T, O> {
         ensures same { self.new ≡ record self.old { given = self.new.given; failures = self.new.failures } }
         ensures gave { Gave {E = AllocError} (Ok result) self.old.given self.new.given self.old.failures self.new.failures }
     {
-        match self.sockets.receive() {
+        match self.sockets.receive(&mut Rooms::new(self.alloc)) {
             Ok(received) => received,
             Err(_refused) => Received::Nothing,
         }

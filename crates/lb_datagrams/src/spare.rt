@@ -2,16 +2,20 @@
 
 ghost use Rattle.std.specs.Prelude.{[], vec_capacity, vec_len, ◌≡◌};
 
-use lb_lines::Line;
+use lb_core::{Answer, Event};
+use lb_lines::{Line, Outcome, Rooms};
+use lb_wire::Octets;
 use std::alloc::Global;
 use std::mem;
 
 /// Room for the copy of a datagram's octets and for the lines of a report, which a loop keeps from turn to turn. A turn takes what is
-/// wanting before it reads: the first goes where a copy finds no block of its own, the second with the report.
+/// wanting before it reads: the first goes where a copy finds no block of its own, the second with the report. The blocks of octets that a report had are
+/// kept for those of the next one.
 #[derive(Drop)]
 pub struct Spare {
     alloc: Global,
     pub(crate) room: Vec<u8>,
+    pub(crate) rooms: Rooms,
     lines: Vec<Line>,
     ghost empty: { vec_len room ≡ 0 },
     ghost blank: { (lines.items ≡ []) × (vec_len lines ≡ 0) },
@@ -23,14 +27,18 @@ impl Spare {
         Spare {
             alloc,
             room: Vec::new(alloc),
+            rooms: Rooms::new(alloc),
             lines: Vec::new(alloc),
         }
     }
 
-    /// Takes the room of a report's lines back for the next turn. The lines go.
+    /// Takes the room of a report's lines back for the next turn, and the blocks of their octets. The lines go.
     pub fn take_back(&mut self, mut lines: Vec<Line>)
         ensures { vec_capacity self.new.lines ≡ vec_capacity lines }
     {
+        for line in lines.iter_mut() {
+            keep_blocks(&mut self.rooms, self.alloc, line);
+        }
         lines.clear();
         self.lines = lines;
     }
@@ -41,4 +49,31 @@ impl Spare {
     {
         mem::replace(&mut self.lines, Vec::new(self.alloc))
     }
+}
+
+/// Keeps the blocks of the octets of a line, which is to go.
+fn keep_blocks(rooms: &mut Rooms, alloc: Global, line: &mut Line) {
+    let Line::Event(_, event, outcome, _) = line else {
+        return;
+    };
+    match event {
+        Event::Query { bytes, .. } => keep(rooms, alloc, bytes),
+        Event::Reply { bytes, .. } => keep(rooms, alloc, bytes),
+        _ => {}
+    }
+    let Outcome::Answered(answer) = outcome else {
+        return;
+    };
+    match answer {
+        Answer::Local(bytes, _) => keep(rooms, alloc, bytes),
+        Answer::Forward(_, _, _, bytes) => keep(rooms, alloc, bytes),
+        Answer::Deliver(_, bytes, _) => keep(rooms, alloc, bytes),
+        _ => {}
+    }
+}
+
+/// Keeps the block of octets that are to go.
+#[inline(always)]
+fn keep(rooms: &mut Rooms, alloc: Global, octets: &mut Octets) {
+    rooms.keep(mem::replace(octets, Octets::from_vec(Vec::new(alloc))));
 }

@@ -17,7 +17,7 @@ use crate::spare::Spare;
 use lb_core::Event;
 use lb_lines::{
     Datagram, Datagrams, DeviceFault, Endpoint, Gate, Line, Outcome, Outside, Received, Report,
-    Roster, Sending, Socket, Source, Taker, excuse, first_fault,
+    Rooms, Roster, Sending, Socket, Source, Taker, excuse, first_fault,
 };
 use lb_wire::{Kind, Lane, MAX_MESSAGE, Octets, Origin, ServerId};
 use std::alloc::{AllocError, Global};
@@ -94,8 +94,10 @@ fn all_rounds<S: Datagrams, T: Taker, G: Gate, O: Outside>(
 {
     let mut device = None;
     for _ in 0..MOST {
-        let room = &mut spare.room;
-        let step = match one_round(alloc, room, &mut lines, sockets, taker, gate, outside) {
+        let (room, rooms) = (&mut spare.room, &mut spare.rooms);
+        let step = match one_round(
+            alloc, room, rooms, &mut lines, sockets, taker, gate, outside,
+        ) {
             Ok(step) => step,
             Err(_refused) => return report(lines, device, None),
         };
@@ -147,6 +149,7 @@ fn no_event(device: Option<DeviceFault>, is_last: bool) -> Step
 fn one_round<S: Datagrams, T: Taker, G: Gate, O: Outside>(
     alloc: Global,
     spare: &mut Vec<u8>,
+    rooms: &mut Rooms,
     lines: &mut Vec<Line>,
     sockets: &mut S,
     taker: &mut T,
@@ -167,9 +170,9 @@ fn one_round<S: Datagrams, T: Taker, G: Gate, O: Outside>(
     let Some((now, word)) = outside.ask() else {
         return Ok(no_event(Some(DeviceFault::Outside), true));
     };
-    match sockets.receive()? {
+    match sockets.receive(rooms)? {
         Received::Packet(datagram) => Ok(packet(
-            alloc, spare, lines, taker, gate, now, word, datagram,
+            alloc, spare, rooms, lines, taker, gate, now, word, datagram,
         )),
         Received::Nothing => Ok(no_event(None, true)),
         Received::Failed => Ok(no_event(Some(DeviceFault::Sockets), false)),
@@ -181,6 +184,7 @@ fn one_round<S: Datagrams, T: Taker, G: Gate, O: Outside>(
 fn packet<T: Taker, G: Gate>(
     alloc: Global,
     spare: &mut Vec<u8>,
+    rooms: &mut Rooms,
     lines: &mut Vec<Line>,
     taker: &mut T,
     gate: &G,
@@ -206,7 +210,7 @@ fn packet<T: Taker, G: Gate>(
     if is_stranger(socket, peer) {
         return no_event(None, false);
     }
-    let copy = copied(alloc, spare, &bytes);
+    let copy = copied(alloc, spare, rooms, &bytes);
     match socket {
         Socket::Listener(front) => {
             let event = query_made(now, word, front, peer, bytes);
@@ -321,14 +325,14 @@ fn is_stranger(socket: Socket, peer: Endpoint) -> bool
     }
 }
 
-/// A copy, which takes the spare room where its own is refused.
-fn copied(alloc: Global, spare: &mut Vec<u8>, bytes: &Octets) -> Octets
+/// A copy, in a block that is kept or one of its own; it takes the spare room where that is refused.
+fn copied(alloc: Global, spare: &mut Vec<u8>, rooms: &mut Rooms, bytes: &Octets) -> Octets
     requires empty { vec_len spare.old ≡ 0 }
     requires room { max_message ≤ vec_capacity spare.old }
     ensures copy { result ≡ bytes.now }
     ensures empty { vec_len spare.new ≡ 0 }
 {
-    match bytes.copy(alloc) {
+    match rooms.copied(bytes.as_slice()) {
         Ok(copy) => copy,
         Err(refused) => bytes.copy_into(mem::replace(spare, Vec::new(alloc)), refused),
     }

@@ -11,6 +11,7 @@ ghost use Rattle.lb_wire.specs.declared.addr.Origin.{Origin};
 
 use crate::endpoint::Endpoint;
 use crate::report::Why;
+use crate::rooms::Rooms;
 use crate::traffic::{Accepted, Read, Ready, Received, Socket, WaitFailed};
 use lb_core::{Answer, Event};
 use lb_desk::DeskFault;
@@ -29,8 +30,8 @@ pub trait Datagrams: Drop {
     /// Whether there is a listener of this place.
     ghost listens: { Self → ℕ → Bool };
 
-    /// The next datagram, if there is one. Room for it is taken before it is read; refused, none is read.
-    fn receive(&mut self) -> Result<Received, AllocError>
+    /// The next datagram, if there is one, in a block of these where there is one. Room for it is taken before it is read; refused, none is read.
+    fn receive(&mut self, rooms: &mut Rooms) -> Result<Received, AllocError>
         ensures gave { Gave result (given self.old) (given self.new) (failures self.old) (failures self.new) }
         ensures same { (taken self.new ≡ taken self.old) × (listens self.new ≡ listens self.old) };
 

@@ -4,7 +4,7 @@ ghost use Rattle.std.specs.Prelude.{length, ◌≡◌};
 ghost use Rattle.lb_memory.specs.Datagrams.{told};
 
 use http_server::Log;
-use lb_lines::{Datagram, Datagrams, Endpoint, Received, Socket, WaitFailed, Why};
+use lb_lines::{Datagram, Datagrams, Endpoint, Received, Rooms, Socket, WaitFailed, Why};
 use lb_wire::Octets;
 use std::alloc::{AllocError, Global};
 use std::collections::VecDeque;
@@ -117,7 +117,7 @@ impl<R: Wait> Datagrams for MemoryDatagrams<'_, R> {
     ghost listens = { λ m front. nat_lt front m.listeners };
 
     #[inline(always)]
-    fn receive(&mut self) -> Result<Received, AllocError> {
+    fn receive(&mut self, _rooms: &mut Rooms) -> Result<Received, AllocError> {
         self.reads = self.reads.wrapping_add(1);
         if self.reads == self.failing.refused {
             refuse(self.alloc)?;

@@ -16,7 +16,7 @@ use crate::sender::Sender;
 use crate::servers::{Servers, Upstream, close_idle, connected};
 use crate::waker::PollWaker;
 use crate::wire::Wire;
-use lb_lines::{Datagram, Datagrams, Endpoint, Received, Socket, WaitFailed, Why};
+use lb_lines::{Datagram, Datagrams, Endpoint, Received, Rooms, Socket, WaitFailed, Why};
 use lb_wire::Octets;
 use std::alloc::{AllocError, Global};
 use std::io;
@@ -112,7 +112,7 @@ impl<'a, R: Net + Clock> UdpSockets<'a, R> {
     }
 
     /// Reads the socket at a place. One that is not there has nothing.
-    fn read_at(&mut self, place: usize) -> io::Result<Datagram>
+    fn read_at(&mut self, place: usize, rooms: &mut Rooms) -> io::Result<Datagram>
         requires { max_message ≤ vec_capacity self.old.reader.room }
         ensures read { IfOk result (λ d. told self.new.reader.given.items ≡ told self.old.reader.given.items ++ d ∷ []) }
         ensures none { OnErr result (self.new.reader.given ≡ self.old.reader.given) }
@@ -121,7 +121,7 @@ impl<'a, R: Net + Clock> UdpSockets<'a, R> {
         let Some(wire) = wire_at(&self.listeners, &self.servers, place) else {
             return Err(io::Error::from(ErrorKind::WouldBlock));
         };
-        self.reader.read(wire)
+        self.reader.read(wire, rooms)
     }
 
     /// Closes the sockets of servers by which nothing was sent for a while, and those that are to be made anew.
@@ -266,7 +266,7 @@ impl<R: Net + Clock> Datagrams for UdpSockets<'_, R> {
 
     ghost listens = { λ s. listens_at (arc_value s.listeners).sockets.items };
 
-    fn receive(&mut self) -> Result<Received, AllocError> {
+    fn receive(&mut self, rooms: &mut Rooms) -> Result<Received, AllocError> {
         if self.readiness.look() {
             self.servers.tell_time();
         }
@@ -275,7 +275,7 @@ impl<R: Net + Clock> Datagrams for UdpSockets<'_, R> {
                 return Ok(Received::Nothing);
             };
             self.reader.prepare()?;
-            match self.read_at(place) {
+            match self.read_at(place, rooms) {
                 Ok(datagram) => return Ok(Received::Packet(datagram)),
                 Err(error) if error.kind() == ErrorKind::WouldBlock => self.readiness.dry(place),
                 Err(_) => {

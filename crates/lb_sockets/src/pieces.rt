@@ -3,6 +3,7 @@
 ghost use Rattle.std.specs.Prelude.{OnOk, vec_capacity, vec_len, ◌≡◌, ◌≤◌};
 
 use crate::reader::copied;
+use lb_lines::Rooms;
 use lb_wire::Octets;
 use mio::net::TcpStream;
 use std::alloc::{AllocError, Global};
@@ -47,7 +48,8 @@ impl Intake {
         if len == 0 {
             return Ok(None);
         }
-        let piece = copied(self.alloc, &self.buffer[..len], &mut self.room);
+        let rooms = &mut Rooms::new(self.alloc);
+        let piece = copied(rooms, self.alloc, &self.buffer[..len], &mut self.room);
         Ok(Some(piece))
     }
 }

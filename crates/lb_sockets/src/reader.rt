@@ -7,7 +7,7 @@ ghost use Rattle.lb_wire.specs.Octets.{max_message};
 use crate::addresses::endpoint_of;
 use crate::wire::Wire;
 use http_server::Log;
-use lb_lines::{Datagram, Endpoint, Socket};
+use lb_lines::{Datagram, Endpoint, Rooms, Socket};
 use lb_wire::{MAX_MESSAGE, Octets};
 use std::alloc::{AllocError, Global};
 use std::{io, mem};
@@ -44,8 +44,8 @@ impl Reader {
         self.room.reserve(MAX_MESSAGE)
     }
 
-    /// Reads one datagram from a socket.
-    pub(crate) fn read(&mut self, wire: Wire<'_>) -> io::Result<Datagram>
+    /// Reads one datagram from a socket, into a block of these where there is one.
+    pub(crate) fn read(&mut self, wire: Wire<'_>, rooms: &mut Rooms) -> io::Result<Datagram>
         requires { max_message ≤ vec_capacity self.old.room }
         ensures read { IfOk result (λ d. told self.new.given.items ≡ told self.old.given.items ++ d ∷ []) }
         ensures named { IfOk result (λ d. d.socket ≡ wire.entry.name) }
@@ -53,7 +53,7 @@ impl Reader {
     {
         let (len, peer) = received(wire, self.buffer.as_mut_slice())?;
         let len = len.min(MAX_MESSAGE);
-        let bytes = copied(self.alloc, &self.buffer[..len], &mut self.room);
+        let bytes = copied(rooms, self.alloc, &self.buffer[..len], &mut self.room);
         self.given = self.given.and(&(wire.name, peer), &bytes);
         Ok(Datagram {
             socket: wire.name,
@@ -77,16 +77,16 @@ fn received(wire: Wire<'_>, buffer: &mut [u8]) -> io::Result<(usize, Endpoint)>
     }
 }
 
-/// These octets, in a block of their own; where that is refused, in the room, of which the rest is given back.
-pub(crate) fn copied(alloc: Global, piece: &[u8], room: &mut Vec<u8>) -> Octets
+/// These octets, in a block that is kept or one of their own; where that is refused, in the room, of which the rest is given back.
+pub(crate) fn copied(rooms: &mut Rooms, alloc: Global, piece: &[u8], room: &mut Vec<u8>) -> Octets
     requires empty { vec_len room.old ≡ 0 }
     requires wide { length piece.now ≤ vec_capacity room.old }
     requires short { length piece.now ≤ max_message }
     ensures octets { result ≡ piece.now }
     ensures empty { vec_len room.new ≡ 0 }
 {
-    match Vec::from_slice(alloc, piece) {
-        Ok(bytes) => Octets::from_vec(bytes),
+    match rooms.copied(piece) {
+        Ok(bytes) => bytes,
         Err(_refused) => {
             let mut bytes = mem::replace(room, Vec::new(alloc));
             let Ok(()) = bytes.extend_from_slice(piece) else {
