@@ -11,14 +11,20 @@ use std::alloc::{AllocError, Global};
 use std::io;
 use std::net::Net;
 
+/// The most reads of a socket in a row. What is read in a row is sent on in a row, and who is sent several datagrams so is woken for the first of them
+/// alone: by turns, a datagram each, the server is woken for nearly each query, which costs a fifth of it.
+const ROW: u8 = 32;
+
 /// Flags of the sockets that may be read, each at its place. The system tells but once what has come: a socket stays ready until it is said
 /// to be dry.
 #[derive(Drop)]
 pub(crate) struct Readiness {
     watch: Watch,
     ready: Vec<bool>,
-    /// The place that is asked next.
+    /// The place that is asked next, if it may be read.
     next: usize,
+    /// How often that place was given in a row.
+    given: u8,
 }
 
 impl Readiness {
@@ -28,6 +34,7 @@ impl Readiness {
             watch: Watch::made(rt, alloc)?,
             ready: Vec::new(alloc),
             next: 0,
+            given: 0,
         })
     }
 
@@ -47,10 +54,17 @@ impl Readiness {
         self.ready.len()
     }
 
-    /// The next place that may be read, in turn.
+    /// The next place that may be read: the same in a row, and then the one behind it.
     pub(crate) fn next(&mut self) -> Option<usize> {
         let place = first_from(&self.ready, self.next)?;
-        self.next = place.wrapping_add(1);
+        let given = if place == self.next { self.given } else { 0 };
+        let is_last = given >= ROW - 1;
+        self.next = if is_last {
+            place.wrapping_add(1)
+        } else {
+            place
+        };
+        self.given = if is_last { 0 } else { given + 1 };
         Some(place)
     }
 
