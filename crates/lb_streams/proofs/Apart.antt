@@ -1,5 +1,5 @@
 -- What sockets tell of one connection changes nothing of another.
-use Rattle.std.proofs.Common.{◌≡◌, ◌≢◌, ℕ, ◌+◌, ◌≤◌, Bool, List, [], ◌∷◌, ◌++◌, length, if◌then◌else◌, ◌==◌, ap, ◌∙◌, arith}
+use Rattle.std.proofs.Common.{◌≡◌, ◌≢◌, ℕ, ◌+◌, ◌≤◌, Bool, true, false, List, [], ◌∷◌, ◌++◌, length, if◌then◌else◌, ◌==◌, ap, ◌∙◌, arith, rules}
 use Rattle.std.specs.Prelude.{cond}
 use Rattle.std.specs.List.{count_by}
 use Rattle.std.proofs.lemmas.Grind.{flat_map-append}
@@ -7,8 +7,13 @@ use Rattle.std.proofs.lemmas.List.{append-nil, length-append}
 use Rattle.std.proofs.lemmas.List.Sums.{sum_by-append}
 use Rattle.lb_lines.specs.Moves.{Piece, Traffic, octets_of}
 use Rattle.lb_lines.specs.declared.endpoint.Endpoint.{Endpoint}
-use Rattle.lb_streams.proofs.AtPlaces.{is_other, is_same}
-use Rattle.lb_streams.specs.Connection.{of_number}
+use Rattle.lb_streams.specs.Links.{of_number}
+
+pub is_same : (c : ℕ) → (c == c) ≡ true
+is_same c = search rules
+
+pub is_other : (a c : ℕ) → c ≢ a → (a == c) ≡ false
+is_other a c not_same = search rules
 
 -- octets of a connection, where a piece came behind the others
 one_octets : (c : ℕ) (p : Piece) → octets_of c (p ∷ []) ≡ (if p.0 == c then p.1 else [])

@@ -5,6 +5,8 @@ use Rattle.std.specs.List.{Contains}
 use Rattle.std.proofs.lemmas.Grind.{flat_map-append}
 use Rattle.std.proofs.lemmas.List.{append-nil, length-append}
 use Rattle.std.proofs.lemmas.List.Elements.{Contains-append_left, Contains-append_right}
+use Rattle.lb_connections.specs.Table.{clients, is_client, is_none}
+use Rattle.lb_connections.specs.declared.connection.Connection.{Connection}
 use Rattle.lb_frames.specs.Frames.{AreMessages, framed, frames}
 use Rattle.lb_lines.specs.Counts.{Fails, Rose}
 use Rattle.lb_lines.specs.Moves.{Client}
@@ -13,10 +15,8 @@ use Rattle.lb_lines.specs.declared.report.DeviceFault.{DeviceFault}
 use Rattle.lb_lines.specs.declared.report.DeviceFault.TheVariants as devices
 use Rattle.lb_lines.specs.declared.traffic.Peer.{Peer}
 use Rattle.lb_lines.specs.declared.traffic.Peer.TheVariants as peers
-use Rattle.lb_streams.specs.Connection.{Fares, HasBeen, HasEnded, Heard, IsPeer, Leaves, Link, Net, NewPeer, Over, Own, Promised, Still, Wants, WasServer, held, link, shut, unwritten, wants}
 use Rattle.lb_streams.specs.Goes.{GoesOn, Notes, TurnsAway}
-use Rattle.lb_streams.specs.Table.{clients, is_client, is_none}
-use Rattle.lb_streams.specs.declared.connection.Connection.{Connection}
+use Rattle.lb_streams.specs.Links.{Fares, HasBeen, HasEnded, Heard, IsPeer, Leaves, Link, Net, NewPeer, Over, Own, Promised, Still, Wants, WasServer, held, link, shut, unwritten, wants}
 
 -- Lists and counts.
 

@@ -4,6 +4,10 @@ use Rattle.std.specs.Prelude.{IfSome, nat_lt, take, drop, ◌&&◌}
 use Rattle.std.specs.List.{count_by}
 use Rattle.std.proofs.lemmas.Bool.Decides.{nat_tests}
 use Rattle.std.proofs.lemmas.List.{append-nil, take-append-drop}
+use Rattle.lb_connections.specs.Table.{Swaps, Table, at, client_count, clients, is_client, is_none}
+use Rattle.lb_connections.specs.Taking.{Takes}
+use Rattle.lb_connections.specs.Writing.{Puts, max_waiting}
+use Rattle.lb_connections.specs.declared.connection.Connection.{Connection}
 use Rattle.lb_frames.specs.Frames.{AreMessages, NoneWhole, framed, frames}
 use Rattle.lb_lines.specs.Counts.{Fails, Rose}
 use Rattle.lb_lines.specs.Moves.{Faulty, Took, Traffic, octets_of}
@@ -11,16 +15,14 @@ use Rattle.lb_lines.specs.declared.report.DeviceFault.{DeviceFault}
 use Rattle.lb_lines.specs.declared.report.DeviceFault.TheVariants as devices
 use Rattle.lb_lines.specs.declared.report.Why.{Why}
 use Rattle.lb_lines.specs.declared.report.Why.TheVariants as whys
-use Rattle.lb_streams.proofs.Apart.{Apart, apart_ended, apart_failed, apart_given, apart_gone, apart_none, apart_taken, count_here, octets_here}
-use Rattle.lb_streams.proofs.AtPlaces.{count_as, is_other, is_same}
+use Rattle.lb_streams.proofs.Apart.{Apart, apart_ended, apart_failed, apart_given, apart_gone, apart_none, apart_taken, count_here, is_other, is_same, octets_here}
 use Rattle.lb_streams.proofs.Faring.{rose_earlier}
 use Rattle.lb_streams.proofs.Steps.{fares_ended, fares_moved, fares_same, goes_step, lives_at}
-use Rattle.lb_streams.specs.Connection.{Ends, Moves, Net, Same, held, link, max_waiting, of_number, unwritten, wants}
 use Rattle.lb_streams.specs.Goes.{Goes, IsFull, IsOver, Notes, just, none, noted, noted_by}
-use Rattle.lb_streams.specs.Table.{Swaps, Table, at, client_count, clients, is_client, is_none}
-use Rattle.lb_streams.specs.Taking.{Takes}
-use Rattle.lb_streams.specs.Writing.{Puts}
-use Rattle.lb_streams.specs.declared.connection.Connection.{Connection}
+use Rattle.lb_streams.specs.Links.{Ends, Moves, Net, Same, held, link, of_number, unwritten, wants}
+
+count_as : (x y : Connection) → y.peer ≡ x.peer → client_count y ≡ client_count x
+count_as x y e = ap (λ p. if is_client p then 1 else 0) e
 
 -- the connection of a number was x and is closed, and no other changed
 pub record Drops (n : ℕ) (a b : Table) (x : Connection) : Type 0 where

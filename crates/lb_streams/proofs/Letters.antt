@@ -3,6 +3,8 @@ use Rattle.std.proofs.Common.{◌≡◌, ℕ, ◌<◌, inl, inr, Bool, true, fal
 use Rattle.std.specs.Prelude.{IfErr, nat_lt, slice_get}
 use Rattle.std.proofs.lemmas.Bool.Decides.{nat_tests}
 use Rattle.std.proofs.lemmas.List.{append-nil}
+use Rattle.lb_connections.specs.Table.{IsTo, Table, at, at_place}
+use Rattle.lb_connections.specs.declared.connection.Connection.{Connection}
 use Rattle.lb_lines.specs.Counts.{Rose}
 use Rattle.lb_lines.specs.Lines.{is_by_device}
 use Rattle.lb_lines.specs.Roster.{end_of}
@@ -17,13 +19,11 @@ use Rattle.lb_streams.proofs.Lifting.{server_before}
 use Rattle.lb_streams.proofs.Opening.{goes_nothing}
 use Rattle.lb_streams.proofs.Steps.{lives_at}
 use Rattle.lb_streams.proofs.Then.{closed_before, full_before, servers_later}
-use Rattle.lb_streams.specs.Connection.{Net, link}
 use Rattle.lb_streams.specs.Goes.{Goes, IsOver, Lacks, Misses, just, none}
 use Rattle.lb_streams.specs.Lines.{ComesClient, ComesPost, FitsConnection, FitsServer, IsClosed, IsServers, by_front, is_http}
-use Rattle.lb_streams.specs.Table.{IsTo, Table, at, at_place}
+use Rattle.lb_streams.specs.Links.{Net, link}
 use Rattle.lb_streams.specs.Turn.{Sends}
 use Rattle.lb_streams.specs.World.{World}
-use Rattle.lb_streams.specs.declared.connection.Connection.{Connection}
 use Rattle.lb_wire.specs.declared.addr.Origin.{Origin}
 use Rattle.lb_wire.specs.declared.ids.ServerId.{ServerId}
 use Rattle.lb_wire.specs.declared.transport.Lane.{Lane}

@@ -1,5 +1,4 @@
 pub mod Apart
-pub mod AtPlaces
 pub mod Counting
 pub mod Faring
 pub mod Going

@@ -17,9 +17,9 @@ use Rattle.lb_lines.specs.declared.roster.Listed.{Listed}
 use Rattle.lb_lines.specs.declared.traffic.Front.{Front}
 use Rattle.lb_streams.proofs.Faring.{rose_earlier, rose_later}
 use Rattle.lb_streams.proofs.Then.{closed_before, closed_later, full_before, full_later, number_before, number_later, over_before, over_later, peer_before, peer_later, servers_later}
-use Rattle.lb_streams.specs.Connection.{Net}
 use Rattle.lb_streams.specs.Goes.{Goes, IsFull, NoNumber, both, none}
 use Rattle.lb_streams.specs.Lines.{AreLines, Comes, ComesClient, ComesPost, ComesServer, ComesTo, FitsConnection, FitsServer, IsClosed, IsLine, by_front, is_http, sends_to}
+use Rattle.lb_streams.specs.Links.{Net}
 use Rattle.lb_wire.specs.declared.ids.ServerId.{ServerId}
 use Rattle.lb_wire.specs.declared.transport.Lane.{Lane}
 

@@ -5,6 +5,8 @@ use Rattle.std.specs.List.{Contains, count_by}
 use Rattle.std.proofs.lemmas.Bool.{cases_eq}
 use Rattle.std.proofs.lemmas.Bool.Decides.{nat_tests}
 use Rattle.std.proofs.lemmas.List.{append-nil, length-append}
+use Rattle.lb_connections.specs.Table.{Narrows, Table, at, at_place, client_count, clients, is_client, is_none}
+use Rattle.lb_connections.specs.declared.connection.Connection.{Connection}
 use Rattle.lb_lines.specs.Counts.{Fails, Rose}
 use Rattle.lb_lines.specs.Moves.{Client, Dialed, Faulty, Traffic, TurnedAway, octets_of}
 use Rattle.lb_lines.specs.declared.endpoint.Endpoint.{Endpoint}
@@ -16,15 +18,21 @@ use Rattle.lb_lines.specs.declared.traffic.Accepted.TheVariants as accepted
 use Rattle.lb_lines.specs.declared.traffic.Peer.{Peer}
 use Rattle.lb_lines.specs.declared.traffic.Peer.TheVariants as peers
 use Rattle.lb_streams.proofs.Apart.{Apart, apart_dialed, number_here, number_other}
-use Rattle.lb_streams.proofs.AtPlaces.{lt_more, lt_other, lt_self}
 use Rattle.lb_streams.proofs.Faring.{all_on}
 use Rattle.lb_streams.proofs.Going.{faulty_noted, same_noted}
 use Rattle.lb_streams.proofs.Steps.{and_false, fares_same, goes_step}
-use Rattle.lb_streams.specs.Connection.{Fares, HasBeen, Link, Net, NewPeer, Same, Wants, held, link, of_number, shut, unwritten, wants}
 use Rattle.lb_streams.specs.Goes.{Goes, Lacks, Notes, TurnsAway, TurnsOneAway, none, noted, noted_by}
-use Rattle.lb_streams.specs.Table.{Narrows, Table, at, at_place, client_count, clients, is_client, is_none}
-use Rattle.lb_streams.specs.declared.connection.Connection.{Connection}
+use Rattle.lb_streams.specs.Links.{Fares, HasBeen, Link, Net, NewPeer, Same, Wants, held, link, of_number, shut, unwritten, wants}
 use Rattle.lb_wire.specs.declared.ids.ServerId.{ServerId}
+
+lt_other : (k n : ℕ) → k ≢ n → nat_lt k (n + 1) ≡ nat_lt k n
+lt_other k n apart = search rules
+
+lt_more : (n : ℕ) → nat_lt n (n + 1) ≡ true
+lt_more n = search rules
+
+lt_self : (n : ℕ) → nat_lt n n ≡ false
+lt_self n = search rules
 
 -- a connection that is not touched, whose number may be passed over
 pub record Quiet (a b : Link) : Type 0 where

@@ -3,11 +3,11 @@ use Rattle.std.proofs.Common.{◌≡◌, ◌≢◌, ℕ, ◌<◌, ◌⊎◌, ⊎
 use Rattle.std.specs.Prelude.{◌&&◌}
 use Rattle.std.proofs.lemmas.Bool.{cases_eq}
 use Rattle.std.proofs.lemmas.List.{append-nil}
+use Rattle.lb_connections.specs.Table.{is_none}
+use Rattle.lb_connections.specs.declared.connection.Connection.{Connection}
 use Rattle.lb_frames.specs.Frames.{frames}
-use Rattle.lb_streams.specs.Connection.{EndedFares, Fares, HasEnded, Link, MovedFares, Same, Wants, held, link, shut, unwritten, wants}
 use Rattle.lb_streams.specs.Goes.{OneGoes}
-use Rattle.lb_streams.specs.Table.{is_none}
-use Rattle.lb_streams.specs.declared.connection.Connection.{Connection}
+use Rattle.lb_streams.specs.Links.{EndedFares, Fares, HasEnded, Link, MovedFares, Same, Wants, held, link, shut, unwritten, wants}
 
 pub and_false : (b : Bool) → (b && false) ≡ false
 and_false true = refl

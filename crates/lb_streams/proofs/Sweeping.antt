@@ -1,10 +1,10 @@
 -- Connections whose time is over, closed one after the other.
 use Rattle.std.proofs.Common.{◌≡◌, ◌≢◌, ℕ, ◌+◌, ◌⊎◌, ⊎_elim, inl, inr, Some, None, refl, sym, ap, ◌∙◌, arith}
 use Rattle.std.proofs.lemmas.Bool.{cases_eq}
-use Rattle.lb_streams.specs.Connection.{Net}
-use Rattle.lb_streams.specs.Table.{IsOverdue, Swaps, Table, at, client_count, clients}
+use Rattle.lb_connections.specs.Table.{IsOverdue, Swaps, Table, at, client_count, clients}
+use Rattle.lb_connections.specs.declared.connection.Connection.{Connection}
+use Rattle.lb_streams.specs.Links.{Net}
 use Rattle.lb_streams.specs.Turn.{Sweeps}
-use Rattle.lb_streams.specs.declared.connection.Connection.{Connection}
 
 pub sweeps_none : (now : ℕ) (a : Net) → Sweeps now a a
 sweeps_none now a = record { told = refl; each = λ c. inl refl; next = refl; refusals = refl; clients = omega arith; device = refl }

@@ -1,16 +1,16 @@
 -- Steps one after the other, and what stays true of them.
 use Rattle.std.proofs.Common.{◌≡◌, ℕ, inl, inr, List, [], ◌++◌, length, refl, sym, ap, ◌∙◌, arith, subst}
 use Rattle.std.proofs.lemmas.List.{append-nil}
+use Rattle.lb_connections.specs.declared.connection.Connection.{Connection}
 use Rattle.lb_lines.specs.declared.endpoint.Endpoint.{Endpoint}
 use Rattle.lb_lines.specs.declared.report.Why.{Why}
 use Rattle.lb_lines.specs.declared.report.Why.TheVariants as whys
 use Rattle.lb_lines.specs.declared.traffic.Peer.{Peer}
 use Rattle.lb_lines.specs.declared.traffic.Peer.TheVariants as peers
 use Rattle.lb_streams.proofs.Faring.{all_on, longer_by, new_later, over_earlier, peer_on, shut_back, shut_on}
-use Rattle.lb_streams.specs.Connection.{Fares, IsPeer, Link, Net, NewPeer, link, wants}
 use Rattle.lb_streams.specs.Goes.{Goes, IsFull, IsOver, Misses, NoNumber, both, none}
 use Rattle.lb_streams.specs.Lines.{IsClosed, IsServers}
-use Rattle.lb_streams.specs.declared.connection.Connection.{Connection}
+use Rattle.lb_streams.specs.Links.{Fares, IsPeer, Link, Net, NewPeer, link, wants}
 use Rattle.lb_wire.specs.declared.ids.ServerId.{ServerId}
 
 pub goes_as : (a b : Net) (m n s r : ℕ → List (List ℕ)) → ((c : ℕ) → m c ≡ n c) → ((c : ℕ) → s c ≡ r c) → Goes a b m s → Goes a b n r

@@ -3,6 +3,7 @@ use Rattle.std.proofs.Common.{◌≡◌, ℕ, ◌+◌, ◌≤◌, inl, Bool, tru
 use Rattle.std.specs.Prelude.{◌||◌}
 use Rattle.std.proofs.lemmas.Grind.{flat_map-append}
 use Rattle.std.proofs.lemmas.List.{append-nil, length-append}
+use Rattle.lb_connections.specs.Table.{IsFirst}
 use Rattle.lb_core.specs.declared.event.Event.{Event}
 use Rattle.lb_lines.specs.Counts.{Fails, Grows, Rose}
 use Rattle.lb_lines.specs.Letter.{IsOutcome, Letter, job_letter, outcome_letter}
@@ -30,11 +31,10 @@ use Rattle.lb_streams.proofs.Faring.{all_on, rose_earlier, rose_later}
 use Rattle.lb_streams.proofs.Lifting.{are_on, comes_before, comes_later}
 use Rattle.lb_streams.proofs.Opening.{goes_nothing}
 use Rattle.lb_streams.proofs.Then.{goes_after, goes_as, goes_then}
-use Rattle.lb_streams.specs.Connection.{Net}
 use Rattle.lb_streams.specs.Ends.{first_device}
 use Rattle.lb_streams.specs.Goes.{Goes, Notes, both, just, none}
 use Rattle.lb_streams.specs.Lines.{AreLines, Comes, event_by, message_by, messages_by, octets_in, sends_to}
-use Rattle.lb_streams.specs.Table.{IsFirst}
+use Rattle.lb_streams.specs.Links.{Net}
 use Rattle.lb_streams.specs.Turn.{Fared, Receives, Sends, Stamps, Sweeps, Turns, Went}
 use Rattle.lb_streams.specs.World.{World}
 

@@ -1,5 +1,6 @@
 -- What happens to the connections of a loop.
 use Rattle.std.specs.Prelude.{◌≡◌, ◌≢◌, ℕ, ◌+◌, ◌≤◌, ◌^◌, ◌⊎◌, List, [], ◌∷◌, ◌++◌, Option, Some, None, Result, Ok, Err, length, true, false, if◌then◌else◌, ◌==◌}
+use Rattle.lb_connections.specs.Table.{clients}
 use Rattle.lb_lines.specs.Counts.{Fails, Rose}
 use Rattle.lb_lines.specs.Moves.{Traffic, TurnedAway}
 use Rattle.lb_lines.specs.declared.report.DeviceFault.{DeviceFault}
@@ -7,8 +8,7 @@ use Rattle.lb_lines.specs.declared.report.DeviceFault.TheVariants as devices
 use Rattle.lb_lines.specs.declared.report.Why.{Why}
 use Rattle.lb_lines.specs.declared.report.Why.TheVariants as whys
 use Rattle.lb_lines.specs.declared.traffic.Accepted.{Accepted}
-use Rattle.lb_streams.specs.Connection.{Fares, Net, Over, Same, link, shut, wants}
-use Rattle.lb_streams.specs.Table.{clients}
+use Rattle.lb_streams.specs.Links.{Fares, Net, Over, Same, link, shut, wants}
 
 -- how many clients may be connected, and how many connections a table has places for
 abbrev pub max_clients : ℕ

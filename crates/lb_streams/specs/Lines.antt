@@ -1,5 +1,7 @@
 -- The lines of a turn of streams.
 use Rattle.std.specs.Prelude.{◌≡◌, ℕ, ◌⊎◌, Bool, true, false, List, [], ◌∷◌, Option, Some, None, flat_map, slice_get, if◌then◌else◌, ◌==◌}
+use Rattle.lb_connections.specs.Table.{at}
+use Rattle.lb_connections.specs.declared.connection.Connection.{Connection}
 use Rattle.lb_core.specs.declared.event.Event.{Event}
 use Rattle.lb_core.specs.declared.event.Event.TheVariants.{Query, Reply}
 use Rattle.lb_lines.specs.Counts.{Rose}
@@ -21,10 +23,8 @@ use Rattle.lb_lines.specs.declared.traffic.Front.{Front}
 use Rattle.lb_lines.specs.declared.traffic.Front.TheVariants as fronts
 use Rattle.lb_lines.specs.declared.traffic.Peer.{Peer}
 use Rattle.lb_lines.specs.declared.traffic.Peer.TheVariants as peers
-use Rattle.lb_streams.specs.Connection.{IsPeer, Net, link, shut}
 use Rattle.lb_streams.specs.Goes.{IsFull, IsOver, NoNumber, both}
-use Rattle.lb_streams.specs.Table.{at}
-use Rattle.lb_streams.specs.declared.connection.Connection.{Connection}
+use Rattle.lb_streams.specs.Links.{IsPeer, Net, link, shut}
 use Rattle.lb_wire.specs.declared.ids.ServerId.{ServerId}
 use Rattle.lb_wire.specs.declared.transport.Kind.{Kind}
 use Rattle.lb_wire.specs.declared.transport.Kind.TheVariants as kinds

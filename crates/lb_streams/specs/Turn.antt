@@ -1,5 +1,7 @@
 -- What a turn of streams does.
 use Rattle.std.specs.Prelude.{◌≡◌, ℕ, ◌+◌, ◌≤◌, ◌⊎◌, Bool, true, false, IsTrue, List, [], ◌∷◌, ◌++◌, Option, Some, None, length}
+use Rattle.lb_connections.specs.Table.{IsOverdue, at, clients}
+use Rattle.lb_connections.specs.declared.connection.Connection.{Connection}
 use Rattle.lb_core.specs.declared.event.Event.{Event}
 use Rattle.lb_lines.specs.Counts.{Fails, Grows, Rose}
 use Rattle.lb_lines.specs.Letter.{Letter}
@@ -12,12 +14,10 @@ use Rattle.lb_lines.specs.declared.roster.Listed.{Listed}
 use Rattle.lb_outbox.specs.Outbox.{Receiving}
 use Rattle.lb_outbox.specs.declared.job.Job.{Job}
 use Rattle.lb_outbox.specs.declared.rule.Delivery.{Delivery}
-use Rattle.lb_streams.specs.Connection.{Net}
 use Rattle.lb_streams.specs.Goes.{Goes, none}
 use Rattle.lb_streams.specs.Lines.{AreLines, Comes, messages_by, sends_to}
-use Rattle.lb_streams.specs.Table.{IsOverdue, at, clients}
+use Rattle.lb_streams.specs.Links.{Net}
 use Rattle.lb_streams.specs.World.{World}
-use Rattle.lb_streams.specs.declared.connection.Connection.{Connection}
 
 -- a letter, and what came of its send
 pub record Sends (roster : List Listed) (old new : World) (letter : Option Letter) (sending : Sending) : Type 0 where

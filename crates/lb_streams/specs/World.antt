@@ -5,7 +5,7 @@ use Rattle.lb_core.specs.declared.event.Event.{Event}
 use Rattle.lb_lines.specs.Stamps.{Stamp}
 use Rattle.lb_lines.specs.declared.traffic.Front.{Front}
 use Rattle.lb_outbox.specs.Outbox.{Receiving}
-use Rattle.lb_streams.specs.Connection.{Net}
+use Rattle.lb_streams.specs.Links.{Net}
 use Rattle.lb_wire.specs.declared.addr.Origin.{Origin}
 
 -- what its parts tell: its connections; the jobs that came; what listens at each place; what was handed to requests; the answered calls

@@ -1,12 +1,11 @@
 //! Connections to servers.
 
 ghost use Rattle.std.specs.Prelude.{IfErr, IfOk, ◌≡◌};
+ghost use Rattle.lb_connections.specs.Table.{IsTo};
 ghost use Rattle.lb_streams.specs.Goes.{Goes, Lacks, none};
-ghost use Rattle.lb_streams.specs.Table.{IsTo};
 
-use crate::connection::Connection;
 use crate::links::Links;
-use crate::table::Route;
+use lb_connections::{Connection, Route};
 use lb_lines::{Endpoint, Peer, Streams, Why};
 use lb_wire::ServerId;
 use std::alloc::Global;

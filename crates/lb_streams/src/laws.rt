@@ -1,7 +1,7 @@
 //! What holds of connections.
 
-ghost use Rattle.lb_streams.specs.Connection.{EndedFares, MovedFares};
 ghost use Rattle.lb_streams.specs.Goes.{GoesOn, OneGoes};
+ghost use Rattle.lb_streams.specs.Links.{EndedFares, MovedFares};
 
 /// What connections go through in two steps, they go through in all: the messages that were taken of each, and those that were sent to it,
 /// are those of the first and then those of the second; and each closing has its cause in the whole.

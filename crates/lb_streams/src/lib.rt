@@ -1,7 +1,6 @@
 //! The loop of streams: its connections, and its turn.
 #![tactic(auto)]
 
-mod connection;
 mod dialing;
 mod laws;
 mod links;
@@ -10,7 +9,6 @@ mod reading;
 mod rounds;
 mod sending;
 mod streams;
-mod table;
 mod taking;
 mod turn;
 mod writing;

@@ -3,7 +3,7 @@
 ghost use Rattle.std.specs.Prelude.{◌≡◌};
 ghost use Rattle.lb_streams.specs.Goes.{noted};
 
-use crate::table::Connections;
+use lb_connections::Connections;
 use lb_lines::{DeviceFault, Streams};
 use std::marker::Model;
 
@@ -16,7 +16,7 @@ pub(crate) struct Links<S: Streams> {
 }
 
 impl<S: Streams> Model for Links<S> {
-    ghost use Rattle.lb_streams.specs.Connection.{Net};
+    ghost use Rattle.lb_streams.specs.Links.{Net};
 
     ghost Value = { Net };
 

@@ -1,14 +1,13 @@
 //! How many answers a connection waits for, and how long it is kept.
 
 ghost use Rattle.std.specs.Prelude.{◌<◌, ◌≡◌};
-ghost use Rattle.lb_streams.specs.Connection.{Net};
 ghost use Rattle.lb_streams.specs.Goes.{Goes, none};
+ghost use Rattle.lb_streams.specs.Links.{Net};
 ghost use Rattle.lb_streams.specs.Turn.{Sweeps};
 
 use crate::links::Links;
-use crate::table::PLACES;
+use lb_connections::PLACES;
 use lb_lines::{Roster, Streams};
-use std::mem;
 
 impl<S: Streams> Links<S> {
     /// A query of a connection was answered or sent on.
@@ -45,20 +44,12 @@ impl<S: Streams> Links<S> {
     pub(crate) fn follow(&mut self, roster: &Roster, now: u64)
         ensures { Goes self.old self.new none none }
     {
-        if !self.is_behind(roster) {
+        if !self.table.is_behind(roster.version()) {
             return;
         }
         for place in 0..PLACES {
             self.follow_one(roster, now, place);
         }
-    }
-
-    /// Whether the roster was changed since it was last followed, which it is now.
-    fn is_behind(&mut self, roster: &Roster) -> bool
-        ensures { self.new ≡ self.old }
-    {
-        let version = Some(roster.version());
-        mem::replace(&mut self.table.version, version) != version
     }
 
     /// The same for the connection at one place.
@@ -81,23 +72,12 @@ impl<S: Streams> Links<S> {
     pub(crate) fn sweep(&mut self, now: u64)
         ensures { Sweeps now self.old self.new }
     {
-        if !self.is_due(now) {
+        if !self.table.is_due(now) {
             return;
         }
         for place in 0..PLACES {
             self.sweep_one(now, place);
         }
-    }
-
-    /// Whether a connection's time may be over, since when none is known of.
-    fn is_due(&mut self, now: u64) -> bool
-        ensures { self.new ≡ self.old }
-    {
-        if now < self.table.due {
-            return false;
-        }
-        self.table.due = u64::MAX;
-        true
     }
 
     /// Closes the connection at one place, where its time is over at this moment.

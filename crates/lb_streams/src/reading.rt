@@ -1,14 +1,12 @@
 //! What comes of sockets of streams: clients, octets, and ends.
 
-ghost use Rattle.std.specs.Prelude.{OnOk, ◌++◌, ◌≡◌};
+ghost use Rattle.std.specs.Prelude.{◌≡◌};
 ghost use Rattle.lb_streams.specs.Goes.{Goes, TurnsOneAway, none};
 
-use crate::connection::Connection;
 use crate::links::Links;
-use crate::table::Connections;
+use lb_connections::Connection;
 use lb_lines::{Accepted, Peer, Read, Streams};
-use lb_wire::Octets;
-use std::alloc::{AllocError, Global};
+use std::alloc::Global;
 
 impl<S: Streams> Links<S> {
     /// Takes in a client that waits. One is closed at once where 1,024 are connected, or where no number is left. Where memory is
@@ -58,7 +56,7 @@ impl<S: Streams> Links<S> {
             return;
         }
         match self.sockets.read_from(number) {
-            Ok(Read::Piece(octets)) => match hear(&mut self.table, &mut connection, &octets) {
+            Ok(Read::Piece(octets)) => match self.table.hear(&mut connection, &octets) {
                 Ok(()) => self.table.put(connection),
                 Err(refused) => {
                     self.sockets.close(number);
@@ -121,19 +119,4 @@ fn resume<S: Streams>(sockets: &mut S, connection: &mut Connection)
         connection.is_passed_over = false;
         sockets.resume(connection.number);
     }
-}
-
-/// Puts what came behind what is held of a connection, which then waits for its turn where it has a whole message. The one error is want of
-/// memory.
-fn hear(
-    table: &mut Connections,
-    connection: &mut Connection,
-    octets: &Octets,
-) -> Result<(), AllocError>
-    ensures heard { OnOk result (connection.new.incoming ≡ connection.old.incoming ++ octets.now) }
-    ensures rest { (connection.new.number ≡ connection.old.number) × (connection.new.peer ≡ connection.old.peer) × (connection.new.outgoing ≡ connection.old.outgoing) × (connection.new.is_ended ≡ connection.old.is_ended) }
-    ensures same { table.new ≡ table.old }
-{
-    connection.incoming.push(octets.as_slice())?;
-    connection.enqueue(&mut table.queue)
 }

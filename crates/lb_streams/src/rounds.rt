@@ -1,14 +1,14 @@
 //! The rounds of a turn: a job, what a socket has, and an event.
 
 ghost use Rattle.std.specs.Prelude.{[], List, false, option_to_list, ◌++◌, ◌∷◌, ◌≡◌};
+ghost use Rattle.lb_connections.specs.Table.{IsFirst};
 ghost use Rattle.lb_lines.specs.Stamps.{Stamp};
 ghost use Rattle.lb_streams.specs.Lines.{event_by};
 ghost use Rattle.lb_streams.specs.Steps.{is_blind, lines_of};
-ghost use Rattle.lb_streams.specs.Table.{IsFirst};
 ghost use Rattle.lb_streams.specs.Turn.{Turns};
 
 use crate::streams::StreamLoop;
-use crate::taking::First;
+use lb_connections::First;
 use lb_core::{Answer, Event};
 use lb_frames::Message;
 use lb_lines::{

@@ -1,11 +1,11 @@
 //! What the loop of streams sends.
 
 ghost use Rattle.std.specs.Prelude.{IfErr, IfOk, Some, slice_get, true, ◌≡◌};
+ghost use Rattle.lb_connections.specs.Table.{IsTo};
 ghost use Rattle.lb_lines.specs.Letter.{outcome_letter};
 ghost use Rattle.lb_lines.specs.declared.letter.End.TheVariants.{Client, Server};
 ghost use Rattle.lb_streams.specs.Goes.{Goes, none, sent_by};
 ghost use Rattle.lb_streams.specs.Lines.{FitsServer, IsServers, is_http};
-ghost use Rattle.lb_streams.specs.Table.{IsTo};
 ghost use Rattle.lb_streams.specs.Turn.{Sends};
 
 use crate::links::Links;

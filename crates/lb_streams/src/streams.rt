@@ -1,10 +1,10 @@
 //! What the loop of streams holds.
 
 ghost use Rattle.std.specs.Prelude.{[], IfOk, length, vec_capacity, vec_len, ◌≡◌};
-ghost use Rattle.lb_streams.specs.Table.{IsNew};
+ghost use Rattle.lb_connections.specs.Table.{IsNew};
 
 use crate::links::Links;
-use crate::table::Connections;
+use lb_connections::Connections;
 use lb_lines::{Front, Line, Outside, Posts, Streams, Taker, WaitFailed};
 use lb_outbox::Receiver;
 use std::alloc::{AllocError, Global};

@@ -1,43 +1,11 @@
 //! What is written to connections.
 
-ghost use Rattle.std.specs.Prelude.{IfErr, OnErr, OnOk, ◌≡◌};
+ghost use Rattle.std.specs.Prelude.{IfErr, ◌≡◌};
 ghost use Rattle.lb_streams.specs.Goes.{Goes, Misses, none, noted_by, sent_so};
-ghost use Rattle.lb_streams.specs.Writing.{MayNotPut, Puts};
 
 use crate::links::Links;
-use crate::table::{Connections, place_of};
 use lb_lines::{Streams, Why};
 use lb_wire::Octets;
-
-impl Connections {
-    /// Puts a message behind what a connection is to write, where it stands, and notes that this is to be written. Where it is not put,
-    /// nothing has changed.
-    fn promise(&mut self, number: u64, message: &Octets) -> Result<(), Why>
-        ensures put { OnOk result (Puts number message.now self.old self.new) }
-        ensures same { OnErr result (self.new ≡ self.old) }
-        ensures why { IfErr result (λ why. MayNotPut number message.now self.old why) }
-    {
-        if number > self.last {
-            return Err(Why::Gone);
-        }
-        let Some(connection) = &mut self.slots[place_of(number)] else {
-            return Err(Why::Gone);
-        };
-        if connection.number != number {
-            return Err(Why::Gone);
-        }
-        if connection.is_over(message) {
-            return Err(Why::Limit);
-        }
-        match connection.promise(message) {
-            Ok(()) => {
-                connection.touch(&mut self.touched);
-                Ok(())
-            }
-            Err(refused) => Err(Why::from(refused)),
-        }
-    }
-}
 
 impl<S: Streams> Links<S> {
     /// Writes what waits to be written to a connection, as much as its socket takes. It is closed where the socket failed, or the peer takes

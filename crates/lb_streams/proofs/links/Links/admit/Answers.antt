@@ -1,9 +1,9 @@
 use Rattle.std.proofs.Common.{ℕ, refl, subst}
+use Rattle.lb_connections.specs.declared.connection.Connection.{Connection}
 use Rattle.lb_streams.proofs.Opening.{Adds, adds, goes_came}
-use Rattle.lb_streams.specs.Connection.{Net}
-use Rattle.lb_streams.specs.Goes.{Goes, none}
-use Rattle.lb_streams.specs.declared.connection.Connection.{Connection}
 use Rattle.lb_streams.proofs.links.Links.admit.Goals as goal
+use Rattle.lb_streams.specs.Goes.{Goes, none}
+use Rattle.lb_streams.specs.Links.{Net}
 
 pub returns-in-Ok-Client : goal.returns-in-Ok-Client
 returns-in-Ok-Client g c =

@@ -1,10 +1,10 @@
 use Rattle.std.proofs.Common.{◌≡◌, ℕ, refl, sym, ap, ◌∙◌, subst}
+use Rattle.lb_connections.specs.Table.{Narrows, Table}
+use Rattle.lb_connections.specs.declared.connection.Connection.{Connection}
 use Rattle.lb_streams.proofs.Opening.{Adds, adds, goes_begun, goes_undialed, undialed_lacks}
-use Rattle.lb_streams.specs.Connection.{Net}
-use Rattle.lb_streams.specs.Goes.{Goes, Lacks, none}
-use Rattle.lb_streams.specs.Table.{Narrows, Table}
-use Rattle.lb_streams.specs.declared.connection.Connection.{Connection}
 use Rattle.lb_streams.proofs.links.Links.dialed.Goals as goal
+use Rattle.lb_streams.specs.Goes.{Goes, Lacks, none}
+use Rattle.lb_streams.specs.Links.{Net}
 
 pub returns-in-Ok-clause-goes : goal.returns-in-Ok-clause-goes
 returns-in-Ok-clause-goes g c =

@@ -1,10 +1,10 @@
 use Rattle.std.proofs.Common.{refl, sym, subst}
+use Rattle.lb_connections.specs.Table.{IsFirst, Table}
+use Rattle.lb_connections.specs.Taking.{Takes}
 use Rattle.lb_streams.proofs.Going.{Drops, drops_swapped, drops_taken, drops_wanting, goes_took, goes_wanting_taken, rose_wanting}
-use Rattle.lb_streams.specs.Connection.{Net}
-use Rattle.lb_streams.specs.Goes.{Goes, just, none}
-use Rattle.lb_streams.specs.Table.{IsFirst, Table}
-use Rattle.lb_streams.specs.Taking.{Takes}
 use Rattle.lb_streams.proofs.links.Links.drop_first.Goals as goal
+use Rattle.lb_streams.specs.Goes.{Goes, just, none}
+use Rattle.lb_streams.specs.Links.{Net}
 
 pub returns-in_default : goal.returns-in_default
 returns-in_default g c = λ peer message first.

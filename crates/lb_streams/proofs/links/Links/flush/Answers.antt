@@ -1,10 +1,10 @@
 use Rattle.std.proofs.Common.{rules, ◌≡◌, false, refl, sym, ap, ◌∙◌, subst}
+use Rattle.lb_connections.specs.Table.{Table}
+use Rattle.lb_connections.specs.declared.connection.Connection.{Connection}
 use Rattle.lb_streams.proofs.Going.{Drops, drops, goes_kept, goes_refused, goes_written, swaps}
-use Rattle.lb_streams.specs.Connection.{Net}
-use Rattle.lb_streams.specs.Goes.{Goes, none}
-use Rattle.lb_streams.specs.Table.{Table}
-use Rattle.lb_streams.specs.declared.connection.Connection.{Connection}
 use Rattle.lb_streams.proofs.links.Links.flush.Goals as goal
+use Rattle.lb_streams.specs.Goes.{Goes, none}
+use Rattle.lb_streams.specs.Links.{Net}
 
 pub returns-then-len-eq0 : goal.returns-then-len-eq0
 returns-then-len-eq0 g c =

@@ -1,9 +1,9 @@
 use Rattle.std.proofs.Common.{refl, subst}
+use Rattle.lb_connections.specs.declared.connection.Connection.{Connection}
 use Rattle.lb_streams.proofs.Going.{goes_kept, swaps}
-use Rattle.lb_streams.specs.Connection.{Net}
-use Rattle.lb_streams.specs.Goes.{Goes, none}
-use Rattle.lb_streams.specs.declared.connection.Connection.{Connection}
 use Rattle.lb_streams.proofs.links.Links.pay.Goals as goal
+use Rattle.lb_streams.specs.Goes.{Goes, none}
+use Rattle.lb_streams.specs.Links.{Net}
 
 pub returns : goal.returns
 returns g c =

@@ -1,11 +1,11 @@
 use Rattle.std.proofs.Common.{◌≡◌, refl, ap, ◌∙◌, subst}
+use Rattle.lb_connections.specs.Table.{Table, at}
+use Rattle.lb_connections.specs.Writing.{MayNotPut}
 use Rattle.lb_lines.specs.declared.report.Why.TheVariants as whys
 use Rattle.lb_streams.proofs.Going.{Drops, drops_taken, goes_over, goes_put}
-use Rattle.lb_streams.specs.Connection.{Net}
-use Rattle.lb_streams.specs.Goes.{Goes, just, none}
-use Rattle.lb_streams.specs.Table.{Table, at}
-use Rattle.lb_streams.specs.Writing.{MayNotPut}
 use Rattle.lb_streams.proofs.links.Links.promise.Goals as goal
+use Rattle.lb_streams.specs.Goes.{Goes, just, none}
+use Rattle.lb_streams.specs.Links.{Net}
 
 pub returns-in-Ok-clause-goes : goal.returns-in-Ok-clause-goes
 returns-in-Ok-clause-goes g c =

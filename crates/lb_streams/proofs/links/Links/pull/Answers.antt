@@ -1,12 +1,12 @@
 use Rattle.std.proofs.Common.{◌≡◌, true, refl, sym, ap, ◌∙◌, subst}
+use Rattle.lb_connections.specs.Table.{Table, is_client}
+use Rattle.lb_connections.specs.declared.connection.Connection.{Connection}
 use Rattle.lb_lines.specs.Moves.{Faulty, Traffic}
 use Rattle.lb_lines.specs.declared.traffic.Peer.{Peer}
 use Rattle.lb_streams.proofs.Going.{Drops, drops, drops_wanting, goes_asked, goes_failed, goes_heard, goes_kept, goes_left, goes_wanting, goes_wanting_read, rose_wanting, swaps, swaps_by}
-use Rattle.lb_streams.specs.Connection.{Net}
-use Rattle.lb_streams.specs.Goes.{Goes, none}
-use Rattle.lb_streams.specs.Table.{Table, is_client}
-use Rattle.lb_streams.specs.declared.connection.Connection.{Connection}
 use Rattle.lb_streams.proofs.links.Links.pull.Goals as goal
+use Rattle.lb_streams.specs.Goes.{Goes, none}
+use Rattle.lb_streams.specs.Links.{Net}
 
 pub returns-then-not-may_be_read : goal.returns-then-not-may_be_read
 returns-then-not-may_be_read g c =
@@ -24,7 +24,7 @@ returns-in-Ok g c =
     let x : Connection = c.in-Some.connection in
     let new : Net = record { told = g.S.Streams.told c.read_from.new.self; table = c.put-in-Ok.new.self; device = c.self.inside.device } in
     let y : Connection = c.hear.new.connection in
-    let swap = swaps_by c.args.number old.table c.take.new.self c.hear.new.table new.table x y (c.hear.ensures.same) c.in-Some.ensures.here c.in-Some.ensures.number.0 c.take.ensures.others c.in-Some.ensures.clients c.take.ensures.same.0 c.take.ensures.same.1
+    let swap = swaps_by c.args.number old.table c.take.new.self c.hear.new.self new.table x y (c.hear.ensures.same) c.in-Some.ensures.here c.in-Some.ensures.number.0 c.take.ensures.others c.in-Some.ensures.clients c.take.ensures.same.0 c.take.ensures.same.1
     c.put-in-Ok.ensures.here c.put-in-Ok.ensures.others c.put-in-Ok.ensures.clients c.put-in-Ok.ensures.same.0 c.put-in-Ok.ensures.same.1 (c.hear.ensures.rest.0) (c.hear.ensures.rest.1) in
     let told = rw c.in-Ok-Piece.field-0-is at c.in-Ok-Piece.ensures.gave in
     subst (λ (z : Net). Goes z new none none) c.self.view_is (goes_heard c.args.number old new x y c.in-Ok-Piece.octets swap told refl c.hear.ensures.rest.1 c.in-Ok.ensures.heard c.hear.ensures.rest.2 c.hear.ensures.rest.3)
@@ -34,9 +34,9 @@ returns-in-Err-hear g c =
     let old : Net = record { told = g.S.Streams.told c.self.inside.sockets; table = c.self.inside.table; device = c.self.inside.device } in
     let x : Connection = c.in-Some.connection in
     let new : Net = record { told = g.S.Streams.told c.close.new.self; table = c.lacks.new.self; device = c.self.inside.device } in
-    let gone : Drops c.args.number old.table c.hear.new.table x = subst (λ (t : Table). Drops c.args.number old.table t x) (sym (c.hear.ensures.same)) (drops c.args.number old.table c.take.new.self x c.in-Some.ensures.here c.in-Some.ensures.number.1 c.take.ensures.gone c.take.ensures.others c.in-Some.ensures.clients c.take.ensures.same.0 c.take.ensures.same.1) in
-    let drop = drops_wanting c.args.number old.table c.hear.new.table new.table x gone c.lacks.ensures.same c.lacks.ensures.refusals.1 in
-    let rose = rose_wanting old.table.refusals c.hear.new.table.refusals new.table.refusals gone.refusals c.lacks.ensures.refusals.0 in
+    let gone : Drops c.args.number old.table c.hear.new.self x = subst (λ (t : Table). Drops c.args.number old.table t x) (sym (c.hear.ensures.same)) (drops c.args.number old.table c.take.new.self x c.in-Some.ensures.here c.in-Some.ensures.number.1 c.take.ensures.gone c.take.ensures.others c.in-Some.ensures.clients c.take.ensures.same.0 c.take.ensures.same.1) in
+    let drop = drops_wanting c.args.number old.table c.hear.new.self new.table x gone c.lacks.ensures.same c.lacks.ensures.refusals.1 in
+    let rose = rose_wanting old.table.refusals c.hear.new.self.refusals new.table.refusals gone.refusals c.lacks.ensures.refusals.0 in
     let told = rw c.in-Ok-Piece.field-0-is at c.in-Ok-Piece.ensures.gave in
     subst (λ (z : Net). Goes z new none none) c.self.view_is (goes_wanting_read c.args.number old new x c.in-Ok-Piece.octets drop rose (c.close.ensures.same ∙ told) refl)
 

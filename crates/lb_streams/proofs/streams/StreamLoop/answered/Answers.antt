@@ -1,5 +1,6 @@
 use Rattle.std.proofs.Common.{◌≡◌, ◌+◌, [], ◌∷◌, ◌++◌, false, refl, sym, ap, ◌∙◌, subst}
 use Rattle.std.specs.Prelude.{length}
+use Rattle.lb_connections.specs.Table.{IsFirst}
 use Rattle.lb_core.specs.declared.event.Event.{Event}
 use Rattle.lb_lines.specs.Counts.{Grows}
 use Rattle.lb_lines.specs.Letter.{IsOutcome, outcome_letter}
@@ -8,11 +9,10 @@ use Rattle.lb_lines.specs.declared.report.Line.TheVariants as lines
 use Rattle.lb_lines.specs.declared.report.Source.TheVariants as sources
 use Rattle.lb_streams.proofs.Then.{goes_after}
 use Rattle.lb_streams.proofs.Turning.{turns_told}
+use Rattle.lb_streams.proofs.streams.StreamLoop.answered.Goals as goal
 use Rattle.lb_streams.specs.Goes.{Goes, just, none}
-use Rattle.lb_streams.specs.Table.{IsFirst}
 use Rattle.lb_streams.specs.Turn.{Sends, Turns}
 use Rattle.lb_streams.specs.World.{World}
-use Rattle.lb_streams.proofs.streams.StreamLoop.answered.Goals as goal
 
 pub returns : goal.returns
 returns g c = λ said stamp.

@@ -1,11 +1,14 @@
 -- What is put behind what a connection is to write.
 use Rattle.std.specs.Prelude.{◌≡◌, ◌+◌, ◌<◌, ◌≤◌, ℕ, List, ◌++◌, length, Some, None}
+use Rattle.lb_connections.specs.Table.{Swaps, Table, at}
+use Rattle.lb_connections.specs.declared.connection.Connection.{Connection}
 use Rattle.lb_frames.specs.Frames.{framed}
 use Rattle.lb_lines.specs.declared.report.Why.{Why}
 use Rattle.lb_lines.specs.declared.report.Why.TheVariants as whys
-use Rattle.lb_streams.specs.Connection.{max_waiting}
-use Rattle.lb_streams.specs.Table.{Swaps, Table, at}
-use Rattle.lb_streams.specs.declared.connection.Connection.{Connection}
+
+-- the most octets that may wait to be written to a connection, 1,024 KiB
+abbrev pub max_waiting : ℕ
+max_waiting = 1048576
 
 -- a message was put behind what the connection of a number is to write, where no more octets wait now than may
 pub record Puts (n : ℕ) (message : List ℕ) (a b : Table) : Type 0 where

@@ -1,9 +1,9 @@
 use Rattle.std.proofs.Common.{rules, ◌≡◌, ◌+◌, ◌<◌, get_or, length, set, None, Some, refl, sym, subst, ◌∙◌}
 use Rattle.std.proofs.lemmas.List.{get_or_read_under}
-use Rattle.lb_streams.proofs.AtPlaces.{takes_at}
-use Rattle.lb_streams.specs.Table.{IsFirst, Table}
-use Rattle.lb_streams.specs.Taking.{Takes}
-use Rattle.lb_streams.proofs.table.Connections.drop_first.Goals as goal
+use Rattle.lb_connections.proofs.AtPlaces.{takes_at}
+use Rattle.lb_connections.proofs.table.Connections.drop_first.Goals as goal
+use Rattle.lb_connections.specs.Table.{IsFirst, Table}
+use Rattle.lb_connections.specs.Taking.{Takes}
 
 pub returns : goal.returns
 returns c = λ peer message first.

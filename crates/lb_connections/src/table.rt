@@ -2,8 +2,8 @@
 
 ghost use Rattle.std.specs.Prelude.{IfNone, IfOk, IfSome, IsTrue, None, Some, false, if◌then◌else◌, option_map, true, vec_len, ◌%◌, ◌+◌, ◌<◌, ◌^◌, ◌≡◌, ◌≢◌, ◌≤◌, ◌⊎◌, ℕ};
 ghost use Rattle.std.specs.List.{All};
+ghost use Rattle.lb_connections.specs.Table.{IsGiven, IsNew, IsTo, Narrows, at, at_place, client_count, clients, clients_in, is_none, vacant};
 ghost use Rattle.lb_lines.specs.Counts.{Rose};
-ghost use Rattle.lb_streams.specs.Table.{IsGiven, IsNew, IsTo, Narrows, at, at_place, client_count, clients, clients_in, is_none, vacant};
 
 use crate::connection::Connection;
 use lb_lines::{Endpoint, Peer};
@@ -11,41 +11,42 @@ use lb_wire::{Octets, ServerId};
 use std::alloc::{AllocError, Global};
 use std::collections::VecDeque;
 use std::marker::Model;
+use std::mem;
 
 /// How many connections a table has places for.
-pub(crate) const PLACES: usize = 4096;
+pub const PLACES: usize = 4096;
 
 /// How many clients may be connected.
 const MOST_CLIENTS: usize = 1024;
 
 /// The connection that was last begun to a server, by one of its upstream sockets.
 #[derive(Clone, Copy, Debug)]
-pub(crate) struct Route {
-    pub(crate) server: ServerId,
-    pub(crate) lane: u8,
-    pub(crate) number: u64,
+pub struct Route {
+    pub server: ServerId,
+    pub lane: u8,
+    pub number: u64,
 }
 
 /// Connections, each at the place that is its number modulo 4,096. A number is given once, so that an answer to a connection that has
 /// ended never goes to another. A contract sees the connection of each number.
 #[derive(Drop)]
-pub(crate) struct Connections {
+pub struct Connections {
     /// The last number that was given, 0 at first.
     pub(crate) last: u64,
     pub(crate) slots: Vec<Option<Connection>>,
     /// How many clients are connected.
-    pub(crate) clients: usize,
+    clients: usize,
     /// How often memory was wanting for a connection.
-    pub(crate) refusals: u64,
+    refusals: u64,
     /// Connections that have a whole message, each in its turn.
     pub(crate) queue: VecDeque<u64>,
     /// Connections that are to be written at the end of the turn.
     pub(crate) touched: Vec<u64>,
-    pub(crate) routes: Vec<Route>,
+    routes: Vec<Route>,
     /// No connection has to be closed before this moment, in milliseconds.
-    pub(crate) due: u64,
+    due: u64,
     /// The version of the roster that the servers' connections were held against.
-    pub(crate) version: Option<u64>,
+    version: Option<u64>,
     ghost wide: { vec_len slots ≡ 4096 },
     ghost counted: { clients ≡ clients_in slots.items },
     ghost given: { All (IsGiven last) slots.items },
@@ -53,7 +54,7 @@ pub(crate) struct Connections {
 
 impl Model for Connections {
     ghost use Rattle.std.specs.Prelude.{◌+◌};
-    ghost use Rattle.lb_streams.specs.Table.{Table};
+    ghost use Rattle.lb_connections.specs.Table.{Table};
 
     ghost Value = { Table };
 
@@ -91,7 +92,7 @@ fn clients_of(connection: &Connection) -> usize
 impl Connections {
     /// No connection, and places for 4,096. The one error is want of memory.
     #[tactic(auto, using(crate::proofs::AtPlaces::new_is))]
-    pub(crate) fn made(alloc: Global) -> Result<Connections, AllocError>
+    pub fn made(alloc: Global) -> Result<Connections, AllocError>
         ensures { IfOk result IsNew }
     {
         let mut slots = Vec::with_capacity(alloc, PLACES)?;
@@ -113,7 +114,7 @@ impl Connections {
 
     /// Takes out the connection with this number.
     #[tactic(auto, using(crate::proofs::AtPlaces::taken_others, crate::proofs::AtPlaces::taken_is, crate::proofs::AtPlaces::counted_out, crate::proofs::AtPlaces::given_out))]
-    pub(crate) fn take(&mut self, number: u64) -> Option<Connection>
+    pub fn take(&mut self, number: u64) -> Option<Connection>
         ensures here { at number self.old ≡ result }
         ensures number { IfSome result (λ x. (x.number ≡ number) × (number < self.new.next)) }
         ensures gone { at number self.new ≡ None }
@@ -139,7 +140,7 @@ impl Connections {
 
     /// Puts back a connection that was taken out.
     #[tactic(auto, using(crate::proofs::AtPlaces::put_others, crate::proofs::AtPlaces::put_here, crate::proofs::AtPlaces::counted_in, crate::proofs::AtPlaces::given_in))]
-    pub(crate) fn put(&mut self, connection: Connection)
+    pub fn put(&mut self, connection: Connection)
         requires vacant { vacant connection.number self.old ≡ true }
         requires below { connection.number < self.old.next }
         ensures here { at connection.number self.new ≡ Some connection }
@@ -154,7 +155,7 @@ impl Connections {
 
     /// Finds a number that no connection had, and passes over those whose place is taken.
     #[tactic(auto, using(crate::proofs::AtPlaces::narrows_none, crate::proofs::AtPlaces::passed_over))]
-    pub(crate) fn candidate(&mut self) -> Option<u64>
+    pub fn candidate(&mut self) -> Option<u64>
         ensures found { IfSome result (λ n. (n ≡ self.new.next) × (n < 2 ^ 64) × (vacant n self.new ≡ true)) }
         ensures none { IfNone result ((self.old.next + 4096 ≤ self.new.next) ⊎ (2 ^ 64 ≤ self.new.next)) }
         ensures narrows { Narrows self.old self.new }
@@ -173,7 +174,7 @@ impl Connections {
 
     /// Adds a connection with the next number.
     #[tactic(auto, using(crate::proofs::AtPlaces::added_others, crate::proofs::AtPlaces::added_here, crate::proofs::AtPlaces::counted_in, crate::proofs::AtPlaces::given_later))]
-    pub(crate) fn add(&mut self, connection: Connection)
+    pub fn add(&mut self, connection: Connection)
         requires number { connection.number ≡ self.old.next }
         requires vacant { vacant connection.number self.old ≡ true }
         requires below { connection.number < 2 ^ 64 }
@@ -190,7 +191,7 @@ impl Connections {
     }
 
     /// Counts a want of memory for a connection, of which the refusal is in hand.
-    pub(crate) fn lacks(&mut self, _refused: AllocError)
+    pub fn lacks(&mut self, _refused: AllocError)
         ensures refusals { Rose self.old.refusals self.new.refusals × (self.old.refusals ≤ self.new.refusals) }
         ensures same { self.new ≡ record self.old { refusals = self.new.refusals } }
     {
@@ -198,7 +199,7 @@ impl Connections {
     }
 
     /// Who is at the other end of a connection.
-    pub(crate) fn peer_of(&self, number: u64) -> Option<Peer>
+    pub fn peer_of(&self, number: u64) -> Option<Peer>
         ensures { result ≡ option_map (λ (x : Connection). x.peer) (at number self.now) }
     {
         if number > self.last {
@@ -211,7 +212,7 @@ impl Connections {
     }
 
     /// The connection that was last begun to a server at this end, by one of its upstream sockets, where it is open.
-    pub(crate) fn route(&self, server: ServerId, lane: u8, end: Endpoint) -> Option<u64>
+    pub fn route(&self, server: ServerId, lane: u8, end: Endpoint) -> Option<u64>
         ensures { IfSome result (λ n. IsTo n server lane end self.now) }
     {
         let route = self
@@ -225,7 +226,7 @@ impl Connections {
     }
 
     /// Notes a connection to a server, in place of an earlier one. The one error is want of memory.
-    pub(crate) fn note(&mut self, route: Route) -> Result<(), AllocError>
+    pub fn note(&mut self, route: Route) -> Result<(), AllocError>
         ensures same { self.new ≡ self.old }
     {
         self.routes.retain(|other| other.server.0 != route.server.0 || other.lane != route.lane);
@@ -234,7 +235,7 @@ impl Connections {
     }
 
     /// Whether as many clients are connected as may be.
-    pub(crate) fn is_full(&self) -> bool
+    pub fn is_full(&self) -> bool
         ensures full { IsTrue result → 1024 ≤ clients self.now }
         ensures room { result ≡ false → clients self.now < 1024 }
     {
@@ -242,7 +243,7 @@ impl Connections {
     }
 
     /// Whether with this message more octets would wait to be written to a connection than may.
-    pub(crate) fn is_over(&self, number: u64, message: &Octets) -> bool {
+    pub fn is_over(&self, number: u64, message: &Octets) -> bool {
         match &self.slots[place_of(number)] {
             Some(connection) => connection.number == number && connection.is_over(message),
             None => false,
@@ -251,7 +252,7 @@ impl Connections {
 
     /// Whether a connection is written before the turn ends: much waits to be written to it, or there was no memory to note that it is to be
     /// written.
-    pub(crate) fn is_urgent(&self, number: u64) -> bool {
+    pub fn is_urgent(&self, number: u64) -> bool {
         match &self.slots[place_of(number)] {
             Some(connection) => {
                 connection.number == number && (connection.is_heavy() || !connection.is_touched)
@@ -261,7 +262,7 @@ impl Connections {
     }
 
     /// Whether nothing is to be done for a connection but to wait: it is not at its end, and was not passed over.
-    pub(crate) fn is_settled(&self, number: u64) -> bool {
+    pub fn is_settled(&self, number: u64) -> bool {
         match &self.slots[place_of(number)] {
             Some(connection) if connection.number == number => {
                 !connection.is_passed_over && !connection.is_finished()
@@ -271,38 +272,57 @@ impl Connections {
     }
 
     /// The connection whose turn it is.
-    pub(crate) fn first_queued(&self) -> Option<u64> {
+    pub fn first_queued(&self) -> Option<u64> {
         self.queue.front().copied()
     }
 
     /// The connection whose turn it is has had it.
-    pub(crate) fn drop_queued(&mut self)
+    pub fn drop_queued(&mut self)
         ensures same { self.new ≡ self.old }
     {
         let _ = self.queue.pop_front();
     }
 
     /// A connection that is to be written at the end of the turn.
-    pub(crate) fn next_touched(&mut self) -> Option<u64>
+    pub fn next_touched(&mut self) -> Option<u64>
         ensures same { self.new ≡ self.old }
     {
         self.touched.pop()
     }
 
     /// Connections are looked through at this moment, or before.
-    pub(crate) fn look_by(&mut self, moment: u64)
+    pub fn look_by(&mut self, moment: u64)
         ensures same { self.new ≡ self.old }
     {
         self.due = self.due.min(moment);
     }
 
+    /// Whether the time of a connection may be over at this moment; where it may, none is known of any more.
+    pub fn is_due(&mut self, now: u64) -> bool
+        ensures same { self.new ≡ self.old }
+    {
+        if now < self.due {
+            return false;
+        }
+        self.due = u64::MAX;
+        true
+    }
+
+    /// Whether the servers' connections were held against another version of the roster than this one, against which they are held now.
+    pub fn is_behind(&mut self, version: u64) -> bool
+        ensures same { self.new ≡ self.old }
+    {
+        let version = Some(version);
+        mem::replace(&mut self.version, version) != version
+    }
+
     /// How many connections are to be written at the end of the turn.
-    pub(crate) fn touched(&self) -> usize {
+    pub fn touched(&self) -> usize {
         self.touched.len()
     }
 
     /// The number of the connection at a place.
-    pub(crate) fn number_at(&self, place: usize) -> Option<u64>
+    pub fn number_at(&self, place: usize) -> Option<u64>
         requires { place < 4096 }
     {
         match &self.slots[place] {

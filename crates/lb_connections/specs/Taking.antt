@@ -1,8 +1,8 @@
 -- What is taken of what came.
 use Rattle.std.specs.Prelude.{◌≡◌, ◌<◌, ◌^◌, ℕ, List, ◌++◌, length}
+use Rattle.lb_connections.specs.Table.{Swaps, Table}
+use Rattle.lb_connections.specs.declared.connection.Connection.{Connection}
 use Rattle.lb_frames.specs.Frames.{framed}
-use Rattle.lb_streams.specs.Table.{Swaps, Table}
-use Rattle.lb_streams.specs.declared.connection.Connection.{Connection}
 
 -- the message that stands first in what came of the connection of a number was taken off
 pub record Takes (n : ℕ) (message : List ℕ) (a b : Table) : Type 0 where

@@ -1,6 +1,6 @@
 use Rattle.std.proofs.Common.{◌≡◌, ◌+◌}
-use Rattle.lb_streams.specs.Table.{Narrows}
-use Rattle.lb_streams.proofs.table.Connections.candidate.Given as goal
+use Rattle.lb_connections.proofs.table.Connections.candidate.Given as goal
+use Rattle.lb_connections.specs.Table.{Narrows}
 
 abbrev pub invariant-loop : goal.invariant-loop
 invariant-loop l =

@@ -7,13 +7,13 @@ use Rattle.std.specs.Prelude.{IfSome, nat_lt}
 use Rattle.std.specs.List.{All}
 use Rattle.std.proofs.lemmas.Bool.Decides.{nat_tests}
 use Rattle.std.proofs.lemmas.Bool.{cases_eq}
+use Rattle.lb_connections.specs.Table.{IsFirst, IsGiven, IsNew, Narrows, Swaps, Table, at, at_place, client_count, clients_in, holds_client, if_number, is_client, is_none}
+use Rattle.lb_connections.specs.Taking.{Takes}
+use Rattle.lb_connections.specs.Writing.{max_waiting}
+use Rattle.lb_connections.specs.Writing.{Puts}
+use Rattle.lb_connections.specs.declared.connection.Connection.{Connection}
 use Rattle.lb_frames.specs.Frames.{framed}
 use Rattle.lb_lines.specs.declared.traffic.Peer.{Peer}
-use Rattle.lb_streams.specs.Connection.{max_waiting}
-use Rattle.lb_streams.specs.declared.connection.Connection.{Connection}
-use Rattle.lb_streams.specs.Table.{IsFirst, IsGiven, IsNew, Narrows, Swaps, Table, at, at_place, client_count, clients_in, holds_client, if_number, is_client, is_none}
-use Rattle.lb_streams.specs.Taking.{Takes}
-use Rattle.lb_streams.specs.Writing.{Puts}
 
 pub is_same : (c : ℕ) → (c == c) ≡ true
 is_same c = search rules

@@ -1,6 +1,9 @@
 -- One connection: what it gave and took, what is held of it, and how it fares.
 use Rattle.std.specs.Prelude.{◌≡◌, ℕ, ◌+◌, ◌<◌, ◌≤◌, ◌⊎◌, Bool, true, false, List, [], ◌∷◌, ◌++◌, length, flat_map, if◌then◌else◌, ◌==◌, ◌&&◌, nat_lt, Option, Some, None}
 use Rattle.std.specs.List.{Contains, count_by}
+use Rattle.lb_connections.specs.Table.{Table, at, is_client, is_none}
+use Rattle.lb_connections.specs.Writing.{max_waiting}
+use Rattle.lb_connections.specs.declared.connection.Connection.{Connection}
 use Rattle.lb_frames.specs.Frames.{AreMessages, NoneWhole, framed, frames}
 use Rattle.lb_lines.specs.Counts.{Rose}
 use Rattle.lb_lines.specs.Moves.{Client, Traffic, octets_of}
@@ -8,12 +11,6 @@ use Rattle.lb_lines.specs.declared.endpoint.Endpoint.{Endpoint}
 use Rattle.lb_lines.specs.declared.report.DeviceFault.{DeviceFault}
 use Rattle.lb_lines.specs.declared.traffic.Peer.{Peer}
 use Rattle.lb_lines.specs.declared.traffic.Peer.TheVariants as peers
-use Rattle.lb_streams.specs.Table.{Table, at, is_client, is_none}
-use Rattle.lb_streams.specs.declared.connection.Connection.{Connection}
-
--- the most octets that may wait to be written to a connection, 1,024 KiB
-abbrev pub max_waiting : ℕ
-max_waiting = 1048576
 
 -- what is held of a connection
 abbrev pub held : Option Connection → List ℕ

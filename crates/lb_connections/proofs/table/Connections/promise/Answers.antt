@@ -1,9 +1,9 @@
 use Rattle.std.proofs.Common.{rules, ◌≡◌, ◌+◌, ◌<◌, get_or, length, set, None, Some, refl, sym, subst, ◌∙◌}
 use Rattle.std.proofs.lemmas.List.{get_or_read_under}
-use Rattle.lb_streams.proofs.AtPlaces.{puts_at}
-use Rattle.lb_streams.specs.Table.{Table}
-use Rattle.lb_streams.specs.Writing.{Puts}
-use Rattle.lb_streams.proofs.table.Connections.promise.Goals as goal
+use Rattle.lb_connections.proofs.AtPlaces.{puts_at}
+use Rattle.lb_connections.proofs.table.Connections.promise.Goals as goal
+use Rattle.lb_connections.specs.Table.{Table}
+use Rattle.lb_connections.specs.Writing.{Puts}
 
 pub returns-in-Ok-clause-put : goal.returns-in-Ok-clause-put
 returns-in-Ok-clause-put c =

@@ -1,8 +1,8 @@
 //! One connection.
 
 ghost use Rattle.std.specs.Prelude.{[], IfSome, IsTrue, List, None, OnErr, OnOk, Some, drop, false, length, true, ℕ, ◌++◌, ◌+◌, ◌<◌, ◌^◌, ◌≡◌, ◌≤◌};
+ghost use Rattle.lb_connections.specs.Table.{IsOverdue};
 ghost use Rattle.lb_frames.specs.Frames.{NoneWhole, framed};
-ghost use Rattle.lb_streams.specs.Table.{IsOverdue};
 ghost use Rattle.lb_wire.specs.Octets.{max_message};
 
 use lb_frames::{Incoming, Outgoing};
@@ -30,28 +30,28 @@ const READ_ON: u64 = 60_000;
 
 /// One connection: what came and was not taken yet, and what is to be written.
 #[derive(Drop)]
-pub(crate) struct Connection {
-    pub(crate) number: u64,
-    pub(crate) peer: Peer,
-    pub(crate) incoming: Incoming,
-    pub(crate) outgoing: Outgoing,
+pub struct Connection {
+    pub number: u64,
+    pub peer: Peer,
+    pub incoming: Incoming,
+    pub outgoing: Outgoing,
     /// How many of its queries were sent on and are not answered.
-    pub(crate) owed: u64,
+    pub owed: u64,
     /// Whether its peer has closed its side.
-    pub(crate) is_ended: bool,
+    pub is_ended: bool,
     /// The moment at which it is closed at the latest, in milliseconds.
-    pub(crate) until: Option<u64>,
+    pub until: Option<u64>,
     /// Whether it stands in the queue of those that have a whole message.
-    pub(crate) is_queued: bool,
+    pub is_queued: bool,
     /// Whether it is to be written at the end of the turn.
-    pub(crate) is_touched: bool,
+    pub is_touched: bool,
     /// Whether it was told that it may be read, and was not read.
-    pub(crate) is_passed_over: bool,
+    pub is_passed_over: bool,
 }
 
 impl Connection {
     /// A new one. It takes no memory.
-    pub(crate) fn new(alloc: Global, number: u64, peer: Peer) -> Connection
+    pub fn new(alloc: Global, number: u64, peer: Peer) -> Connection
         ensures who { (result.number ≡ number) × (result.peer ≡ peer) }
         ensures empty { (result.incoming ≡ []) × (result.outgoing ≡ []) }
         ensures asks { (result.is_ended ≡ false) × (result.until ≡ None) }
@@ -79,7 +79,7 @@ impl Connection {
     }
 
     /// Whether it may be read: no whole message of it waits, and not too much is to be written to it.
-    pub(crate) fn may_be_read(&self) -> bool {
+    pub fn may_be_read(&self) -> bool {
         !self.incoming.has_message() && self.outgoing.len() <= MANY_WAITING
     }
 
@@ -97,7 +97,7 @@ impl Connection {
     }
 
     /// Whether its peer has closed its side, nothing is left to be answered, and all was written.
-    pub(crate) fn is_finished(&self) -> bool
+    pub fn is_finished(&self) -> bool
         ensures ended { IsTrue result → self.now.is_ended ≡ true }
         ensures written { IsTrue result → self.now.outgoing ≡ [] }
         ensures none { IsTrue result → NoneWhole self.now.incoming }
@@ -147,7 +147,7 @@ impl Connection {
     }
 
     /// Its peer has closed its side, at this moment. Tells the moment at which it is closed at the latest.
-    pub(crate) fn end(&mut self, now: u64) -> u64
+    pub fn end(&mut self, now: u64) -> u64
         ensures ended { self.new.is_ended ≡ true }
         ensures until { (self.new.until ≡ Some result) × (now ≤ result) }
         ensures rest { (self.new.number ≡ self.old.number) × (self.new.peer ≡ self.old.peer) × (self.new.incoming ≡ self.old.incoming) × (self.new.outgoing ≡ self.old.outgoing) }
@@ -160,7 +160,7 @@ impl Connection {
 
     /// A server's connection that is not at the roster's end of the server is read on from this moment for a while, and then closed; one
     /// that is there is kept. Tells the moment at which it is closed; 2^64-1 where none is set now.
-    pub(crate) fn follow(&mut self, roster: &Roster, now: u64) -> u64
+    pub fn follow(&mut self, roster: &Roster, now: u64) -> u64
         ensures rest { (self.new.number ≡ self.old.number) × (self.new.peer ≡ self.old.peer) × (self.new.incoming ≡ self.old.incoming) × (self.new.outgoing ≡ self.old.outgoing) × (self.new.is_ended ≡ self.old.is_ended) }
     {
         let Peer::Server(server, _, end) = self.peer else {
@@ -180,7 +180,7 @@ impl Connection {
     }
 
     /// Whether its time is over at this moment.
-    pub(crate) fn is_overdue(&self, now: u64) -> bool
+    pub fn is_overdue(&self, now: u64) -> bool
         ensures over { IsTrue result → IsOverdue now self.now }
         ensures kept { result ≡ false → IfSome self.now.until (λ until. now < until) }
     {

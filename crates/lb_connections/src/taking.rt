@@ -1,0 +1,79 @@
+//! Messages that are taken of what came.
+
+ghost use Rattle.std.specs.Prelude.{IfOk, IfSome, List, OnOk, ℕ, ◌++◌, ◌≡◌};
+ghost use Rattle.lb_connections.specs.Table.{IsFirst};
+ghost use Rattle.lb_connections.specs.Taking.{Takes};
+
+use crate::connection::Connection;
+use crate::table::{Connections, place_of};
+use lb_frames::Message;
+use lb_lines::Peer;
+use lb_wire::Octets;
+use std::alloc::{AllocError, Global};
+
+/// The first message of a connection, twice, and who is at its other end.
+#[derive(Drop)]
+pub struct First {
+    pub peer: Peer,
+    pub message: Message,
+    pub copy: Message,
+}
+
+impl Connections {
+    /// The first whole message of a connection. The one error is want of memory.
+    pub fn first_of(&self, alloc: Global, number: u64) -> Result<Option<First>, AllocError>
+        ensures { IfOk result (λ found. IfSome found (λ first. IsFirst number first.peer first.message self.now × (first.copy ≡ first.message))) }
+    {
+        if number > self.last {
+            return Ok(None);
+        }
+        let Some(connection) = &self.slots[place_of(number)] else {
+            return Ok(None);
+        };
+        if connection.number != number {
+            return Ok(None);
+        }
+        let Some(message) = connection.incoming.first(alloc)? else {
+            return Ok(None);
+        };
+        let copy = message.copy(alloc)?;
+        Ok(Some(First {
+            peer: connection.peer,
+            message,
+            copy,
+        }))
+    }
+
+    /// Takes the first message of a connection, which stands first in the queue, off what came of it, where it stands. With a further one
+    /// it waits for its turn again. The one error is want of memory for that; the message is taken all the same.
+    pub fn drop_first(&mut self, number: u64) -> Result<(), AllocError>
+        ensures { (peer : Peer) (message : List ℕ) → IsFirst number peer message self.old → Takes number message self.old self.new }
+    {
+        if number > self.last {
+            return Ok(());
+        }
+        let Some(connection) = &mut self.slots[place_of(number)] else {
+            return Ok(());
+        };
+        if connection.number != number {
+            return Ok(());
+        }
+        if !connection.has_message() {
+            return Ok(());
+        }
+        connection.drop_first();
+        let _ = self.queue.pop_front();
+        connection.enqueue(&mut self.queue)
+    }
+
+    /// Puts what came behind what is held of a connection that was taken out, which then waits for its turn where it has a whole message.
+    /// The one error is want of memory.
+    pub fn hear(&mut self, connection: &mut Connection, octets: &Octets) -> Result<(), AllocError>
+        ensures heard { OnOk result (connection.new.incoming ≡ connection.old.incoming ++ octets.now) }
+        ensures rest { (connection.new.number ≡ connection.old.number) × (connection.new.peer ≡ connection.old.peer) × (connection.new.outgoing ≡ connection.old.outgoing) × (connection.new.is_ended ≡ connection.old.is_ended) }
+        ensures same { self.new ≡ self.old }
+    {
+        connection.incoming.push(octets.as_slice())?;
+        connection.enqueue(&mut self.queue)
+    }
+}

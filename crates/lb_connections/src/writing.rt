@@ -1,0 +1,38 @@
+//! What is put behind what connections are to write.
+
+ghost use Rattle.std.specs.Prelude.{IfErr, OnErr, OnOk, ◌≡◌};
+ghost use Rattle.lb_connections.specs.Writing.{MayNotPut, Puts};
+
+use crate::table::{Connections, place_of};
+use lb_lines::Why;
+use lb_wire::Octets;
+
+impl Connections {
+    /// Puts a message behind what a connection is to write, where it stands, and notes that this is to be written. Where it is not put,
+    /// nothing has changed.
+    pub fn promise(&mut self, number: u64, message: &Octets) -> Result<(), Why>
+        ensures put { OnOk result (Puts number message.now self.old self.new) }
+        ensures same { OnErr result (self.new ≡ self.old) }
+        ensures why { IfErr result (λ why. MayNotPut number message.now self.old why) }
+    {
+        if number > self.last {
+            return Err(Why::Gone);
+        }
+        let Some(connection) = &mut self.slots[place_of(number)] else {
+            return Err(Why::Gone);
+        };
+        if connection.number != number {
+            return Err(Why::Gone);
+        }
+        if connection.is_over(message) {
+            return Err(Why::Limit);
+        }
+        match connection.promise(message) {
+            Ok(()) => {
+                connection.touch(&mut self.touched);
+                Ok(())
+            }
+            Err(refused) => Err(Why::from(refused)),
+        }
+    }
+}
