@@ -5,7 +5,6 @@ use Rattle.std.proofs.lemmas.Grind.{flat_map-append}
 use Rattle.std.proofs.lemmas.List.{append-nil, length-append}
 use Rattle.lb_clock.specs.Acts.{Act, AllProbes, Setting, Stops, StopsAt, any_blind, any_failed, blind_in, device_in, end_by, failed_in, first_device, line_in, lines_in, or_device, read_in, stamp_in}
 use Rattle.lb_clock.specs.Lines.{AreLines, datagram_in, datagrams}
-use Rattle.lb_clock.specs.Probes.{Probed}
 use Rattle.lb_clock.specs.Turn.{FailsBy, Turns}
 use Rattle.lb_clock.specs.World.{World}
 use Rattle.lb_clock.specs.declared.turn.End.{End}
@@ -17,6 +16,7 @@ use Rattle.lb_lines.specs.declared.report.Line.{Line}
 use Rattle.lb_lines.specs.declared.traffic.Front.{Front}
 use Rattle.lb_outbox.specs.Outbox.{Sending}
 use Rattle.lb_outbox.specs.declared.job.Job.{Job}
+use Rattle.lb_probes.specs.Probes.{Probed}
 
 -- Counts and lists that grow.
 

@@ -5,13 +5,10 @@ use Rattle.std.proofs.lemmas.Grind.{flat_map-append}
 use Rattle.std.proofs.lemmas.List.{append-nil, length-append}
 use Rattle.lb_clock.specs.Acts.{Act, Asked, Begun, Blinded, Ended, Followed, Heard, Held, HeldBack, Passed, Probes, Setting, Stops, Ticked, Unread, blind_in, device_in, failed_in, line_in, lines_in, or_device, read_in, reads_in, setting, stamp_in}
 use Rattle.lb_clock.specs.Lines.{Comes, ProbeComes, is_done, probe_to, probes_in}
-use Rattle.lb_clock.specs.Probes.{Answers, Each, Follows, IsAsked, IsDue, IsOver, IsTimely, Probed, Unheard, begun, ended, place_of}
 use Rattle.lb_clock.specs.Turn.{FailsBy, Goes, Rests, Steps, Tells, Turned, Turns, held_by}
 use Rattle.lb_clock.specs.World.{World}
 use Rattle.lb_clock.specs.declared.turn.End.{End}
 use Rattle.lb_clock.specs.declared.turn.End.TheVariants as ends
-use Rattle.lb_clock.specs.declared.watched.Waits.{Waits}
-use Rattle.lb_clock.specs.declared.watched.Watched.{Watched}
 use Rattle.lb_clock.proofs.Acting.{device_on, stops_on, turns_none, turns_on}
 use Rattle.lb_core.specs.declared.event.Event.{Event}
 use Rattle.lb_core.specs.declared.event.Event.TheVariants.{HealthResult, Tick}
@@ -33,6 +30,9 @@ use Rattle.lb_lines.specs.declared.roster.Listed.{Listed}
 use Rattle.lb_lines.specs.declared.roster.Place.{Place}
 use Rattle.lb_lines.specs.declared.traffic.Datagram.{Datagram}
 use Rattle.lb_outbox.specs.declared.job.Job.{Job}
+use Rattle.lb_probes.specs.Probes.{Answers, Each, Follows, IsAsked, IsDue, IsOver, IsTimely, Probed, Unheard, begun, ended, place_of}
+use Rattle.lb_probes.specs.declared.watched.Waits.{Waits}
+use Rattle.lb_probes.specs.declared.watched.Watched.{Watched}
 
 or_false : (b : Bool) → (b || false) ≡ b
 or_false true = refl

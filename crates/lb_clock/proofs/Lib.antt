@@ -1,6 +1,5 @@
 mod Acting
 mod Counting
-mod Freshening
 mod Going
 mod Places
 mod Probing

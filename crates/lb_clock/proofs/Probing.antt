@@ -3,10 +3,11 @@ use Rattle.std.proofs.Common.{◌≡◌, ℕ, zero, suc, ◌+◌, ◌<◌, ◌�
 use Rattle.std.specs.Prelude.{◌||◌, slice_get}
 use Rattle.std.specs.List.{list_any}
 use Rattle.std.proofs.lemmas.List.{length-set}
-use Rattle.lb_clock.specs.Probes.{BeginsAt, Each, EndsAt, First, Here, IsAsked, IsQuietFor, IsTimely, Others, ProbesAt, later, second}
-use Rattle.lb_clock.specs.declared.watched.Waits.{Waits}
-use Rattle.lb_clock.specs.declared.watched.Watched.{Watched}
+use Rattle.lb_clock.specs.Turn.{BeginsAt, EndsAt, Others, ProbesAt}
 use Rattle.lb_lines.specs.declared.roster.Listed.{Listed}
+use Rattle.lb_probes.specs.Probes.{Each, First, Here, IsAsked, IsTimely, later, second}
+use Rattle.lb_probes.specs.declared.watched.Waits.{Waits}
+use Rattle.lb_probes.specs.declared.watched.Watched.{Watched}
 
 get_set_other : (p : List Watched) (i j : ℕ) (w : Watched) → (j ≡ i → ⊥) → slice_get (set p i w) j ≡ slice_get p j
 get_set_other [] i j w apart = refl
@@ -75,7 +76,7 @@ passes_at roster now i p n m asked = (others_none p i, omega arith, omega arith,
 
 -- The servers one after the other.
 
-pub step_or : (i j : ℕ) → i < j + 1 → (i < j) ⊎ (i ≡ j)
+step_or : (i j : ℕ) → i < j + 1 → (i < j) ⊎ (i ≡ j)
 step_or i zero lt = inr (omega arith)
 step_or zero (suc j) lt = inl (omega arith)
 step_or (suc i) (suc j) lt = again (step_or i j (omega arith)) where
@@ -103,17 +104,8 @@ within (x ∷ xs) zero w at = omega arith
 within (x ∷ xs) (suc i) w at = let lt = within xs i w at in omega arith
 
 -- all of them
-pub first_all : (P : Watched → Type 0) (n : ℕ) (p : List Watched) → length p ≤ n → First P n p → Each P p
+first_all : (P : Watched → Type 0) (n : ℕ) (p : List Watched) → length p ≤ n → First P n p → Each P p
 first_all P n p le first i w at = first i w (let lt = within p i w at in omega arith) at
-
--- what is quiet for longer is quiet for less
-quiet_less : (roster : List Listed) (now a b : ℕ) → b ≤ a → (w : Watched) → IsQuietFor roster now a w → IsQuietFor roster now b w
-quiet_less roster now a b le w quiet moment from before = quiet moment from (omega arith)
-
--- the first servers and the one behind them are quiet for no longer than both
-pub quiet_on : (roster : List Listed) (now a b least i : ℕ) (p : List Watched) → least ≤ a → least ≤ b → First (IsQuietFor roster now a) i p → Here (IsQuietFor roster now b) i p → First (IsQuietFor roster now least) (i + 1) p
-quiet_on roster now a b least i p of_a of_b first here =
-    first_on (IsQuietFor roster now least) i p p (λ j w lt at. quiet_less roster now a least of_a w (first j w lt at)) (others_none p i) (λ w at. quiet_less roster now b least of_b w (here w at))
 
 -- the probes that are over end
 pub ends_first : (now i : ℕ) (p q : List Watched) (n m : ℕ) → (64 ≤ n) ⊎ First (IsTimely now) i p → EndsAt now i p q n m → (64 ≤ m) ⊎ First (IsTimely now) (i + 1) q

@@ -1,9 +1,6 @@
 -- What a turn of the clock does, act by act.
 use Rattle.std.specs.Prelude.{◌≡◌, ℕ, Bool, true, false, List, [], ◌∷◌, Option, Some, None, flat_map, if◌then◌else◌, slice_get, ◌||◌}
 use Rattle.lb_clock.specs.Lines.{is_done}
-use Rattle.lb_clock.specs.Probes.{Answers, Follows, IsDue, IsOver, Probed, Unheard, begun, ended, place_of}
-use Rattle.lb_clock.specs.declared.watched.Waits.{Waits}
-use Rattle.lb_clock.specs.declared.watched.Watched.{Watched}
 use Rattle.lb_clock.specs.declared.turn.End.{End}
 use Rattle.lb_clock.specs.declared.turn.End.TheVariants as ends
 use Rattle.lb_clock.specs.declared.turn.Step.{Step}
@@ -21,6 +18,9 @@ use Rattle.lb_lines.specs.declared.report.Sending.{Sending}
 use Rattle.lb_lines.specs.declared.report.Source.TheVariants as sources
 use Rattle.lb_lines.specs.declared.roster.Place.{Place}
 use Rattle.lb_lines.specs.declared.traffic.Datagram.{Datagram}
+use Rattle.lb_probes.specs.Probes.{Answers, Follows, IsDue, IsOver, Probed, Unheard, begun, ended, place_of}
+use Rattle.lb_probes.specs.declared.watched.Waits.{Waits}
+use Rattle.lb_probes.specs.declared.watched.Watched.{Watched}
 
 -- What is done at one moment, which is the act's own:
 --   Asked          nothing but to ask for it: the moment at which the turn begins

@@ -2,6 +2,5 @@
 pub mod Acts
 pub mod Lines
 pub mod News
-pub mod Probes
 pub mod Turn
 pub mod World

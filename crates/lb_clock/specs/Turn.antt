@@ -1,8 +1,7 @@
 -- What a turn of the clock does.
-use Rattle.std.specs.Prelude.{◌≡◌, ◌⊎◌, ◌+◌, ◌≤◌, ℕ, Bool, true, false, List, [], ◌∷◌, ◌++◌, Option, Some, None, length}
+use Rattle.std.specs.Prelude.{◌≡◌, ◌⊎◌, ◌+◌, ◌≤◌, ℕ, Bool, true, false, List, [], ◌∷◌, ◌++◌, Option, Some, None, length, slice_get}
 use Rattle.lb_clock.specs.Acts.{Act, AllProbes, Asked, Blinded, Followed, Setting, Stops, any_blind, any_failed, first_device, lines_in, or_device, reads_in, setting, stamps_in}
 use Rattle.lb_clock.specs.Lines.{AreLines, Comes, datagrams, is_quiet, probes_in}
-use Rattle.lb_clock.specs.Probes.{Each, IsAsked, IsTimely}
 use Rattle.lb_clock.specs.World.{World}
 use Rattle.lb_clock.specs.declared.turn.End.{End}
 use Rattle.lb_clock.specs.declared.turn.End.TheVariants as ends
@@ -20,6 +19,8 @@ use Rattle.lb_lines.specs.declared.report.Outcome.{Outcome}
 use Rattle.lb_lines.specs.declared.report.Sending.{Sending}
 use Rattle.lb_lines.specs.declared.report.Source.TheVariants as sources
 use Rattle.lb_lines.specs.declared.roster.Listed.{Listed}
+use Rattle.lb_probes.specs.Probes.{Each, Here, IsAsked, IsTimely, later, second}
+use Rattle.lb_probes.specs.declared.watched.Watched.{Watched}
 
 -- a count of failures: one more or several where something failed, and the same else
 abbrev pub FailsBy : Bool → ℕ → ℕ → Type 0
@@ -76,6 +77,24 @@ held_by _ = false
 -- how a turn begins: with a moment, at which the servers that are probed become those of the roster, or there is none to be had
 abbrev pub Begins : ℕ → List Act → Type 0
 Begins start acts = (acts ≡ Blinded ∷ []) ⊎ ((word : ℕ) × (more : List Act) × (acts ≡ Asked (start, word) ∷ Followed ∷ more))
+
+-- the others stay, and as many
+abbrev pub Others : ℕ → List Watched → List Watched → Type 0
+Others i p q = (length q ≡ length p) × ((j : ℕ) → (j ≡ i → ⊥) → slice_get q j ≡ slice_get p j)
+
+-- how the server at a place goes on where its probe ends if it is over, unless as many events were told as may be: their number before and after
+abbrev pub EndsAt : ℕ → ℕ → List Watched → List Watched → ℕ → ℕ → Type 0
+EndsAt now i p q before after =
+    Others i p q × (before ≤ after) × ((64 ≤ after) ⊎ Here (IsTimely now) i q) × ((w : Watched) → slice_get p i ≡ Some w → (x : Watched) × (slice_get q i ≡ Some x) × (x.next ≡ w.next))
+
+-- the server at a place is sent a probe: its next one is due a second later
+abbrev pub BeginsAt : ℕ → ℕ → List Watched → List Watched → Type 0
+BeginsAt now i p q = Others i p q × ((w : Watched) × (slice_get q i ≡ Some w) × (w.next ≡ later now second))
+
+-- the same where it is sent one if that is due, unless as many were sent as may be, and one that could not be sent ends, unless as many events were told as may be
+abbrev pub ProbesAt : List Listed → ℕ → ℕ → List Watched → List Watched → ℕ → ℕ → ℕ → ℕ → Type 0
+ProbesAt roster now i p q before after sent more =
+    Others i p q × (before ≤ after) × (sent ≤ more) × ((64 ≤ after) ⊎ (Here (IsTimely now) i p → Here (IsTimely now) i q)) × ((64 ≤ more) ⊎ Here (IsAsked roster now) i q)
 
 -- Steps that are a whole turn. It ends before it rests only where the gate held an event, and where there was no moment to be had; at rest,
 -- unless as many events or probes were told as may be, no probe is over and none is due at the moment at which it began.

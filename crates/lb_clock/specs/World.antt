@@ -1,13 +1,13 @@
 -- What the loop of the clock holds.
 use Rattle.std.specs.Prelude.{ℕ, Bool, List, map}
 use Rattle.std.specs.List.{range_with_len}
-use Rattle.lb_clock.specs.Probes.{Probed}
 use Rattle.lb_core.specs.declared.answer.Answer.{Answer}
 use Rattle.lb_core.specs.declared.event.Event.{Event}
 use Rattle.lb_lines.specs.Stamps.{Stamp}
 use Rattle.lb_lines.specs.declared.traffic.Datagram.{Datagram}
 use Rattle.lb_lines.specs.declared.traffic.Front.{Front}
 use Rattle.lb_outbox.specs.Outbox.{Sending}
+use Rattle.lb_probes.specs.Probes.{Probed}
 use Rattle.lb_wire.specs.declared.addr.Origin.{Origin}
 
 -- what its parts tell: the servers that are probed; the datagrams that its sockets gave and took, at which places they listen, and how

@@ -1,12 +1,12 @@
 //! What the loop of the clock holds.
 
 ghost use Rattle.std.specs.Prelude.{[], IfNone, IfOk, IfSome, None, length, vec_len, ◌++◌, ◌∷◌, ◌≡◌, ◌≤◌};
-ghost use Rattle.lb_clock.specs.Probes.{Each, IsQuietFor};
 ghost use Rattle.lb_clock.specs.World.{listened};
+ghost use Rattle.lb_probes.specs.Probes.{Each, IsQuietFor};
 
-use crate::probes::Probes;
 use lb_lines::{Datagrams, Front, Line, Outside, Posts, Roster, Taker, WaitFailed};
 use lb_outbox::Sender;
+use lb_probes::Probes;
 use std::alloc::{AllocError, Global};
 use std::marker::Model;
 use std::mem;

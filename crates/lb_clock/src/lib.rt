@@ -3,12 +3,10 @@
 
 mod clock;
 mod news;
-mod probes;
 mod sending;
 mod steps;
 mod tally;
 mod turn;
-mod watched;
 
 pub use clock::ClockLoop;
 pub use turn::clock_turn;

@@ -3,23 +3,22 @@
 ghost use Rattle.std.specs.Prelude.{[], IfNone, IfSome, Ok, Some, if◌then◌else◌, slice_get, ◌++◌, ◌∷◌, ◌≡◌};
 ghost use Rattle.lb_clock.specs.Lines.{ProbeComes, is_done, probe_to};
 ghost use Rattle.lb_clock.specs.News.{event_told, source_told};
-ghost use Rattle.lb_clock.specs.Probes.{Answers, Follows, Here, IsAsked, IsDue, IsOver, IsTimely, Unheard, begun, ended, place_of};
 ghost use Rattle.lb_clock.specs.Turn.{FailsBy, Tells};
 ghost use Rattle.lb_lines.specs.Counts.{Fails};
 ghost use Rattle.lb_lines.specs.Lines.{is_by_device};
 ghost use Rattle.lb_lines.specs.Moves.{Gave};
 ghost use Rattle.std.specs.declared.alloc.AllocError.{AllocError};
 ghost use Rattle.lb_lines.specs.declared.report.Line.TheVariants as lines;
+ghost use Rattle.lb_probes.specs.Probes.{Answers, Follows, Here, IsAsked, IsDue, IsOver, IsTimely, Unheard, begun, ended, place_of};
 
 use crate::clock::ClockLoop;
 use crate::news::News;
-use crate::probes::Answered;
 use crate::sending::{send_outcome, send_probe};
-use crate::watched::{Waits, Watched};
 use lb_lines::{
     Datagram, Datagrams, Gate, Line, Outcome, Outside, Place, Posts, Received, Rooms, Roster,
     Sending, Taker, outcome_of,
 };
+use lb_probes::{Answered, Waits, Watched};
 use std::sync::Wait;
 
 /// An event that was handed to the desk: what came of it, and of its send.

@@ -3,22 +3,22 @@
 ghost use Rattle.std.specs.Prelude.{[], IfNone, IfOk, IfSome, None, OnErr, Some, slice_get, ◌++◌, ◌+◌, ◌<◌, ◌∷◌, ◌≡◌, ◌≤◌, ◌⊎◌, ℕ};
 ghost use Rattle.lb_clock.specs.Acts.{Setting, end_of, setting};
 ghost use Rattle.lb_clock.specs.Lines.{is_quiet};
-ghost use Rattle.lb_clock.specs.Probes.{BeginsAt, Each, EndsAt, Follows, IsAsked, IsDue, IsTimely, ProbesAt};
-ghost use Rattle.lb_clock.specs.Turn.{Goes, Rests, Steps, Turned};
+ghost use Rattle.lb_clock.specs.Turn.{BeginsAt, EndsAt, Goes, ProbesAt, Rests, Steps, Turned};
 ghost use Rattle.lb_clock.specs.declared.turn.Step.TheVariants as steps;
 ghost use Rattle.lb_lines.specs.Counts.{Fails};
 ghost use Rattle.lb_lines.specs.Roster.{Rostered};
+ghost use Rattle.lb_probes.specs.Probes.{Each, Follows, IsAsked, IsDue, IsTimely};
 
 use crate::clock::ClockLoop;
 use crate::news::News;
 use crate::steps::line_of;
 use crate::tally::{MOST, Tally};
-use crate::watched::Watched;
 use lb_core::Answer;
 use lb_lines::{
     Datagrams, DeviceFault, Gate, Line, Outcome, Outside, Place, Posts, Received, Report, Roster,
     Taker,
 };
+use lb_probes::Watched;
 use std::alloc::AllocError;
 use std::sync::Wait;
 

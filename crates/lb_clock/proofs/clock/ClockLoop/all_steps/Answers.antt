@@ -1,8 +1,8 @@
 use Rattle.std.proofs.Common.{rules, refl, ap, arith}
 use Rattle.lb_clock.specs.Acts.{setting}
-use Rattle.lb_clock.specs.Probes.{IsAsked, IsTimely}
 use Rattle.lb_clock.proofs.Going.{goes_on, steps_blind, steps_cut, steps_done}
 use Rattle.lb_clock.proofs.Probing.{each_same}
+use Rattle.lb_probes.specs.Probes.{IsAsked, IsTimely}
 use Rattle.lb_clock.proofs.clock.ClockLoop.all_steps.Goals as goal
 
 pub returns-in_default : goal.returns-in_default

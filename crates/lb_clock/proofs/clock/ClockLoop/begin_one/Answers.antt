@@ -1,10 +1,10 @@
 use Rattle.std.proofs.Common.{refl, sym, ap, ◌∙◌}
 use Rattle.lb_clock.specs.Acts.{setting}
 use Rattle.lb_clock.specs.Lines.{is_done}
-use Rattle.lb_clock.specs.Probes.{Probed, begun}
 use Rattle.lb_clock.specs.World.{World}
 use Rattle.lb_clock.proofs.Going.{goes_begun, goes_blind}
 use Rattle.lb_clock.proofs.Probing.{begins_at}
+use Rattle.lb_probes.specs.Probes.{Probed, begun}
 use Rattle.lb_clock.proofs.clock.ClockLoop.begin_one.Goals as goal
 
 pub returns-in_default-clause-goes : goal.returns-in_default-clause-goes

@@ -1,8 +1,8 @@
 use Rattle.std.proofs.Common.{rules, inl, inr, refl, sym, ap, ◌∙◌, arith}
 use Rattle.lb_clock.specs.Acts.{setting}
-use Rattle.lb_clock.specs.Probes.{IsTimely}
 use Rattle.lb_clock.proofs.Going.{goes_none, goes_on}
 use Rattle.lb_clock.proofs.Probing.{ends_first, first_none, or_all}
+use Rattle.lb_probes.specs.Probes.{IsTimely}
 use Rattle.lb_clock.proofs.clock.ClockLoop.end_all.Goals as goal
 
 pub loop-index-init : goal.loop-index-init

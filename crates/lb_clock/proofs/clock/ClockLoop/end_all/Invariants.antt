@@ -1,8 +1,8 @@
 use Rattle.std.proofs.Common.{◌≡◌, ◌≤◌, ◌⊎◌, None, length}
 use Rattle.lb_clock.specs.Acts.{setting}
-use Rattle.lb_clock.specs.Probes.{First, IsTimely}
 use Rattle.lb_clock.specs.Turn.{Goes}
 use Rattle.lb_lines.specs.Roster.{Rostered}
+use Rattle.lb_probes.specs.Probes.{First, IsTimely}
 use Rattle.lb_clock.proofs.clock.ClockLoop.end_all.Given as goal
 
 abbrev pub invariant-loop-index : goal.invariant-loop-index

@@ -1,9 +1,9 @@
 use Rattle.std.proofs.Common.{◌≡◌, rules, inl, inr, refl, sym, ap, ◌∙◌, subst, arith}
 use Rattle.lb_clock.specs.Acts.{setting}
-use Rattle.lb_clock.specs.Probes.{Probed, ended}
 use Rattle.lb_clock.specs.World.{World}
 use Rattle.lb_clock.proofs.Going.{goes_blind, goes_ended, goes_held, goes_none}
 use Rattle.lb_clock.proofs.Probing.{ends_at, stays_at}
+use Rattle.lb_probes.specs.Probes.{Probed, ended}
 use Rattle.lb_clock.proofs.clock.ClockLoop.end_one.Goals as goal
 
 pub returns-in_err-watched-clause-goes : goal.returns-in_err-watched-clause-goes

@@ -1,7 +1,7 @@
 use Rattle.std.proofs.Common.{◌≡◌, ◌≤◌, ◌⊎◌, None, length}
 use Rattle.lb_clock.specs.Acts.{setting}
-use Rattle.lb_clock.specs.Probes.{Each, First, IsAsked, IsTimely}
 use Rattle.lb_clock.specs.Turn.{Goes}
+use Rattle.lb_probes.specs.Probes.{Each, First, IsAsked, IsTimely}
 use Rattle.lb_clock.proofs.clock.ClockLoop.probe_all.Given as goal
 
 abbrev pub invariant-loop-index : goal.invariant-loop-index

@@ -1,6 +1,6 @@
 use Rattle.std.proofs.Common.{subst}
-use Rattle.lb_clock.specs.Probes.{Each, IsQuietFor}
 use Rattle.lb_clock.specs.World.{World}
+use Rattle.lb_probes.specs.Probes.{Each, IsQuietFor}
 use Rattle.lb_clock.proofs.clock.ClockLoop.quiet_for.Goals as goal
 
 pub returns-clause-quiet : goal.returns-clause-quiet

@@ -1,7 +1,7 @@
 //! A server that is probed.
 
 ghost use Rattle.std.specs.Prelude.{IfNone, IfSome, IsTrue, Some, false, nat_le, true, ◌+◌, ◌<◌, ◌≡◌, ◌≤◌, ℕ};
-ghost use Rattle.lb_clock.specs.Probes.{Answers, IsAsked, IsDue, IsOver, IsQuietFor, IsTimely, Misses, is_by, is_open, second};
+ghost use Rattle.lb_probes.specs.Probes.{Answers, IsAsked, IsDue, IsOver, IsQuietFor, IsTimely, Misses, is_by, is_open, second};
 
 use lb_health::judge;
 use lb_lines::{Datagram, Endpoint, Place, Roster, Socket};
@@ -13,21 +13,21 @@ pub(crate) const SECOND: u64 = 1_000;
 
 /// A probe that is under way: its ID, the moment at which it was sent, in milliseconds, and whether it could be sent.
 #[derive(Clone, Copy, Debug)]
-pub(crate) struct Waits {
-    pub(crate) word: u16,
-    pub(crate) sent: u64,
-    pub(crate) is_sent: bool,
+pub struct Waits {
+    pub word: u16,
+    pub sent: u64,
+    pub is_sent: bool,
 }
 
 /// A server that is probed: where it is, whether an answer has to name an address, when its next probe is due, and the probe that is
 /// under way.
 #[derive(Clone, Copy, Debug)]
-pub(crate) struct Watched {
-    pub(crate) server: ServerId,
-    pub(crate) at: Endpoint,
-    pub(crate) must_resolve: bool,
-    pub(crate) next: u64,
-    pub(crate) waits: Option<Waits>,
+pub struct Watched {
+    pub server: ServerId,
+    pub at: Endpoint,
+    pub must_resolve: bool,
+    pub next: u64,
+    pub waits: Option<Waits>,
 }
 
 impl Waits {

@@ -5,12 +5,12 @@ use Rattle.std.specs.List.{find, list_any}
 use Rattle.std.proofs.lemmas.List.{append-nil, length-append}
 use Rattle.std.proofs.lemmas.List.Folds.{list_any-append}
 use Rattle.std.proofs.lemmas.Bool.{eq-eqb}
-use Rattle.lb_clock.specs.Probes.{AreFresh, AreProbed, is_of, most_probed}
-use Rattle.lb_clock.specs.declared.watched.Watched.{Watched}
-use Rattle.lb_clock.proofs.Probing.{step_or}
 use Rattle.lb_lines.specs.Roster.{place_in}
 use Rattle.lb_lines.specs.declared.roster.Listed.{Listed}
 use Rattle.lb_lines.specs.declared.roster.Place.{Place}
+use Rattle.lb_probes.specs.Probes.{AreFresh, AreProbed, is_of, most_probed}
+use Rattle.lb_probes.specs.declared.watched.Watched.{Watched}
+use Rattle.lb_probes.proofs.Probing.{step_or}
 use Rattle.lb_wire.specs.declared.ids.ServerId.{ServerId}
 
 -- some behind others

@@ -1,7 +1,7 @@
 use Rattle.std.proofs.Common.{rules, arith}
-use Rattle.lb_clock.specs.Probes.{IsQuietFor}
-use Rattle.lb_clock.proofs.Probing.{first_all, quiet_on}
-use Rattle.lb_clock.proofs.probes.Probes.quiet_for.Goals as goal
+use Rattle.lb_probes.specs.Probes.{IsQuietFor}
+use Rattle.lb_probes.proofs.Probing.{first_all, quiet_on}
+use Rattle.lb_probes.proofs.probes.Probes.quiet_for.Goals as goal
 
 pub loop-index-preserved : goal.loop-index-preserved
 loop-index-preserved c =

@@ -1,7 +1,7 @@
 use Rattle.std.proofs.Common.{◌++◌, ap, ◌∙◌, append_assoc, subst}
-use Rattle.lb_clock.specs.Probes.{AreFresh}
-use Rattle.lb_clock.proofs.Freshening.{fresh_on, probed_on}
-use Rattle.lb_clock.proofs.probes.admit_all.Goals as goal
+use Rattle.lb_probes.specs.Probes.{AreFresh}
+use Rattle.lb_probes.proofs.Freshening.{fresh_on, probed_on}
+use Rattle.lb_probes.proofs.probes.admit_all.Goals as goal
 
 pub loop-index-preserved : goal.loop-index-preserved
 loop-index-preserved c =

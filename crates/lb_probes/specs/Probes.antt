@@ -1,8 +1,6 @@
 -- The probes of servers: what answers one, when one is over, and which servers are probed.
 use Rattle.std.specs.Prelude.{◌≡◌, ◌⊎◌, ◌+◌, ◌-◌, ◌*◌, ◌/◌, ◌%◌, ◌^◌, ◌<◌, ◌≤◌, ℕ, Bool, true, false, List, [], ◌∷◌, ◌++◌, Option, Some, None, Result, filter, length, min, nat_lt, set, slice_get, ◌==◌, ◌&&◌}
 use Rattle.std.specs.List.{list_any, position}
-use Rattle.lb_clock.specs.declared.watched.Waits.{Waits}
-use Rattle.lb_clock.specs.declared.watched.Watched.{Watched}
 use Rattle.lb_health.specs.Probes.{judged}
 use Rattle.lb_lines.specs.Endpoint.{is_endpoint}
 use Rattle.lb_lines.specs.Roster.{Rostered, place_in}
@@ -12,6 +10,8 @@ use Rattle.lb_lines.specs.declared.roster.Place.{Place}
 use Rattle.lb_lines.specs.declared.traffic.Datagram.{Datagram}
 use Rattle.lb_lines.specs.declared.traffic.Socket.{Socket}
 use Rattle.lb_lines.specs.declared.traffic.Socket.TheVariants.{Listener, Server}
+use Rattle.lb_probes.specs.declared.watched.Waits.{Waits}
+use Rattle.lb_probes.specs.declared.watched.Watched.{Watched}
 use Rattle.lb_servers.specs.declared.server.Mode.TheVariants as modes
 use Rattle.lb_wire.specs.declared.ids.ServerId.{ServerId}
 use Rattle.lb_wire.specs.declared.reply.ReplyFault.{ReplyFault}
@@ -151,21 +151,3 @@ First P n p = (i : ℕ) (w : Watched) → i < n → slice_get p i ≡ Some w →
 
 abbrev pub Here : (Watched → Type 0) → ℕ → List Watched → Type 0
 Here P i p = (w : Watched) → slice_get p i ≡ Some w → P w
-
--- the others stay, and as many
-abbrev pub Others : ℕ → List Watched → List Watched → Type 0
-Others i p q = (length q ≡ length p) × ((j : ℕ) → (j ≡ i → ⊥) → slice_get q j ≡ slice_get p j)
-
--- how the server at a place goes on where its probe ends if it is over, unless as many events were told as may be: their number before and after
-abbrev pub EndsAt : ℕ → ℕ → List Watched → List Watched → ℕ → ℕ → Type 0
-EndsAt now i p q before after =
-    Others i p q × (before ≤ after) × ((64 ≤ after) ⊎ Here (IsTimely now) i q) × ((w : Watched) → slice_get p i ≡ Some w → (x : Watched) × (slice_get q i ≡ Some x) × (x.next ≡ w.next))
-
--- the server at a place is sent a probe: its next one is due a second later
-abbrev pub BeginsAt : ℕ → ℕ → List Watched → List Watched → Type 0
-BeginsAt now i p q = Others i p q × ((w : Watched) × (slice_get q i ≡ Some w) × (w.next ≡ later now second))
-
--- the same where it is sent one if that is due, unless as many were sent as may be, and one that could not be sent ends, unless as many events were told as may be
-abbrev pub ProbesAt : List Listed → ℕ → ℕ → List Watched → List Watched → ℕ → ℕ → ℕ → ℕ → Type 0
-ProbesAt roster now i p q before after sent more =
-    Others i p q × (before ≤ after) × (sent ≤ more) × ((64 ≤ after) ⊎ (Here (IsTimely now) i p → Here (IsTimely now) i q)) × ((64 ≤ more) ⊎ Here (IsAsked roster now) i q)

@@ -2,9 +2,9 @@
 
 ghost use Rattle.std.specs.Prelude.{[], IfNone, IfOk, IfSome, List, None, Some, filter, length, slice_get, true, vec_capacity, ◌++◌, ◌∷◌, ◌≡◌, ◌≤◌, ◌⊎◌};
 ghost use Rattle.std.specs.List.{list_any, position};
-ghost use Rattle.lb_clock.specs.Probes.{Answers, AreFresh, AreProbed, Each, Follows, Here, IsAsked, IsDue, IsOver, IsQuietFor, IsTimely, Unheard, begun, ended, is_of, most_probed, place_of, stands};
 ghost use Rattle.lb_lines.specs.declared.roster.Listed.{Listed};
-ghost use Rattle.lb_clock.specs.declared.watched.Watched.{Watched};
+ghost use Rattle.lb_probes.specs.Probes.{Answers, AreFresh, AreProbed, Each, Follows, Here, IsAsked, IsDue, IsOver, IsQuietFor, IsTimely, Unheard, begun, ended, is_of, most_probed, place_of, stands};
+ghost use Rattle.lb_probes.specs.declared.watched.Watched.{Watched};
 
 use crate::watched::{SECOND, Waits, Watched};
 use lb_lines::{Datagram, Place, Roster, Socket};
@@ -17,7 +17,7 @@ const ROOM: usize = 256;
 
 /// Servers that are probed: of each where it is, when its next probe is due, and the probe that is under way. Room for 256.
 #[derive(Drop)]
-pub(crate) struct Probes {
+pub struct Probes {
     watched: Vec<Watched>,
     /// The version of the roster that the servers were taken from.
     version: Option<u64>,
@@ -25,7 +25,7 @@ pub(crate) struct Probes {
 }
 
 impl Model for Probes {
-    ghost use Rattle.lb_clock.specs.Probes.{Probed};
+    ghost use Rattle.lb_probes.specs.Probes.{Probed};
 
     ghost Value = { Probed };
 
@@ -34,15 +34,15 @@ impl Model for Probes {
 
 /// A datagram that answers a probe: the place of its server, that server, and the probe.
 #[derive(Clone, Copy, Debug)]
-pub(crate) struct Answered {
-    pub(crate) index: usize,
-    pub(crate) watched: Watched,
-    pub(crate) waits: Waits,
+pub struct Answered {
+    pub index: usize,
+    pub watched: Watched,
+    pub waits: Waits,
 }
 
 impl Probes {
     /// No server is probed. It has room for 256; the one error is want of memory.
-    pub(crate) fn made(alloc: Global) -> Result<Probes, AllocError>
+    pub fn made(alloc: Global) -> Result<Probes, AllocError>
         ensures { IfOk result (λ probes. probes ≡ record { version = None; watched = [] }) }
     {
         Ok(Probes {
@@ -52,14 +52,14 @@ impl Probes {
     }
 
     /// How many servers are probed.
-    pub(crate) fn len(&self) -> usize
+    pub fn len(&self) -> usize
         ensures { result ≡ length self.now.watched }
     {
         self.watched.len()
     }
 
     /// The server at a place, with its probe, where that is over at this moment.
-    pub(crate) fn over_at(&self, index: usize, now: u64) -> Option<(Watched, Waits)>
+    pub fn over_at(&self, index: usize, now: u64) -> Option<(Watched, Waits)>
         ensures some { IfSome result (λ r. (slice_get self.now.watched index ≡ Some r.0) × (r.0.waits ≡ Some r.1) × IsOver now r.1) }
         ensures none { IfNone result (Here (IsTimely now) index self.now.watched) }
     {
@@ -69,7 +69,7 @@ impl Probes {
     }
 
     /// The server at a place, and where it is, when its next probe is due at this moment.
-    pub(crate) fn due_at(&self, roster: &Roster, index: usize, now: u64) -> Option<(Watched, Place)>
+    pub fn due_at(&self, roster: &Roster, index: usize, now: u64) -> Option<(Watched, Place)>
         ensures some { IfSome result (λ r. (slice_get self.now.watched index ≡ Some r.0) × IsDue roster.now.listed now r.0 r.1) }
         ensures none { IfNone result (Here (IsAsked roster.now.listed now) index self.now.watched) }
     {
@@ -79,7 +79,7 @@ impl Probes {
     }
 
     /// For how long from this moment on no probe is over and none is due, at most so many milliseconds.
-    pub(crate) fn quiet_for(&self, roster: &Roster, now: u64, at_most: u64) -> u64
+    pub fn quiet_for(&self, roster: &Roster, now: u64, at_most: u64) -> u64
         ensures within { result ≤ at_most }
         ensures quiet { Each (IsQuietFor roster.now.listed now result) self.now.watched }
     {
@@ -102,7 +102,7 @@ impl Probes {
 
     /// The servers become those of the roster, where that was changed: one that left, or is at another end, goes, and one that came
     /// begins anew at this moment.
-    pub(crate) fn follow(&mut self, roster: &Roster, now: u64)
+    pub fn follow(&mut self, roster: &Roster, now: u64)
         ensures { Follows roster.now now self.old self.new }
     {
         if self.version == Some(roster.version()) {
@@ -114,7 +114,7 @@ impl Probes {
     }
 
     /// The server whose probe this datagram answers at this moment, with its place.
-    pub(crate) fn answered(&self, datagram: &Datagram, now: u64) -> Option<Answered>
+    pub fn answered(&self, datagram: &Datagram, now: u64) -> Option<Answered>
         ensures some { IfSome result (λ a. (place_of datagram.now.socket self.now.watched ≡ Some a.index) × (slice_get self.now.watched a.index ≡ Some a.watched) × (a.watched.waits ≡ Some a.waits) × Answers now datagram.now a.watched) }
         ensures none { IfNone result (Unheard now datagram.now self.now.watched) }
     {
@@ -129,7 +129,7 @@ impl Probes {
     }
 
     /// The probe of the server at a place ends.
-    pub(crate) fn end(&mut self, index: usize, watched: Watched)
+    pub fn end(&mut self, index: usize, watched: Watched)
         requires there { slice_get self.old.watched index ≡ Some watched }
         ensures { self.new ≡ ended self.old index watched }
     {
@@ -141,7 +141,7 @@ impl Probes {
 
     /// A probe of the server at a place was sent at this moment to this place, or could not be, in a turn that began at that moment. The
     /// next one is due a second after the turn began.
-    pub(crate) fn begin(
+    pub fn begin(
         &mut self,
         index: usize,
         watched: Watched,

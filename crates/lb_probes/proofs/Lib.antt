@@ -1,0 +1,2 @@
+mod Freshening
+mod Probing
