@@ -2,7 +2,7 @@
 use Rattle.std.specs.Prelude.{◌≡◌, ◌≢◌, ℕ, ◌≤◌, ◌%◌, nat_le, nat_lt, Bool, true, false, List, length, ◌++◌, ◌<◌, ◌^◌, if◌then◌else◌, ◌==◌, Option, Some, None, get_or}
 use Rattle.std.specs.List.{count_by}
 use Rattle.lb_connections.specs.declared.connection.Connection.{Connection}
-use Rattle.lb_frames.specs.Frames.{framed}
+use Rattle.lb_frames.specs.Frames.{NoneWhole, framed}
 use Rattle.lb_lines.specs.declared.endpoint.Endpoint.{Endpoint}
 use Rattle.lb_lines.specs.declared.traffic.Peer.{Peer}
 use Rattle.lb_lines.specs.declared.traffic.Peer.TheVariants as peers
@@ -90,6 +90,10 @@ IsTo n server lane end t = (x : Connection) × (at n t ≡ Some x) × (x.peer �
 -- this message stands first in what came of the open connection of this number, which has this peer
 abbrev pub IsFirst : ℕ → Peer → List ℕ → Table → Type 0
 IsFirst n peer message t = (x : Connection) × (rest : List ℕ) × (at n t ≡ Some x) × (x.peer ≡ peer) × (length message < 2 ^ 16) × (x.incoming ≡ framed message ++ rest)
+
+-- no whole message is in what came of the open connection of this number, where there is one
+abbrev pub HasNone : ℕ → Table → Type 0
+HasNone n t = (x : Connection) → at n t ≡ Some x → NoneWhole x.incoming
 
 -- the time of a connection is over at this moment
 abbrev pub IsOverdue : ℕ → Connection → Type 0

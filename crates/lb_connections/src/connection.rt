@@ -79,7 +79,10 @@ impl Connection {
     }
 
     /// Whether it may be read: no whole message of it waits, and not too much is to be written to it.
-    pub fn may_be_read(&self) -> bool {
+    pub fn may_be_read(&self) -> bool
+        ensures may { IsTrue result → NoneWhole self.now.incoming × (length self.now.outgoing ≤ 65536) }
+        ensures may_not { result ≡ false → NoneWhole self.now.incoming → 65536 < length self.now.outgoing }
+    {
         !self.incoming.has_message() && self.outgoing.len() <= MANY_WAITING
     }
 
@@ -101,6 +104,7 @@ impl Connection {
         ensures ended { IsTrue result → self.now.is_ended ≡ true }
         ensures written { IsTrue result → self.now.outgoing ≡ [] }
         ensures none { IsTrue result → NoneWhole self.now.incoming }
+        ensures found { self.now.is_ended ≡ true → self.now.owed ≡ 0 → self.now.outgoing ≡ [] → NoneWhole self.now.incoming → IsTrue result }
     {
         self.is_ended && self.owed == 0 && self.outgoing.len() == 0 && !self.incoming.has_message()
     }
@@ -150,6 +154,7 @@ impl Connection {
     pub fn end(&mut self, now: u64) -> u64
         ensures ended { self.new.is_ended ≡ true }
         ensures until { (self.new.until ≡ Some result) × (now ≤ result) }
+        ensures all { self.new ≡ record self.old { is_ended = true; until = Some result } }
         ensures rest { (self.new.number ≡ self.old.number) × (self.new.peer ≡ self.old.peer) × (self.new.incoming ≡ self.old.incoming) × (self.new.outgoing ≡ self.old.outgoing) }
     {
         let until = now.saturating_add(KEPT);

@@ -1,7 +1,7 @@
 //! Messages that are taken of what came.
 
-ghost use Rattle.std.specs.Prelude.{IfOk, IfSome, List, OnOk, ℕ, ◌++◌, ◌≡◌};
-ghost use Rattle.lb_connections.specs.Table.{IsFirst};
+ghost use Rattle.std.specs.Prelude.{IfNone, IfOk, IfSome, List, OnOk, ℕ, ◌++◌, ◌≡◌};
+ghost use Rattle.lb_connections.specs.Table.{HasNone, IsFirst};
 ghost use Rattle.lb_connections.specs.Taking.{Takes};
 
 use crate::connection::Connection;
@@ -22,7 +22,8 @@ pub struct First {
 impl Connections {
     /// The first whole message of a connection. The one error is want of memory.
     pub fn first_of(&self, alloc: Global, number: u64) -> Result<Option<First>, AllocError>
-        ensures { IfOk result (λ found. IfSome found (λ first. IsFirst number first.peer first.message self.now × (first.copy ≡ first.message))) }
+        ensures some { IfOk result (λ found. IfSome found (λ first. IsFirst number first.peer first.message self.now × (first.copy ≡ first.message))) }
+        ensures none { IfOk result (λ found. IfNone found (HasNone number self.now)) }
     {
         if number > self.last {
             return Ok(None);
