@@ -1,11 +1,12 @@
 /* The client of tools/race: it asks for A records by UDP, by framed TCP or by HTTP, and tells what came and how soon.
 
-   client udp|tcp|get|post ADDR PORT [-F FORMAT] [-k COUNT] [-f PERCENT] [-c SOCKETS] [-w WINDOW] [-r RATE] [-t SECONDS] [-n QUERIES] [-T MS] [-e SEED] [-a]
+   client udp|tcp|get|post ADDR PORT [-F FORMAT] [-k COUNT] [-f PERCENT] [-c SOCKETS] [-w WINDOW] [-r RATE] [-t SECONDS] [-n QUERIES] [-T MS] [-e SEED] [-a] [-C]
 
    -F  the names, with one %d for their number (h%d.hit.test); -k how many there are (1), drawn at random; -a each once, in order
    -f  of a hundred queries so many have a name that was never asked before (0)
    -c  sockets or connections (4); -w queries in flight in all (64), by HTTP one a connection at most; -r queries a second, at most 64 at once (0: as fast as the window goes)
    -t  seconds (3) or -n queries; -T a query is lost after so many milliseconds (1000); -e a seed for names and IDs
+   -C  each query has an OPT with a fresh client cookie of 8 octets (RFC 7873)
 
    It prints one line: sent S answered A lost L seconds T p50 US p99 US rcodes NOERROR SERVFAIL REFUSED OTHER */
 #define _GNU_SOURCE
@@ -36,7 +37,7 @@ struct lane {
 };
 
 static struct lane *lanes[MOST_SOCKETS];
-static int is_tcp, is_get, is_post, sockets = 4, window = 64, fresh_percent, in_order;
+static int is_tcp, is_get, is_post, sockets = 4, window = 64, fresh_percent, in_order, has_cookie;
 static unsigned known = 1;
 static const char *format = "h%d.hit.test";
 static uint64_t sent, answered, lost, rcodes[16], state, fresh, known_next;
@@ -83,7 +84,15 @@ static size_t make_query(unsigned char *to, uint16_t ident)
         label += length + (label[length] == '.');
     }
     memcpy(to + place, "\0\0\1\0\1", 5);
-    return place + 5;
+    place += 5;
+    if (has_cookie) {
+        uint64_t cookie = draw();
+        to[11] = 1;
+        memcpy(to + place, "\0\0\x29\x04\xd0\0\0\0\0\0\x0c\0\x0a\0\x08", 15);
+        memcpy(to + place + 15, &cookie, 8);
+        place += 23;
+    }
+    return place;
 }
 
 /* The request of a query, by RFC 8484. */
@@ -248,7 +257,7 @@ int main(int count, char **words)
     struct sockaddr_in at = {.sin_family = AF_INET, .sin_port = htons(atoi(words[3]))};
     inet_pton(AF_INET, words[2], &at.sin_addr);
     optind = 4;
-    for (int option; (option = getopt(count, words, "F:k:f:c:w:r:t:n:T:e:a")) != -1;) {
+    for (int option; (option = getopt(count, words, "F:k:f:c:w:r:t:n:T:e:aC")) != -1;) {
         switch (option) {
         case 'F': format = optarg; break;
         case 'k': known = atoi(optarg); break;
@@ -261,6 +270,7 @@ int main(int count, char **words)
         case 'T': timeout_ns = strtoull(optarg, NULL, 10) * 1000000u; break;
         case 'e': seed = strtoull(optarg, NULL, 10); break;
         case 'a': in_order = 1; break;
+        case 'C': has_cookie = 1; break;
         default: return 2;
         }
     }

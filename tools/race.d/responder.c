@@ -2,7 +2,8 @@
 
    responder ADDR PORT [silent]
 
-   silent: only probes (a.root-servers.net) are answered. It prints `ready` and runs until it is ended. */
+   silent: only probes (a.root-servers.net) are answered. It prints `ready` and runs until it is ended.
+   The datagram `count` is answered by how many queries it has answered, as decimal digits. */
 #define _GNU_SOURCE
 #include <arpa/inet.h>
 #include <errno.h>
@@ -20,6 +21,7 @@
 #define TAIL 16
 
 static int is_silent;
+static unsigned long long answered;
 static const unsigned char record[TAIL] = {0xc0, 0x0c, 0, 1, 0, 1, 0, 0, 0x0e, 0x10, 0, 4, 192, 0, 2, 7};
 
 struct stream {
@@ -38,6 +40,8 @@ static void fail(const char *what)
 static size_t answer(unsigned char *message, size_t length)
 {
     size_t end = 12;
+    if (length == 5 && !memcmp(message, "count", 5))
+        return sprintf((char *)message, "%llu", answered);
     if (length < 17 || message[2] & 0x80)
         return 0;
     while (end < length && message[end])
@@ -51,6 +55,7 @@ static size_t answer(unsigned char *message, size_t length)
     message[3] = 0x80;
     memcpy(message + 4, "\0\1\0\1\0\0\0\0", 8);
     memcpy(message + end, record, TAIL);
+    answered++;
     return end + TAIL;
 }
 

@@ -22,8 +22,9 @@ use Rattle.lb_command.specs.Reading.{◌>>=◌, due, optional, or_left_out, take
 use Rattle.lb_command.specs.Values.{addr_of, ident_of, in_range, looked_up, mode_of, name_of, number_of, policy_of, pool_of, port_of, type_of}
 use Rattle.lb_command.specs.Terms.{checked_at}
 use Rattle.lb_command.specs.Actions.{action_at}
+use Rattle.lb_command.specs.Skips.{skips_at}
 use Rattle.lb_command.specs.Commands.{Stated, behind_cache_verb, behind_extent, behind_pool_verb, behind_rule_verb, behind_server_verb, behind_verb, by_name_at, by_suffix_at, cache_at, cache_attach_at, cache_detach_at, cache_verb_words, check_of, command_at, expunge_at, extent_words, nothing_stated, options_at, place_at, pool_add_at, pool_at, pool_policy_at, pool_verb_words, rule_add_at, rule_at, rule_id, rule_move_at, rule_remove_at, rule_verb_words, server_add_at, server_at, server_mode_at, server_remove_at, server_verb_words, spec_of, timeout_at, verb_words}
-use Rattle.lb_command.specs.Grammar.{Allowed, AllowedAction, ◌▷◌, action, all_chosen, command, covered, number, optional_type, place, says, server, term, word}
+use Rattle.lb_command.specs.Grammar.{Allowed, AllowedAction, ◌▷◌, action, all_chosen, command, covered, number, optional_type, place, says, server, skips, term, word}
 use Rattle.lb_command.specs.declared.fault.CommandFault.{CommandFault}
 use Rattle.lb_command.specs.declared.fault.FaultKind.TheVariants as kinds
 use Rattle.lb_command.specs.declared.commands.Verb.{Verb}
@@ -43,6 +44,7 @@ use Rattle.lb_command.proofs.Keeping.{says_keeps, word_keeps}
 use Rattle.lb_command.proofs.TermExact.{checked_again, checked_found, type_found}
 use Rattle.lb_command.proofs.ActionExact.{Acts, action_again, action_found}
 use Rattle.lb_command.proofs.OptionExact.{MakeAll, options_again, options_found}
+use Rattle.lb_command.proofs.SkipExact.{skips_again, skips_found}
 
 -- a command that the grammar allows
 abbrev pub Commands : Command → Left → Left → Type 0
@@ -174,7 +176,7 @@ pool_found line inner t y w h =
     let a = table_step kinds.UnknownWord pool_text pool_verb_words inner _ (y, t) (refl, (refl, tt)) refl h in
     pool_case a.0 line inner a.1 t y w a.2 a.3
 
--- cache attach PNAME MAX SHARDS MAXTTL
+-- cache attach PNAME MAX SHARDS MAXTTL and its options
 cache_attach_found : (line inner s t : Left) (y : Command) → word (codes "cache") line inner → word (codes "attach") inner s → cache_attach_at s ≡ Ok (y, t) → Commands y line t
 unfolding cache_attach_at
 cache_attach_found line inner s t y w v h =
@@ -182,7 +184,8 @@ cache_attach_found line inner s t y w v h =
     let b = says_step kinds.BadNumber (in_range 1 1000000) a.1 _ (y, t) refl a.3 in
     let c = says_step kinds.BadNumber (in_range 1 64) b.1 _ (y, t) refl b.3 in
     let d = says_step kinds.BadNumber (in_range 1 604800) c.1 _ (y, t) refl c.3 in
-    carried (λ (z : Command) (u : Left). Commands z line u) (CacheAttach a.0 b.0 c.0 d.0) y d.1 t d.3 ((inner, w, (s, v, (a.1, a.2, (b.1, b.2, (c.1, c.2, d.2))))), tt)
+    let e = step skips_at skips d.1 _ (y, t) skips_found d.3 in
+    carried (λ (z : Command) (u : Left). Commands z line u) (CacheAttach a.0 b.0 c.0 d.0 e.0) y e.1 t e.3 ((inner, w, (s, v, (a.1, a.2, (b.1, b.2, (c.1, c.2, (d.1, d.2, e.2)))))), tt)
 
 -- cache detach PNAME
 cache_detach_found : (line inner s t : Left) (y : Command) → word (codes "cache") line inner → word (codes "detach") inner s → cache_detach_at s ≡ Ok (y, t) → Commands y line t
@@ -348,10 +351,11 @@ behind_pool : (s t : Left) (v : PoolVerb) → looked_up pool_verb_words (pool_te
 unfolding pool_at
 behind_pool s t v known h = rw (table_again kinds.UnknownWord pool_verb_words (pool_text v) s t v known h) refl
 
-cache_attach_again : (s t : Left) (name : PoolName) (max shards max_ttl : ℕ) → (says pool_of name ▷ says (in_range 1 1000000) max ▷ says (in_range 1 64) shards ▷ says (in_range 1 604800) max_ttl) s t → cache_attach_at s ≡ Ok (CacheAttach name max shards max_ttl, t)
+cache_attach_again : (s t : Left) (name : PoolName) (max shards max_ttl : ℕ) (listed : List ℕ) → t.words ≡ []
+    → (says pool_of name ▷ says (in_range 1 1000000) max ▷ says (in_range 1 64) shards ▷ says (in_range 1 604800) max_ttl ▷ skips listed) s t → cache_attach_at s ≡ Ok (CacheAttach name max shards max_ttl listed, t)
 unfolding cache_attach_at
-cache_attach_again s t name max shards max_ttl h =
-    rw (says_again kinds.BadName pool_of s h.0 name h.1, says_again kinds.BadNumber (in_range 1 1000000) h.0 h.2.0 max h.2.1, says_again kinds.BadNumber (in_range 1 64) h.2.0 h.2.2.0 shards h.2.2.1, says_again kinds.BadNumber (in_range 1 604800) h.2.2.0 t max_ttl h.2.2.2) refl
+cache_attach_again s t name max shards max_ttl listed none h =
+    rw (says_again kinds.BadName pool_of s h.0 name h.1, says_again kinds.BadNumber (in_range 1 1000000) h.0 h.2.0 max h.2.1, says_again kinds.BadNumber (in_range 1 64) h.2.0 h.2.2.0 shards h.2.2.1, says_again kinds.BadNumber (in_range 1 604800) h.2.2.0 h.2.2.2.0 max_ttl h.2.2.2.1, skips_again listed h.2.2.2.0 t none h.2.2.2.2) refl
 
 cache_detach_again : (s t : Left) (name : PoolName) → says pool_of name s t → cache_detach_at s ≡ Ok (CacheDetach name, t)
 unfolding cache_detach_at
@@ -404,7 +408,7 @@ command_part_again (ServerRemove name) s t h enough none = behind s h.0.0 verbs.
 command_part_again (ServerMode name mode) s t h enough none = behind s h.0.0 verbs.Server refl h.0.1 ∙ behind_server h.0.0 h.0.2.0 server_verbs.Mode refl h.0.2.1 ∙ server_mode_again h.0.2.0 t name mode h.0.2.2
 command_part_again (PoolAdd name) s t h enough none = behind s h.0.0 verbs.Pool refl h.0.1 ∙ behind_pool h.0.0 h.0.2.0 pool_verbs.Add refl h.0.2.1 ∙ pool_add_again h.0.2.0 t name h.0.2.2
 command_part_again (PoolPolicy name policy) s t h enough none = behind s h.0.0 verbs.Pool refl h.0.1 ∙ behind_pool h.0.0 h.0.2.0 pool_verbs.Policy refl h.0.2.1 ∙ pool_policy_again h.0.2.0 t name policy h.0.2.2
-command_part_again (CacheAttach name max shards max_ttl) s t h enough none = behind s h.0.0 verbs.Cache refl h.0.1 ∙ behind_cache h.0.0 h.0.2.0 cache_verbs.Attach refl h.0.2.1 ∙ cache_attach_again h.0.2.0 t name max shards max_ttl h.0.2.2
+command_part_again (CacheAttach name max shards max_ttl listed) s t h enough none = behind s h.0.0 verbs.Cache refl h.0.1 ∙ behind_cache h.0.0 h.0.2.0 cache_verbs.Attach refl h.0.2.1 ∙ cache_attach_again h.0.2.0 t name max shards max_ttl listed none h.0.2.2
 command_part_again (CacheDetach name) s t h enough none = behind s h.0.0 verbs.Cache refl h.0.1 ∙ behind_cache h.0.0 h.0.2.0 cache_verbs.Detach refl h.0.2.1 ∙ cache_detach_again h.0.2.0 t name h.0.2.2
 command_part_again (Expunge name x) s t h enough none = behind s h.0.0 verbs.Expunge refl h.0.1 ∙ expunge_again h.0.0 t name x none h.0.2
 command_part_again (SetTimeout millis) s t h enough none = behind s h.0.0 verbs.Timeout refl h.0.1 ∙ timeout_again h.0.0 t millis h.0.2

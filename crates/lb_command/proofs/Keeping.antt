@@ -16,7 +16,7 @@ use Rattle.lb_core.specs.declared.command.StatedAction.TheVariants as actions
 use Rattle.lb_core.specs.declared.event.Event.{Event}
 use Rattle.lb_core.specs.declared.event.Event.TheVariants.{Query, Reply, Tick, HealthResult, Edit}
 use Rattle.lb_command.specs.Line.{Left, Seen, begins_word, in_front, is_word_byte, seen, whole, words_of}
-use Rattle.lb_command.specs.Grammar.{Choice, Part, ◌▷◌, action, bracketed, choice, comma_list, command, covered, event, in_front_of, lengths, optional_type, options, order, pool, fall, rise, resolve, other_terms, others, place, says, server, setup, term, terms, word}
+use Rattle.lb_command.specs.Grammar.{Choice, Part, ◌▷◌, action, bracketed, choice, code_skips, comma_list, command, covered, event, in_front_of, lengths, optional_type, options, order, pool, fall, rise, resolve, other_terms, others, place, says, server, setup, skips, term, terms, word}
 use Rattle.lb_masks.specs.Number.{number_up_to}
 use Rattle.lb_command.specs.Values.{addr_of, count_of, hex_of, ident_of, in_range, kind_of, mask_of, mode_of, name_of, number_of, outcome_of, policy_of, pool_of, port_of, protocol_of, rcode_of, type_of, word_number}
 use Rattle.lb_command.specs.declared.setup.SetupLine.{SetupLine}
@@ -146,6 +146,11 @@ covered_keeps covereds.All = word_keeps (codes "all")
 two_words : (a b : List ℕ) (second : Part) → Keeps second → Keeps (word a ▷ word b ▷ second)
 two_words a b second k = behind_word a (word b ▷ second) (behind_word b second k)
 
+skips_keep : (listed : List ℕ) → Keeps (skips listed)
+skips_keep listed s t (inl h) = behind_word (codes "skip") (comma_list (says word_number) h.0) (list_keeps (says word_number) (says_keeps word_number) h.0) s t h.3
+skips_keep listed s t (inr (inl h)) = behind_word (codes "skip") (word (codes "none")) (word_keeps (codes "none")) s t h.1
+skips_keep listed s t (inr (inr h)) = same s t h.1
+
 pub command_keeps : (c : Command) → Keeps (command c)
 command_keeps (RuleAdd at rule) = two_words (codes "rule") (codes "add") (place at ▷ term rule.term ▷ action rule.action) (then_keeps (place at) (term rule.term ▷ action rule.action) (place_keeps at) (then_keeps (term rule.term) (action rule.action) (term_keeps rule.term) (action_keeps rule.action)))
 command_keeps (RuleRemove id) = two_words (codes "rule") (codes "remove") (says number_of id.0) (says_keeps number_of id.0)
@@ -155,11 +160,12 @@ command_keeps (ServerRemove name) = two_words (codes "server") (codes "remove") 
 command_keeps (ServerMode name mode) = two_words (codes "server") (codes "mode") (says ident_of name ▷ says mode_of mode) (behind_value ident_of name (says mode_of mode) (says_keeps mode_of mode))
 command_keeps (PoolAdd name) = two_words (codes "pool") (codes "add") (says pool_of name) (says_keeps pool_of name)
 command_keeps (PoolPolicy name policy) = two_words (codes "pool") (codes "policy") (says pool_of name ▷ says policy_of policy) (behind_value pool_of name (says policy_of policy) (says_keeps policy_of policy))
-command_keeps (CacheAttach name max shards max_ttl) =
-    two_words (codes "cache") (codes "attach") (says pool_of name ▷ says (in_range 1 1000000) max ▷ says (in_range 1 64) shards ▷ says (in_range 1 604800) max_ttl)
-    (behind_value pool_of name (says (in_range 1 1000000) max ▷ says (in_range 1 64) shards ▷ says (in_range 1 604800) max_ttl)
-    (behind_value (in_range 1 1000000) max (says (in_range 1 64) shards ▷ says (in_range 1 604800) max_ttl)
-    (behind_value (in_range 1 64) shards (says (in_range 1 604800) max_ttl) (says_keeps (in_range 1 604800) max_ttl))))
+command_keeps (CacheAttach name max shards max_ttl listed) =
+    two_words (codes "cache") (codes "attach") (says pool_of name ▷ says (in_range 1 1000000) max ▷ says (in_range 1 64) shards ▷ says (in_range 1 604800) max_ttl ▷ skips listed)
+    (behind_value pool_of name (says (in_range 1 1000000) max ▷ says (in_range 1 64) shards ▷ says (in_range 1 604800) max_ttl ▷ skips listed)
+    (behind_value (in_range 1 1000000) max (says (in_range 1 64) shards ▷ says (in_range 1 604800) max_ttl ▷ skips listed)
+    (behind_value (in_range 1 64) shards (says (in_range 1 604800) max_ttl ▷ skips listed)
+    (behind_value (in_range 1 604800) max_ttl (skips listed) (skips_keep listed)))))
 command_keeps (CacheDetach name) = two_words (codes "cache") (codes "detach") (says pool_of name) (says_keeps pool_of name)
 command_keeps (Expunge name what) = behind_word (codes "expunge") (says pool_of name ▷ covered what) (behind_value pool_of name (covered what) (covered_keeps what))
 command_keeps (SetTimeout millis) = behind_word (codes "timeout") (says (in_range 1 60000) millis) (says_keeps (in_range 1 60000) millis)

@@ -12,6 +12,7 @@ pub mod Sequences
 pub mod TermExact
 pub mod ActionExact
 pub mod OptionExact
+pub mod SkipExact
 pub mod CommandExact
 pub mod EventExact
 pub mod SetupExact

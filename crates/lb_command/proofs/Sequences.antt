@@ -57,6 +57,26 @@ list_again {A} {S} one comma left_in P C again goes (suc most) s b t x [] p l fe
 list_again {A} {S} one comma left_in P C again goes (suc most) s b t x (y ∷ ys) p l few stops =
     rw (again s b x p, goes b l.0 l.1, list_again one comma left_in P C again goes most l.0 l.2.0 t y ys l.2.1 l.2.2 (omega arith) stops) refl
 
+-- no more are read than there may be
+pub listed_few : {A S : Type 0} (one : S → Result (A × S) CommandFault) (comma : S → Bool × S) (left_in : S → Left) (most : ℕ) (s t : S) (xs : List A) → listed one comma left_in most s ≡ Ok (xs, t) → length xs ≤ most
+unfolding listed
+listed_few one comma left_in zero s t xs h =
+    let a = bind_ok (one s) _ (xs, t) h in
+    absurd (let wrong = a.2 in cc)
+listed_few {A} {S} one comma left_in (suc most) s t xs h =
+    let a = bind_ok (one s) _ (xs, t) h in
+    let read = a.2 in
+    elim (cases_Bool (comma a.0.1).0) [
+      | inl e ↦
+          let h1 : (listed one comma left_in most (comma a.0.1).1 >>= λ more. Ok (a.0.0 ∷ more.0, more.1)) ≡ Ok (xs, t) = rw e at read in
+          let b = bind_ok (listed one comma left_in most (comma a.0.1).1) _ (xs, t) h1 in
+          let few = listed_few one comma left_in most (comma a.0.1).1 b.0.1 b.0.0 b.1 in
+          carried (λ (ys : List A) (u : S). length ys ≤ suc most) (a.0.0 ∷ b.0.0) xs b.0.1 t b.2 (omega (arith, few))
+      | inr e ↦
+          let h1 : ◌≡◌ {A = Result (List A × S) CommandFault} (Ok (a.0.0 ∷ [], (comma a.0.1).1)) (Ok (xs, t)) = rw e at read in
+          carried (λ (ys : List A) (u : S). length ys ≤ suc most) (a.0.0 ∷ []) xs (comma a.0.1).1 t h1 (omega arith)
+    ]
+
 after_others : {A : Type 0} (part : A → Part) (xs : List A) (s t : Left) → After part (word (codes ",")) xs s t → others part xs s t
 after_others part [] s t l = l
 after_others part (x ∷ xs) s t l = (l.0, l.1, (l.2.0, l.2.1, after_others part xs l.2.0 t l.2.2))

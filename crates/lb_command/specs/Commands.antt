@@ -16,6 +16,7 @@ use Rattle.lb_command.specs.Reading.{◌>>=◌, due, ended, optional, taken, too
 use Rattle.lb_command.specs.Values.{addr_of, count_of, ident_of, in_range, looked_up, mode_of, name_of, number_of, one, policy_of, pool_of, port_of, type_of, word_number}
 use Rattle.lb_command.specs.Terms.{checked_at}
 use Rattle.lb_command.specs.Actions.{action_at}
+use Rattle.lb_command.specs.Skips.{skips_at}
 use Rattle.lb_command.specs.declared.fault.CommandFault.{CommandFault}
 use Rattle.lb_command.specs.declared.fault.FaultKind.TheVariants as kinds
 use Rattle.lb_command.specs.declared.commands.Verb.{Verb}
@@ -203,14 +204,15 @@ pool_at left = do
   verb ← due kinds.UnknownWord (looked_up pool_verb_words) left
   behind_pool_verb verb.0 verb.1
 
--- PNAME MAX SHARDS MAXTTL
+-- PNAME MAX SHARDS MAXTTL [skip none | skip CODE{,CODE}]
 unfoldable pub cache_attach_at : Left → Result (Command × Left) CommandFault
 cache_attach_at left = do
   pool ← due kinds.BadName pool_of left
   max ← due kinds.BadNumber (in_range 1 1000000) pool.1
   shards ← due kinds.BadNumber (in_range 1 64) max.1
   max_ttl ← due kinds.BadNumber (in_range 1 604800) shards.1
-  Ok (CacheAttach pool.0 max.0 shards.0 max_ttl.0, max_ttl.1)
+  skips ← skips_at max_ttl.1
+  Ok (CacheAttach pool.0 max.0 shards.0 max_ttl.0 skips.0, skips.1)
 
 -- PNAME
 unfoldable pub cache_detach_at : Left → Result (Command × Left) CommandFault

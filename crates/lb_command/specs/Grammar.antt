@@ -11,6 +11,7 @@ use Rattle.lb_servers.specs.declared.pool.PoolName.{PoolName}
 use Rattle.lb_servers.specs.declared.spec.ServerSpec.{ServerSpec}
 use Rattle.lb_cache.specs.declared.cached.Covered.{Covered}
 use Rattle.lb_cache.specs.declared.cached.Covered.TheVariants as covereds
+use Rattle.lb_cache.specs.Skips.{cookie, each_once}
 use Rattle.lb_core.specs.declared.check.CheckSpec.{CheckSpec}
 use Rattle.lb_core.specs.declared.command.Command.{Command}
 use Rattle.lb_core.specs.declared.command.Command.TheVariants.{RuleAdd, RuleRemove, RuleMove, ServerAdd, ServerRemove, ServerMode, PoolAdd, PoolPolicy, CacheAttach, CacheDetach, Expunge, SetTimeout, Show}
@@ -169,6 +170,19 @@ covered (covereds.Name name qtype) = word (codes "name") ▷ says name_of name �
 covered (covereds.Suffix name) = word (codes "suffix") ▷ says name_of name
 covered covereds.All = word (codes "all")
 
+-- skip CODE{,CODE}: 16 codes at most, repeats counted; a repeated one counts once
+abbrev pub code_skips : List ℕ → Part
+code_skips listed left rest =
+    (stated : List ℕ) × (length stated ≤ 16) × (listed ≡ each_once stated) × (word (codes "skip") ▷ comma_list (says word_number) stated) left rest
+
+-- skip none
+abbrev pub no_skips : List ℕ → Part
+no_skips listed left rest = (listed ≡ []) × (word (codes "skip") ▷ word (codes "none")) left rest
+
+-- [skip none | skip CODE{,CODE}]: Cookie if it is not given
+abbrev pub skips : List ℕ → Part
+skips listed = either (code_skips listed) (either (no_skips listed) (λ left rest. (listed ≡ cookie) × (left ≡ rest)))
+
 abbrev pub command : Command → Part
 -- rule add [at PLACE] TERM ACTION
 command (RuleAdd at rule) = word (codes "rule") ▷ word (codes "add") ▷ place at ▷ term rule.term ▷ action rule.action
@@ -186,8 +200,10 @@ command (ServerMode name mode) = word (codes "server") ▷ word (codes "mode") �
 command (PoolAdd name) = word (codes "pool") ▷ word (codes "add") ▷ says pool_of name
 -- pool policy PNAME firstAvailable|leastOutstanding|roundrobin
 command (PoolPolicy name policy) = word (codes "pool") ▷ word (codes "policy") ▷ says pool_of name ▷ says policy_of policy
--- cache attach PNAME MAX SHARDS MAXTTL
-command (CacheAttach name max shards max_ttl) = word (codes "cache") ▷ word (codes "attach") ▷ says pool_of name ▷ says (in_range 1 1000000) max ▷ says (in_range 1 64) shards ▷ says (in_range 1 604800) max_ttl
+-- cache attach PNAME MAX SHARDS MAXTTL [skip none | skip CODE{,CODE}]
+command (CacheAttach name max shards max_ttl listed) =
+    word (codes "cache") ▷ word (codes "attach") ▷ says pool_of name ▷ says (in_range 1 1000000) max ▷ says (in_range 1 64) shards ▷ says (in_range 1 604800) max_ttl
+    ▷ skips listed
 -- cache detach PNAME
 command (CacheDetach name) = word (codes "cache") ▷ word (codes "detach") ▷ says pool_of name
 -- expunge PNAME name NAME [TYPE], expunge PNAME suffix NAME, expunge PNAME all

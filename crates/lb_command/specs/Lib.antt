@@ -5,6 +5,7 @@ pub mod Reading
 pub mod Values
 pub mod Terms
 pub mod Actions
+pub mod Skips
 pub mod Commands
 pub mod Events
 pub mod Setup

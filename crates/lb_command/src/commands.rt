@@ -14,6 +14,7 @@ use crate::parts::{
     addr, ident, max_entries, max_ttl, mode, name, optional_type, policy, pool, port, shards,
     timeout,
 };
+use crate::skips::cache_skips;
 use crate::terms::checked_term;
 use crate::values::look_up;
 use crate::words::Words;
@@ -309,7 +310,7 @@ fn read_pool(words: &mut Words<'_>) -> Result<Command, Unread>
     }
 }
 
-/// `PNAME MAX SHARDS MAXTTL`
+/// `PNAME MAX SHARDS MAXTTL [skip none | skip CODE{,CODE}]`
 #[tactic(auto, unfolding(crate::specs::Commands::cache_attach_at))]
 fn read_cache_attach(words: &mut Words<'_>) -> Result<Command, Unread>
     ensures { Reads (λ command. command) result words.new (cache_attach_at words.old) }
@@ -318,7 +319,8 @@ fn read_cache_attach(words: &mut Words<'_>) -> Result<Command, Unread>
     let max = max_entries(words)?;
     let shards = shards(words)?;
     let max_ttl = max_ttl(words)?;
-    Ok(Command::CacheAttach(pool, max, shards, max_ttl))
+    let skips = cache_skips(words)?;
+    Ok(Command::CacheAttach(pool, max, shards, max_ttl, skips))
 }
 
 /// `PNAME`

@@ -35,8 +35,8 @@ pub enum FaultKind {
     /// Hexadecimal digits are due, and the word is none, is odd, or has over 65,535 octets.
     #[error("hexadecimal digits are due")]
     BadHex,
-    /// A term of depth 17, a 65th term in it, a 1,025th name or mask of a set, a ninth address of an answer, or a ninth pool
-    /// of a server.
+    /// A term of depth 17, a 65th term in it, a 1,025th name or mask of a set, a ninth address of an answer, a ninth pool
+    /// of a server, or a 17th code of a cache's list.
     #[error("a limit is passed")]
     BadTerm,
     /// Memory is wanting.

@@ -10,6 +10,7 @@ mod laws;
 mod options;
 mod parts;
 mod setup;
+mod skips;
 mod terms;
 mod values;
 mod words;

@@ -1,5 +1,5 @@
 -- Connections by their numbers.
-use Rattle.std.specs.Prelude.{◌≡◌, ◌≢◌, ℕ, ◌≤◌, ◌%◌, nat_le, nat_lt, Bool, true, false, List, length, ◌++◌, ◌<◌, ◌^◌, if◌then◌else◌, ◌==◌, Option, Some, None, get_or}
+use Rattle.std.specs.Prelude.{◌≡◌, ◌≢◌, ◌⊎◌, ℕ, ◌≤◌, ◌%◌, nat_le, nat_lt, Bool, true, false, List, [], length, ◌++◌, ◌<◌, ◌^◌, if◌then◌else◌, ◌==◌, Option, Some, None, get_or}
 use Rattle.std.specs.List.{count_by}
 use Rattle.lb_connections.specs.declared.connection.Connection.{Connection}
 use Rattle.lb_frames.specs.Frames.{NoneWhole, framed}
@@ -94,6 +94,18 @@ IsFirst n peer message t = (x : Connection) × (rest : List ℕ) × (at n t ≡ 
 -- no whole message is in what came of the open connection of this number, where there is one
 abbrev pub HasNone : ℕ → Table → Type 0
 HasNone n t = (x : Connection) → at n t ≡ Some x → NoneWhole x.incoming
+
+-- the peer of a connection has closed its side, nothing is left to be answered, and all was written
+pub record IsDone (x : Connection) : Type 0 where
+  pub ended : x.is_ended ≡ true
+  pub owed : x.owed ≡ 0
+  pub written : x.outgoing ≡ []
+  pub none : NoneWhole x.incoming
+
+-- something is to be done for an open connection: it was passed over, or it is at its end
+abbrev pub IsToSee : Option Connection → Type 0
+IsToSee None = ⊥
+IsToSee (Some x) = (x.is_passed_over ≡ true) ⊎ IsDone x
 
 -- the time of a connection is over at this moment
 abbrev pub IsOverdue : ℕ → Connection → Type 0

@@ -1,5 +1,5 @@
 -- What is put behind what a connection is to write.
-use Rattle.std.specs.Prelude.{◌≡◌, ◌+◌, ◌<◌, ◌≤◌, ℕ, List, ◌++◌, length, Some, None}
+use Rattle.std.specs.Prelude.{◌≡◌, ◌⊎◌, ◌+◌, ◌<◌, ◌≤◌, ℕ, false, List, ◌++◌, length, Option, Some, None}
 use Rattle.lb_connections.specs.Table.{Swaps, Table, at}
 use Rattle.lb_connections.specs.declared.connection.Connection.{Connection}
 use Rattle.lb_frames.specs.Frames.{framed}
@@ -9,6 +9,20 @@ use Rattle.lb_lines.specs.declared.report.Why.TheVariants as whys
 -- the most octets that may wait to be written to a connection, 1,024 KiB
 abbrev pub max_waiting : ℕ
 max_waiting = 1048576
+
+-- from more octets than these on that wait, they are written at once
+abbrev pub many_waiting : ℕ
+many_waiting = 65536
+
+-- with this message more octets would wait to be written to an open connection than may
+abbrev pub IsOver : List ℕ → Option Connection → Type 0
+IsOver message None = ⊥
+IsOver message (Some x) = max_waiting < length x.outgoing + length (framed message)
+
+-- an open connection is written before the turn ends: many octets wait, or it is not noted that it is to be written
+abbrev pub IsUrgent : Option Connection → Type 0
+IsUrgent None = ⊥
+IsUrgent (Some x) = (many_waiting < length x.outgoing) ⊎ (x.is_touched ≡ false)
 
 -- a message was put behind what the connection of a number is to write, where no more octets wait now than may
 pub record Puts (n : ℕ) (message : List ℕ) (a b : Table) : Type 0 where

@@ -1,7 +1,7 @@
 //! One connection.
 
 ghost use Rattle.std.specs.Prelude.{[], IfSome, IsTrue, List, None, OnErr, OnOk, Some, drop, false, length, true, ℕ, ◌++◌, ◌+◌, ◌<◌, ◌^◌, ◌≡◌, ◌≤◌};
-ghost use Rattle.lb_connections.specs.Table.{IsOverdue};
+ghost use Rattle.lb_connections.specs.Table.{IsDone, IsOverdue, is_client};
 ghost use Rattle.lb_frames.specs.Frames.{NoneWhole, framed};
 ghost use Rattle.lb_wire.specs.Octets.{max_message};
 
@@ -14,7 +14,7 @@ use std::collections::VecDeque;
 /// The most octets that may wait to be written to a connection.
 const MOST_WAITING: usize = 1_048_576;
 
-/// From more octets than these on that wait, they are written at once, and nothing is read.
+/// If more octets than these wait, they are written at once, and nothing more is read of a client.
 const MANY_WAITING: usize = 65_536;
 
 /// How many octets tell a message's length.
@@ -49,6 +49,16 @@ pub struct Connection {
     pub is_passed_over: bool,
 }
 
+/// Whether a peer is a client.
+fn is_client(peer: Peer) -> bool
+    ensures { result ≡ is_client peer }
+{
+    match peer {
+        Peer::Client(..) => true,
+        Peer::Server(..) => false,
+    }
+}
+
 impl Connection {
     /// A new one. It takes no memory.
     pub fn new(alloc: Global, number: u64, peer: Peer) -> Connection
@@ -78,16 +88,21 @@ impl Connection {
         self.incoming.has_message()
     }
 
-    /// Whether it may be read: no whole message of it waits, and not too much is to be written to it.
+    /// Whether it may be read: no whole message of it waits, and it is a server's or not too much is to be
+    /// written to it. What waits to be written holds back a client alone: a server that writes a reply
+    /// before it reads on would else wait for us for ever, and every query to it with it.
     pub fn may_be_read(&self) -> bool
-        ensures may { IsTrue result → NoneWhole self.now.incoming × (length self.now.outgoing ≤ 65536) }
-        ensures may_not { result ≡ false → NoneWhole self.now.incoming → 65536 < length self.now.outgoing }
+        ensures may { IsTrue result → NoneWhole self.now.incoming × (is_client self.now.peer ≡ true → length self.now.outgoing ≤ 65536) }
+        ensures may_not { result ≡ false → NoneWhole self.now.incoming → (is_client self.now.peer ≡ true) × (65536 < length self.now.outgoing) }
     {
-        !self.incoming.has_message() && self.outgoing.len() <= MANY_WAITING
+        !self.incoming.has_message() && !(is_client(self.peer) && self.is_heavy())
     }
 
     /// Whether so much waits to be written that it is written before the turn ends.
-    pub(crate) fn is_heavy(&self) -> bool {
+    pub(crate) fn is_heavy(&self) -> bool
+        ensures heavy { IsTrue result → 65536 < length self.now.outgoing }
+        ensures light { result ≡ false → length self.now.outgoing ≤ 65536 }
+    {
         self.outgoing.len() > MANY_WAITING
     }
 
@@ -101,10 +116,8 @@ impl Connection {
 
     /// Whether its peer has closed its side, nothing is left to be answered, and all was written.
     pub fn is_finished(&self) -> bool
-        ensures ended { IsTrue result → self.now.is_ended ≡ true }
-        ensures written { IsTrue result → self.now.outgoing ≡ [] }
-        ensures none { IsTrue result → NoneWhole self.now.incoming }
-        ensures found { self.now.is_ended ≡ true → self.now.owed ≡ 0 → self.now.outgoing ≡ [] → NoneWhole self.now.incoming → IsTrue result }
+        ensures done { IsTrue result → IsDone self.now }
+        ensures found { IsDone self.now → IsTrue result }
     {
         self.is_ended && self.owed == 0 && self.outgoing.len() == 0 && !self.incoming.has_message()
     }

@@ -2,7 +2,8 @@
 
 ghost use Rattle.std.specs.Prelude.{IfNone, IfOk, IfSome, IsTrue, None, Some, false, if◌then◌else◌, option_map, true, vec_len, ◌%◌, ◌+◌, ◌<◌, ◌^◌, ◌≡◌, ◌≢◌, ◌≤◌, ◌⊎◌, ℕ};
 ghost use Rattle.std.specs.List.{All};
-ghost use Rattle.lb_connections.specs.Table.{IsGiven, IsNew, IsTo, Narrows, at, at_place, client_count, clients, clients_in, is_none, vacant};
+ghost use Rattle.lb_connections.specs.Writing.{IsOver, IsUrgent};
+ghost use Rattle.lb_connections.specs.Table.{IsGiven, IsNew, IsTo, IsToSee, Narrows, at, at_place, client_count, clients, clients_in, is_none, vacant};
 ghost use Rattle.lb_lines.specs.Counts.{Rose};
 
 use crate::connection::Connection;
@@ -242,32 +243,51 @@ impl Connections {
         self.clients >= MOST_CLIENTS
     }
 
+    /// The open connection of a number.
+    fn open(&self, number: u64) -> Option<&Connection>
+        ensures { option_map (λ x. x.now) result ≡ at number self.now }
+    {
+        if number > self.last {
+            return None;
+        }
+        match &self.slots[place_of(number)] {
+            Some(connection) if connection.number == number => Some(connection),
+            _ => None,
+        }
+    }
+
     /// Whether with this message more octets would wait to be written to a connection than may.
-    pub fn is_over(&self, number: u64, message: &Octets) -> bool {
-        match &self.slots[place_of(number)] {
-            Some(connection) => connection.number == number && connection.is_over(message),
+    pub fn is_over(&self, number: u64, message: &Octets) -> bool
+        ensures over { IsTrue result → IsOver message.now (at number self.now) }
+        ensures within { result ≡ false → IsOver message.now (at number self.now) → ⊥ }
+    {
+        match self.open(number) {
+            Some(connection) => connection.is_over(message),
             None => false,
         }
     }
 
-    /// Whether a connection is written before the turn ends: much waits to be written to it, or there was no memory to note that it is to be
-    /// written.
-    pub fn is_urgent(&self, number: u64) -> bool {
-        match &self.slots[place_of(number)] {
-            Some(connection) => {
-                connection.number == number && (connection.is_heavy() || !connection.is_touched)
-            }
+    /// Whether a connection is written before the turn ends: much waits to be written to it, or there was no
+    /// memory to note that it is to be written.
+    pub fn is_urgent(&self, number: u64) -> bool
+        ensures urgent { IsTrue result → IsUrgent (at number self.now) }
+        ensures waits { result ≡ false → IsUrgent (at number self.now) → ⊥ }
+    {
+        match self.open(number) {
+            Some(connection) => connection.is_heavy() || !connection.is_touched,
             None => false,
         }
     }
 
-    /// Whether nothing is to be done for a connection but to wait: it is not at its end, and was not passed over.
-    pub fn is_settled(&self, number: u64) -> bool {
-        match &self.slots[place_of(number)] {
-            Some(connection) if connection.number == number => {
-                !connection.is_passed_over && !connection.is_finished()
-            }
-            _ => true,
+    /// Whether nothing is to be done for a connection but to wait: it is not at its end, and was not passed
+    /// over.
+    pub fn is_settled(&self, number: u64) -> bool
+        ensures settled { IsTrue result → IsToSee (at number self.now) → ⊥ }
+        ensures unsettled { result ≡ false → IsToSee (at number self.now) }
+    {
+        match self.open(number) {
+            Some(connection) => !connection.is_passed_over && !connection.is_finished(),
+            None => true,
         }
     }
 

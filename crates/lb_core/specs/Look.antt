@@ -1,9 +1,10 @@
 -- Look-up: what a query asks of its pool's cache, and the answer that a kept reply gives it.
-use Rattle.std.specs.Prelude.{if◌then◌else◌, ◌≡◌, ℕ, Bool, not, ◌==◌, ◌&&◌, List, Option, None, Some, option_map}
+use Rattle.std.specs.Prelude.{if◌then◌else◌, ◌≡◌, ℕ, Bool, true, false, not, ◌==◌, ◌&&◌, List, Option, None, Some, option_map}
 use Rattle.lb_wire.specs.Aging.{aged}
 use Rattle.lb_wire.specs.Flags.{opcode_of}
-use Rattle.lb_wire.specs.Key.{key_with_name, with_name}
+use Rattle.lb_wire.specs.Key.{key_of_message, with_name}
 use Rattle.lb_wire.specs.Message.{Message, Lays, message_octets}
+use Rattle.lb_wire.specs.Query.{undesired, view_of}
 use Rattle.lb_wire.specs.declared.ids.CacheId.{CacheId}
 use Rattle.lb_wire.specs.declared.key.Key.{Key}
 use Rattle.lb_wire.specs.declared.query.QueryView.{QueryView}
@@ -15,18 +16,25 @@ use Rattle.lb_core.specs.declared.answer.Answer.{Answer}
 use Rattle.lb_core.specs.declared.answer.Answer.TheVariants.{Local}
 use Rattle.lb_core.specs.declared.answer.LocalReason.TheVariants as locals
 use Rattle.lb_core.specs.Answer.{Leaves}
-use Rattle.lb_cache.specs.Caches.{looked_in}
-use Rattle.lb_core.specs.Forward.{Forwards, sent_of}
+use Rattle.lb_cache.specs.Caches.{looked_in, skips_of}
+use Rattle.lb_cache.specs.declared.cached.AttachedCache.{AttachedCache}
+use Rattle.lb_core.specs.Forward.{Forwards}
 use Rattle.lb_core.specs.Upstream.{Upstreams}
 
 -- whether a query may use a cache: its opcode is 0, and no rule says otherwise
 abbrev pub may_use : QueryView → Routed → Bool
 may_use view routed = opcode_of view.flags.0 == 0 && not routed.skip_cache
 
--- what a query asks of the cache that its pool has: the cache, and the key of the message to be sent
-abbrev pub ask_of : Option CacheId → Kind → List ℕ → QueryView → Routed → Option (CacheId × Key)
-ask_of cache kind bytes view routed =
-    if may_use view routed then option_map (λ id. (id, key_with_name kind view.name (sent_of routed.no_recurse bytes))) cache
+-- the parts of the message to be sent: RD is 0 if a rule says so
+abbrev pub parts_sent : Bool → Message → Message
+parts_sent true m = undesired m
+parts_sent false m = m
+
+-- what a query of these parts asks of the cache that its pool has: the cache, and the key of the
+-- message to be sent by the codes that this cache lists
+abbrev pub ask_of : List AttachedCache → Option CacheId → Kind → Message → Routed → Option (CacheId × Key)
+ask_of caches cache kind m routed =
+    if may_use (view_of m) routed then option_map (λ id. (id, key_of_message (skips_of id caches) kind (parts_sent routed.no_recurse m))) cache
     else None
 
 -- the octets of a hit: the kept ones, each TTL outside OPT lowered by so many seconds, with the query's ID and its spelling of
@@ -50,4 +58,5 @@ AskAnswers ups asked bytes view routed (Some ask) answer new = FoundAnswers ups 
 
 -- a query that a pool is to answer, by its cache or by a server
 abbrev pub PoolAnswers : Upstreams → Asked → List ℕ → QueryView → Routed → Answer → Upstreams → Type 0
-PoolAnswers ups asked bytes view routed answer new = AskAnswers ups asked bytes view routed (ask_of (cache_at ups.pools routed.pool.0) asked.kind bytes view routed) answer new
+PoolAnswers ups asked bytes view routed answer new =
+    (m : Message) × Lays bytes m × (view ≡ view_of m) × AskAnswers ups asked bytes view routed (ask_of ups.caches (cache_at ups.pools routed.pool.0) asked.kind m routed) answer new

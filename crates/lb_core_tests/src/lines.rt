@@ -55,6 +55,7 @@ pub(crate) const TOLD: &[&str] = &[
     "edit 0 expunge - suffix example.com",
     "edit 0 cache attach - 100 4 86400",
     "edit 0 cache attach - 100 5 86400",
+    "edit 0 cache attach - 100 5 86400 skip none",
     "edit 0 expunge - all",
     "edit 0 cache detach -",
     "edit 0 timeout 3000",

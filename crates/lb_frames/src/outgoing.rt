@@ -11,6 +11,10 @@ use std::marker::Model;
 /// How many octets tell a message's length.
 const LENGTH: usize = 2;
 
+/// How many octets of room are kept while nothing waits: a client that once took a megabyte does not hold
+/// it for as long as it is connected.
+const MOST_KEPT: usize = 16_384;
+
 /// Octets that wait to be written to a stream. A contract sees them. What was written is dropped without moving the rest.
 #[derive(Drop)]
 pub struct Outgoing {
@@ -70,11 +74,26 @@ impl Outgoing {
         self.octets.extend_from_slice(message)
     }
 
-    /// Takes octets that were written off the front.
+    /// Takes octets that were written off the front. Once nothing waits, room past 16 KB is given back.
     pub fn advance(&mut self, n: usize)
         requires { n ≤ length self.old }
         ensures { self.new ≡ drop n self.old }
     {
         self.octets.advance(n);
+        if self.octets.is_empty() {
+            self.give_room_back();
+        }
+    }
+
+    /// Gives back the room past what is kept, of octets that are none.
+    fn give_room_back(&mut self)
+        requires { self.old ≡ [] }
+        ensures { self.new ≡ self.old }
+    {
+        self.octets.clear();
+        if self.octets.capacity() > MOST_KEPT {
+            let alloc = *self.octets.allocator();
+            self.octets = BytesMut::new(alloc);
+        }
     }
 }

@@ -7,7 +7,9 @@ ghost use Rattle.lb_cache.specs.Caches.{name_of_key};
 use super::rows::held;
 use Kind::{Datagram, Stream};
 use Told::{Attach, Detach, ExpungeAll, ExpungeName, ExpungeSuffix, Keep, Look};
-use lb_cache::{AttachedCache, Cache, CachedReply, Caches, Covered, MaxEntries, MaxTtl, Shards};
+use lb_cache::{
+    AttachedCache, Cache, CachedReply, Caches, Covered, MaxEntries, MaxTtl, Shards, Skips,
+};
 use lb_name::Name;
 use lb_wire::{CacheId, Kept, Key, Kind, MAX_MESSAGE, Octets, RecordType};
 use std::alloc::{AllocError, Global};
@@ -128,7 +130,7 @@ fn cache(alloc: Global, max: u32) -> Result<Cache, Fail>
     let max = MaxEntries::new(max).ok_or("no such size")?;
     let shards = Shards::new(4).ok_or("no such number of shards")?;
     let ttl = MaxTtl::new(86_400).ok_or("no such life")?;
-    Ok(Cache::new(alloc, max, shards, ttl)?)
+    Ok(Cache::new(alloc, max, shards, ttl, Skips::cookie())?)
 }
 
 /// What one cache is told, and what is wanted of it.
@@ -203,7 +205,9 @@ fn play_one(alloc: Global, max: u32, lines: &[Tells]) -> Result<(), Fail> {
     }
     held(
         lines.len(),
-        cache.max().get() == max && cache.max_ttl().get() == 86_400,
+        cache.max().get() == max
+            && cache.max_ttl().get() == 86_400
+            && cache.skips() == [10].as_slice(),
     )
 }
 
@@ -490,7 +494,11 @@ fn two_caches(rt: HostRuntime) -> Result<(), Fail> {
 /// Whether the cache with a number keeps so many replies at most, each for a day at most.
 fn has_numbers(caches: &Caches, id: u64, max: u32) -> bool {
     match caches.with_id(CacheId(id)) {
-        Some(cache) => cache.max.get() == max && cache.max_ttl.get() == 86_400,
+        Some(cache) => {
+            cache.max.get() == max
+                && cache.max_ttl.get() == 86_400
+                && cache.skips.as_slice() == [10].as_slice()
+        }
         None => false,
     }
 }
@@ -500,4 +508,13 @@ fn numbers_of_a_cache(rt: HostRuntime) -> Result<(), Fail> {
     let mut caches = Caches::new(rt.alloc());
     attach(rt.alloc(), &mut caches, 3, 5, None)?;
     held(0, has_numbers(&caches, 3, 5) && !has_numbers(&caches, 4, 5))
+}
+
+/// Codes stand in the order written, each at its first place.
+#[test]
+fn codes_once(rt: HostRuntime) -> Result<(), Fail> {
+    let skips = Skips::from_codes(&[10, 8, 10, 65535, 8]);
+    held(0, skips.as_slice() == [10, 8, 65535].as_slice())?;
+    held(1, skips.copy().equals(&skips))?;
+    held(2, !skips.equals(&Skips::cookie()))
 }

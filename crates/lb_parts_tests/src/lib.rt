@@ -9,6 +9,8 @@ mod chains;
 #[cfg(test)]
 mod health;
 #[cfg(test)]
+mod indexes;
+#[cfg(test)]
 mod limits;
 #[cfg(test)]
 mod masks;

@@ -5,13 +5,13 @@ mod captured;
 mod printed;
 
 use super::rows::{held, too_much};
-use Case::{Ages, Belongs, Key, Lives, Makes, Query, Replaced, Reply, Respells, Spoofs};
+use Case::{Ages, Belongs, Carries, Key, Lives, Makes, Query, Replaced, Reply, Respells, Spoofs};
 use captured::{CAPTURED, Captured};
 use lb_name::Name;
 use lb_wire::{
     Addr, Class, Kind, MAX_MESSAGE, Octets, Opcode, Opt, QueryFault, QueryView, Rcode, RecordType,
-    ReplyFault, ReplyView, Survey, age, answer_in_place, clear_rd, formerr_in_place, key_of,
-    least_is_outlived, read_query, read_reply, respell, restore_id, spoofed, survey,
+    ReplyFault, ReplyView, Survey, age, answer_in_place, carries, clear_rd, formerr_in_place,
+    key_of, least_is_outlived, read_query, read_reply, respell, restore_id, spoofed, survey,
     truncated_in_place,
 };
 use std::alloc::{AllocError, Global};
@@ -65,8 +65,10 @@ enum Case {
     Query(&'static str, Option<QueryFault>),
     /// What is made of them in place.
     Makes(Made, &'static str, &'static str),
-    /// The octets of a query's key, by how it came.
-    Key(&'static str, Kind, &'static str),
+    /// The octets of a query's key, by how it came, without options of these codes.
+    Key(&'static str, Kind, &'static [u16], &'static str),
+    /// Whether an OPT of a message denies it a life, if these codes are listed.
+    Carries(&'static str, &'static [u16], bool),
     /// The answer with those of these addresses that fit.
     Spoofs(&'static str, &'static [Addr], &'static str),
     /// Whether a reply reads with a question, or why it is none.
@@ -88,7 +90,8 @@ fn holds(alloc: Global, case: &Case) -> Result<bool, Fail> {
     match case {
         Case::Query(text, fault) => is_query(alloc, text, *fault),
         Case::Makes(made, before, after) => makes(alloc, *made, before, after),
-        Case::Key(text, kind, key) => has_key(alloc, text, *kind, key),
+        Case::Key(text, kind, skips, key) => has_key(alloc, text, *kind, skips, key),
+        Case::Carries(text, skips, wanted) => is_carrier(alloc, text, skips, *wanted),
         Case::Spoofs(text, addrs, answer) => spoofs(alloc, text, addrs, answer),
         Case::Reply(text, wanted) => is_reply(alloc, text, *wanted),
         Case::Belongs(text, wanted) => belongs(alloc, text, *wanted),
@@ -284,48 +287,151 @@ fn made_in_place(rt: HostRuntime) -> Result<(), Fail> {
     play(rt.alloc(), MADE)
 }
 
-/// Queries, how they came, and the octets of their keys.
+/// Queries, how they came, the codes that are left out, and the octets of their keys.
 const KEYS: &[Case] = &[
     Key(
         QUERY,
         Kind::Datagram,
+        &[],
         "01000001000000000000076578616d706c6503636f6d0000010001",
     ),
     Key(
         "432101000001000000000000076558614d704c6503436f4d0000010001",
         Kind::Datagram,
+        &[10],
         "01000001000000000000076578616d706c6503636f6d0000010001",
     ),
     // MX, by a stream, with an OPT
     Key(
         "432101000001000000000001076558614d704c6503436f4d00000f00010000290400000080000000",
         Kind::Stream,
+        &[10],
         "01000001000000000001076578616d706c6503636f6d00000f00010000290400000080000000",
+    ),
+    // an OPT with a cookie: left out, or kept
+    Key(
+        "123401000001000000000001076578616d706c6503636f6d0000010001000029100000000000000c000a00080102030405060708",
+        Kind::Datagram,
+        &[10],
+        "01000001000000000001076578616d706c6503636f6d00000100010000291000000000000000",
+    ),
+    Key(
+        "123401000001000000000001076578616d706c6503636f6d0000010001000029100000000000000c000a00080102030405060708",
+        Kind::Datagram,
+        &[],
+        "01000001000000000001076578616d706c6503636f6d0000010001000029100000000000000c000a00080102030405060708",
+    ),
+    // a cookie between NSID and padding of two octets, an octet after the record: two codes of three are listed, in any order
+    Key(
+        "123401000001000000000001076578616d706c6503636f6d0000010001000029100000008000001600030000000a00080102030405060708000c00020000ff",
+        Kind::Datagram,
+        &[12, 10],
+        "01000001000000000001076578616d706c6503636f6d0000010001000029100000008000000400030000ff",
+    ),
+    // a cookie, then three octets that are no option: nothing is left out
+    Key(
+        "123401000001000000000001076578616d706c6503636f6d0000010001000029100000000000000f000a00080102030405060708000a00",
+        Kind::Datagram,
+        &[10],
+        "01000001000000000001076578616d706c6503636f6d0000010001000029100000000000000f000a00080102030405060708000a00",
+    ),
+    // the OPT after another record, a second cookie with no data
+    Key(
+        "123401000001000000000002076578616d706c6503636f6d0000010001c00c000100010000012c0004c00002010000291000000000000010000a00080102030405060708000a0000",
+        Kind::Datagram,
+        &[10],
+        "01000001000000000002076578616d706c6503636f6d0000010001c00c000100010000012c0004c00002010000291000000000000000",
     ),
 ];
 
 /// Whether the key of a query and its copy are these octets.
-fn is_key(alloc: Global, query: &[u8], kind: Kind, wanted: &[u8]) -> Result<bool, Fail> {
+fn is_key(
+    alloc: Global,
+    query: &[u8],
+    kind: Kind,
+    skips: &[u16],
+    wanted: &[u8],
+) -> Result<bool, Fail> {
     let view = read_query(query)?;
     if query.len() > MAX_MESSAGE {
         return Ok(false);
     }
-    let key = key_of(alloc, query, &view, kind)?;
+    let key = key_of(alloc, query, &view, kind, skips)?;
     let copy = key.copy(alloc)?;
     let same = copy.octets.as_slice() == wanted && copy.octets.equals(&key.octets);
     Ok(same && key.kind == kind && copy.kind == kind)
 }
 
 /// The same of digits.
-fn has_key(alloc: Global, query: &str, kind: Kind, wanted: &str) -> Result<bool, Fail> {
+fn has_key(
+    alloc: Global,
+    query: &str,
+    kind: Kind,
+    skips: &[u16],
+    wanted: &str,
+) -> Result<bool, Fail> {
     let query = octets(alloc, query)?;
     let wanted = octets(alloc, wanted)?;
-    is_key(alloc, query.as_slice(), kind, wanted.as_slice())
+    is_key(alloc, query.as_slice(), kind, skips, wanted.as_slice())
 }
 
 #[test]
 fn keys(rt: HostRuntime) -> Result<(), Fail> {
     play(rt.alloc(), KEYS)
+}
+
+/// Messages, codes, and whether an OPT in them denies them a life.
+const CARRIERS: &[Case] = &[
+    Carries(REPLY, &[10], false),
+    // an OPT without options
+    Carries(OPT_QUERY, &[10], false),
+    // a cookie
+    Carries(
+        "001081800001000000000001076578616d706c6503636f6d0000010001000029100000000000000c000a00080102030405060708",
+        &[3, 10],
+        true,
+    ),
+    Carries(
+        "001081800001000000000001076578616d706c6503636f6d0000010001000029100000000000000c000a00080102030405060708",
+        &[3, 12],
+        false,
+    ),
+    Carries(
+        "001081800001000000000001076578616d706c6503636f6d0000010001000029100000000000000c000a00080102030405060708",
+        &[],
+        false,
+    ),
+    // data that is no list of options, whatever is listed; if nothing is, it does not matter
+    Carries(
+        "001081800001000000000001076578616d706c6503636f6d000001000100002910000000000000030001ff",
+        &[65535],
+        true,
+    ),
+    Carries(
+        "001081800001000000000001076578616d706c6503636f6d000001000100002910000000000000030001ff",
+        &[],
+        false,
+    ),
+    // the second OPT has a cookie
+    Carries(
+        "001081800001000000000002076578616d706c6503636f6d000001000100002910000000000000000000291000000000000004000a0000",
+        &[10],
+        true,
+    ),
+];
+
+/// Whether an OPT in a message denies it a life.
+fn is_carrier(alloc: Global, text: &str, skips: &[u16], wanted: bool) -> Result<bool, Fail> {
+    let message = octets(alloc, text)?;
+    if survey(message.as_slice()).is_none() {
+        return Ok(false);
+    }
+    Ok(carries(message.as_slice(), skips) == wanted)
+}
+
+#[test]
+fn carriers(rt: HostRuntime) -> Result<(), Fail> {
+    play(rt.alloc(), CARRIERS)
 }
 
 /// Whether so many octets, which are no more than a message may have, are copied into room that was taken before for the longest

@@ -13,6 +13,9 @@ use std::sync::Wait;
 /// The bytes that are read at once.
 const CHUNK: usize = 4_096;
 
+/// What the answer to a line begins with that does not read.
+const FAULT: &str = "fault ";
+
 /// What came of a step with a client.
 #[derive(Debug, Drop)]
 pub(crate) enum Progress {
@@ -20,6 +23,8 @@ pub(crate) enum Progress {
     Went,
     /// A whole line was answered, and there may be more to do.
     Answered,
+    /// A whole line does not read, and there may be more to do.
+    Faulted,
     /// There is nothing to be read, or nothing of the answer is taken, for now.
     Blocked,
     /// It has ended, or is to be closed.
@@ -149,15 +154,21 @@ impl Client {
         }
     }
 
-    /// Has a line written, in one piece with its line feed. Where memory is wanting for that, the client is to be closed.
+    /// Has a line written, in one piece with its line feed. If memory is wanting for that, the client is to
+    /// be closed.
     fn say(&mut self, line: String) -> Progress {
+        let is_fault = line.starts_with(FAULT);
         let mut bytes = line.into_bytes();
         if bytes.push(b'\n').is_err() {
             return Progress::Ended;
         }
         self.answer = bytes;
         self.written = 0;
-        Progress::Answered
+        if is_fault {
+            Progress::Faulted
+        } else {
+            Progress::Answered
+        }
     }
 }
 

@@ -27,7 +27,7 @@ const CLIENT: Token = Token(2);
 /// The most events that one look gives.
 const EVENTS: usize = 8;
 
-/// How long a client that ends no line is served where another one waits, in milliseconds.
+/// How long a client that ends no line that reads is served if another one waits, in milliseconds.
 const PATIENCE: u64 = 60_000;
 
 /// How long to wait before a client is asked for again that could not be taken in, in milliseconds.
@@ -44,7 +44,7 @@ pub(crate) struct Console<'a, R: Wait + Clock, T: Taker, O: Outside> {
     spare: Option<Registry>,
     listeners: Vec<TcpListener>,
     client: Option<Client>,
-    /// When the client last ended a line, or came.
+    /// When the client last ended a line that reads, or came.
     since: Option<Instant>,
     /// Whether another client may wait.
     has_others: bool,
@@ -133,6 +133,7 @@ impl<'a, R: Wait + Clock, T: Taker, O: Outside> Console<'a, R, T, O> {
         match client.step(self.rt, &mut self.operator)? {
             Progress::Went => Ok(()),
             Progress::Answered => self.note_time(),
+            Progress::Faulted => self.look_round(),
             Progress::Blocked => self.wait_for_client(),
             Progress::Ended => {
                 self.dismiss();
@@ -186,22 +187,35 @@ impl<'a, R: Wait + Clock, T: Taker, O: Outside> Console<'a, R, T, O> {
         Ok(())
     }
 
-    /// Waits for the client; where another one waits, it is closed once it ended no line for a minute.
+    /// Waits for the client. If another one waits, it is closed once it ended no line that reads for a minute.
     fn wait_for_client(&mut self) -> Result<(), Fault> {
         if !self.has_others {
             return self.wait(None);
         }
+        let left = self.left()?;
+        if left.is_zero() {
+            self.dismiss();
+            return Ok(());
+        }
+        self.wait(Some(left))
+    }
+
+    /// Looks whether another client waits, for which this one is closed if its time is over: one whose lines
+    /// do not read may always have a next one to be answered.
+    fn look_round(&mut self) -> Result<(), Fault> {
+        self.wait(Some(Duration::from_millis(0)))?;
+        if self.has_others && self.left()?.is_zero() {
+            self.dismiss();
+        }
+        Ok(())
+    }
+
+    /// How long the client is served still if another one waits.
+    fn left(&self) -> Result<Duration, Fault> {
         let patience = Duration::from_millis(PATIENCE);
-        let past = match &self.since {
-            Some(since) => since.elapsed(self.rt)?,
-            None => patience,
-        };
-        match patience.checked_sub(past) {
-            Some(left) if !left.is_zero() => self.wait(Some(left)),
-            _ => {
-                self.dismiss();
-                Ok(())
-            }
+        match &self.since {
+            Some(since) => Ok(patience.saturating_sub(since.elapsed(self.rt)?)),
+            None => Ok(Duration::from_millis(0)),
         }
     }
 

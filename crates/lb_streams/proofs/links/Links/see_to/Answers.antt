@@ -11,7 +11,7 @@ returns-then-is_finished g c =
     let x : Connection = c.in-Some.connection in
     let new : Net = record { told = g.S.Streams.told c.close.new.self; table = c.take.new.self; device = c.self.inside.device } in
     let drop = drops c.args.number old.table c.take.new.self x c.in-Some.ensures.here c.in-Some.ensures.number.1 c.take.ensures.gone c.take.ensures.others c.in-Some.ensures.clients c.take.ensures.same.0 c.take.ensures.same.1 in
-    subst (λ (z : Net). Goes z new none none) c.self.view_is (goes_finished c.args.number old new x drop (c.is_finished.ensures.ended c.if-is_finished.true) (c.is_finished.ensures.written c.if-is_finished.true) (c.is_finished.ensures.none c.if-is_finished.true) c.close.ensures.same refl)
+    subst (λ (z : Net). Goes z new none none) c.self.view_is (goes_finished c.args.number old new x drop (c.is_finished.ensures.done c.if-is_finished.true).ended (c.is_finished.ensures.done c.if-is_finished.true).written (c.is_finished.ensures.done c.if-is_finished.true).none c.close.ensures.same refl)
 
 pub returns : goal.returns
 returns g c =
