@@ -47,6 +47,7 @@ const NAME_AT: usize = 10;
 /// The key of a query, from which the view was read; RD alone may have been cleared since. If the data
 /// of the query's OPT is a list of options (RFC 6891 section 6.1.2), those of the listed codes are left
 /// out and RDLENGTH is lowered by their octets. The one error is want of memory.
+#[inline(always)]
 pub fn key_of(
     alloc: Global,
     bytes: &[u8],
@@ -116,7 +117,9 @@ fn listed_data(bytes: &[u8], view: &QueryView, skips: &[u16]) -> Option<(DataSpo
     }
 }
 
-/// The octets of a query without its ID, of whose OPT's data so many octets are left.
+/// The octets of a query without its ID, of whose OPT's data so many octets are left. It is a call of
+/// its own, so that the key of a query without such options is made in line.
+#[inline(never)]
 fn with_left(
     alloc: Global,
     bytes: &[u8],

@@ -59,7 +59,8 @@ pub(crate) fn left_len(octets: &[u8], skips: &[u16]) -> Option<usize>
     let mut left = 0usize;
     'options: while place < octets.len() {
         let spot = read_option(octets, place)?;
-        if !skips.contains(&spot.code) {
+        let code = spot.code;
+        if !skips.contains(&code) {
             left += spot.end - place;
         }
         place = spot.end;
@@ -82,7 +83,8 @@ pub(crate) fn push_unlisted(
         let Some(spot) = read_option(octets, place) else {
             unreachable!();
         };
-        if !skips.contains(&spot.code) {
+        let code = spot.code;
+        if !skips.contains(&code) {
             left.extend_from_slice(&octets[place..spot.end])?;
         }
         place = spot.end;
