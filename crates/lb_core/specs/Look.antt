@@ -4,7 +4,7 @@ use Rattle.lb_wire.specs.Aging.{aged}
 use Rattle.lb_wire.specs.Flags.{opcode_of}
 use Rattle.lb_wire.specs.Key.{key_of_message, with_name}
 use Rattle.lb_wire.specs.Message.{Message, Lays, message_octets}
-use Rattle.lb_wire.specs.Query.{undesired, view_of}
+use Rattle.lb_wire.specs.Query.{undesired, view_of, without_recursion}
 use Rattle.lb_wire.specs.declared.ids.CacheId.{CacheId}
 use Rattle.lb_wire.specs.declared.key.Key.{Key}
 use Rattle.lb_wire.specs.declared.query.QueryView.{QueryView}
@@ -25,10 +25,14 @@ use Rattle.lb_core.specs.Upstream.{Upstreams}
 abbrev pub may_use : QueryView → Routed → Bool
 may_use view routed = opcode_of view.flags.0 == 0 && not routed.skip_cache
 
--- the parts of the message to be sent: RD is 0 if a rule says so
+-- the parts of the message to be sent, and its octets: RD is 0 if a rule says so
 abbrev pub parts_sent : Bool → Message → Message
 parts_sent true m = undesired m
 parts_sent false m = m
+
+abbrev pub octets_sent : Bool → List ℕ → List ℕ
+octets_sent true octets = without_recursion octets
+octets_sent false octets = octets
 
 -- what a query of these parts asks of the cache that its pool has: the cache, and the key of the
 -- message to be sent by the codes that this cache lists

@@ -1,0 +1,13 @@
+use Rattle.lb_core.proofs.KeysToSend.{key_sent, named_sent, viewed}
+use Rattle.lb_core.proofs.look.key_of_sent.Goals as goal
+
+pub key_of-key-requires-clause-view : goal.key_of-key-requires-clause-view
+key_of-key-requires-clause-view c = viewed c.cleared_is_laid.ensures c.args.no_recurse c.args.bytes.now c.clear_if.new.bytes c.args.view.now c.requires.view c.clear_if.ensures
+
+pub returns-clause-key : goal.returns-clause-key
+returns-clause-key c =
+    key_sent c.cleared_is_laid.ensures c.args.skips.now c.args.kind c.args.no_recurse c.args.bytes.now c.clear_if.new.bytes c.key_of-key.result c.clear_if.ensures c.key_of-key.ensures
+
+pub returns-clause-name : goal.returns-clause-name
+returns-clause-name c =
+    named_sent c.key_has_name.ensures c.cleared_is_laid.ensures c.args.skips.now c.args.kind c.args.no_recurse c.args.bytes.now c.clear_if.new.bytes c.args.view.now c.key_of-key.result c.requires.view c.clear_if.ensures c.key_of-key.ensures
