@@ -1,13 +1,13 @@
 //! The connections of a loop, by their numbers.
 
-ghost use Rattle.std.specs.Prelude.{IfNone, IfOk, IfSome, IsTrue, None, Some, false, if◌then◌else◌, option_map, true, vec_len, ◌%◌, ◌+◌, ◌<◌, ◌^◌, ◌≡◌, ◌≢◌, ◌≤◌, ◌⊎◌, ℕ};
+ghost use Rattle.std.specs.Prelude.{IfErr, IfNone, IfOk, IfSome, IsTrue, None, Some, false, if◌then◌else◌, length, option_map, true, vec_len, ◌%◌, ◌+◌, ◌<◌, ◌^◌, ◌≡◌, ◌≢◌, ◌≤◌, ◌⊎◌, ℕ};
 ghost use Rattle.std.specs.List.{All};
 ghost use Rattle.lb_connections.specs.Writing.{IsOver, IsUrgent};
 ghost use Rattle.lb_connections.specs.Table.{IsGiven, IsNew, IsTo, IsToSee, Narrows, at, at_place, client_count, clients, clients_in, is_none, vacant};
 ghost use Rattle.lb_lines.specs.Counts.{Rose};
 
 use crate::connection::Connection;
-use lb_lines::{Endpoint, Peer};
+use lb_lines::{Endpoint, Peer, Roster};
 use lb_wire::{Octets, ServerId};
 use std::alloc::{AllocError, Global};
 use std::collections::VecDeque;
@@ -43,6 +43,7 @@ pub struct Connections {
     pub(crate) queue: VecDeque<u64>,
     /// Connections that are to be written at the end of the turn.
     pub(crate) touched: Vec<u64>,
+    /// The connections to servers, by server and upstream socket.
     routes: Vec<Route>,
     /// No connection has to be closed before this moment, in milliseconds.
     due: u64,
@@ -88,6 +89,14 @@ fn clients_of(connection: &Connection) -> usize
         Peer::Client(..) => 1,
         Peer::Server(..) => 0,
     }
+}
+
+/// Where the route to a server by one of its upstream sockets stands, or where it is to stand.
+fn place_in(routes: &[Route], server: ServerId, lane: u8) -> Result<usize, usize>
+    ensures found { IfOk result (λ at. at < length routes.now) }
+    ensures none { IfErr result (λ at. at ≤ length routes.now) }
+{
+    routes.binary_search_by(|route| { route.server.0.cmp(&server.0).then(route.lane.cmp(&lane)) })
 }
 
 impl Connections {
@@ -212,16 +221,17 @@ impl Connections {
         }
     }
 
-    /// The connection that was last begun to a server at this end, by one of its upstream sockets, where it is open.
+    /// The connection that was last begun to a server at this end, by one of its upstream sockets, if it is
+    /// open.
     pub fn route(&self, server: ServerId, lane: u8, end: Endpoint) -> Option<u64>
         ensures { IfSome result (λ n. IsTo n server lane end self.now) }
     {
-        let route = self
-            .routes
-            .iter()
-            .find(|route| route.server.0 == server.0 && route.lane == lane)?;
-        match self.peer_of(route.number) {
-            Some(peer) if peer == Peer::Server(server, lane, end) => Some(route.number),
+        let Ok(at) = place_in(self.routes.as_slice(), server, lane) else {
+            return None;
+        };
+        let number = self.routes[at].number;
+        match self.peer_of(number) {
+            Some(peer) if peer == Peer::Server(server, lane, end) => Some(number),
             _ => None,
         }
     }
@@ -230,9 +240,13 @@ impl Connections {
     pub fn note(&mut self, route: Route) -> Result<(), AllocError>
         ensures same { self.new ≡ self.old }
     {
-        self.routes.retain(|other| other.server.0 != route.server.0 || other.lane != route.lane);
-        self.routes.push(route)?;
-        Ok(())
+        match place_in(self.routes.as_slice(), route.server, route.lane) {
+            Ok(at) => {
+                self.routes[at] = route;
+                Ok(())
+            }
+            Err(at) => Ok(self.routes.insert(at, route)?),
+        }
     }
 
     /// Whether as many clients are connected as may be.
@@ -328,12 +342,18 @@ impl Connections {
         true
     }
 
-    /// Whether the servers' connections were held against another version of the roster than this one, against which they are held now.
-    pub fn is_behind(&mut self, version: u64) -> bool
+    /// Whether the servers' connections were held against another version of the roster than this one,
+    /// against which they are held now. If so, the routes to servers that it has no more are forgotten.
+    pub fn is_behind(&mut self, roster: &Roster) -> bool
         ensures same { self.new ≡ self.old }
     {
-        let version = Some(version);
-        mem::replace(&mut self.version, version) != version
+        let version = Some(roster.version());
+        if mem::replace(&mut self.version, version) == version {
+            return false;
+        }
+        self.routes
+            .retain(|route| roster.get(route.server).is_some());
+        true
     }
 
     /// How many connections are to be written at the end of the turn.

@@ -1,6 +1,6 @@
 //! What is put behind what connections are to write.
 
-ghost use Rattle.std.specs.Prelude.{IfErr, OnErr, OnOk, ◌≡◌};
+ghost use Rattle.std.specs.Prelude.{IfErr, OnOk};
 ghost use Rattle.lb_connections.specs.Writing.{MayNotPut, Puts};
 
 use crate::table::{Connections, place_of};
@@ -8,12 +8,11 @@ use lb_lines::Why;
 use lb_wire::Octets;
 
 impl Connections {
-    /// Puts a message behind what a connection is to write, where it stands, and notes that this is to be written. Where it is not put,
-    /// nothing has changed.
+    /// Puts a message after what a connection is to write, if it is open, and notes that this is to be
+    /// written. If it is not put, nothing has changed, but that a want of memory is counted.
     pub fn promise(&mut self, number: u64, message: &Octets) -> Result<(), Why>
         ensures put { OnOk result (Puts number message.now self.old self.new) }
-        ensures same { OnErr result (self.new ≡ self.old) }
-        ensures why { IfErr result (λ why. MayNotPut number message.now self.old why) }
+        ensures why { IfErr result (λ why. MayNotPut number message.now self.old self.new why) }
     {
         if number > self.last {
             return Err(Why::Gone);
@@ -32,7 +31,10 @@ impl Connections {
                 connection.touch(&mut self.touched);
                 Ok(())
             }
-            Err(refused) => Err(Why::from(refused)),
+            Err(refused) => {
+                self.lacks(refused);
+                Err(Why::from(refused))
+            }
         }
     }
 }

@@ -109,7 +109,7 @@ drops_wanting n a mid b x d e le =
 pub rose_wanting : (a mid b : ℕ) → a ≤ mid → Rose mid b → Rose a b
 rose_wanting a mid b le rose = rose_earlier a mid b le rose
 
-given_of : (t : Table) (n : ℕ) → n < t.next → nat_lt n t.next ≡ true
+pub given_of : (t : Table) (n : ℕ) → n < t.next → nat_lt n t.next ≡ true
 given_of t n lt = grind (arith, nat_tests)
 
 same_of : (n c : ℕ) (old new : Net) → Apart n old.told new.told → c ≢ n → at c new.table ≡ at c old.table → new.table.next ≡ old.table.next → Same (link c old) (link c new)

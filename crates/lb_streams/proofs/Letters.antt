@@ -34,7 +34,7 @@ given_by : (b : Bool) (o : Option Connection) (x : Connection) → (if b then o 
 given_by true o x e = refl
 given_by false o x e = cc
 
-below_at : (n : ℕ) (t : Table) (x : Connection) → at n t ≡ Some x → nat_lt n t.next ≡ true
+pub below_at : (n : ℕ) (t : Table) (x : Connection) → at n t ≡ Some x → nat_lt n t.next ≡ true
 below_at n t x e = given_by (nat_lt n t.next) (at_place n t.slots) x e
 
 one_is : (x y : Connection) → Some x ≡ Some y → x ≡ y
@@ -111,7 +111,7 @@ missed_client old new n bytes whys.Gone is = is
 missed_client old new n bytes whys.Limit is = is
 missed_client old new n bytes whys.Full is = is
 missed_client old new n bytes whys.Device is = is
-missed_client old new n bytes whys.NoMemory is = tt
+missed_client old new n bytes whys.NoMemory is = is
 
 missed_device : (old new : Net) (n : ℕ) (bytes : List ℕ) (why : Why) (X : Type 0) → Misses old new n bytes why → IsTrue (is_by_device (Failed why)) → X
 missed_device old new n bytes whys.NoServer X is t = absurd (true≢false (sym t))

@@ -1,6 +1,7 @@
 pub mod Apart
 pub mod Counting
 pub mod Faring
+pub mod GivingUp
 pub mod Going
 pub mod Letters
 pub mod Lifting

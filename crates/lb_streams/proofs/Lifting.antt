@@ -16,7 +16,7 @@ use Rattle.lb_lines.specs.declared.report.Why.TheVariants as whys
 use Rattle.lb_lines.specs.declared.roster.Listed.{Listed}
 use Rattle.lb_lines.specs.declared.traffic.Front.{Front}
 use Rattle.lb_streams.proofs.Faring.{rose_earlier, rose_later}
-use Rattle.lb_streams.proofs.Then.{closed_before, closed_later, full_before, full_later, number_before, number_later, over_before, over_later, peer_before, peer_later, servers_later}
+use Rattle.lb_streams.proofs.Then.{closed_before, closed_later, full_before, full_later, no_client_later, number_before, number_later, over_before, over_later, peer_before, peer_later, servers_later}
 use Rattle.lb_streams.specs.Goes.{Goes, IsFull, NoNumber, both, none}
 use Rattle.lb_streams.specs.Lines.{AreLines, Comes, ComesClient, ComesPost, ComesServer, ComesTo, FitsConnection, FitsServer, IsClosed, IsLine, by_front, is_http, sends_to}
 use Rattle.lb_streams.specs.Links.{Net}
@@ -31,7 +31,7 @@ fits_later a b c m s sends n bytes whys.Gone two is = over_later n a b c m s two
 fits_later a b c m s sends n bytes whys.Limit two is = full_later n a b c m s (sends n) bytes two is
 fits_later a b c m s sends n bytes whys.Full two is = is
 fits_later a b c m s sends n bytes whys.Device two is = is
-fits_later a b c m s sends n bytes whys.NoMemory two is = tt
+fits_later a b c m s sends n bytes whys.NoMemory two is = no_client_later n b c m s two is
 
 gone_later : (a b c : Net) (m s : ℕ → List (List ℕ)) (X : Type 0) → Goes b c m s → X ⊎ (NoNumber a b ⊎ ((n : ℕ) × IsClosed n a b)) → X ⊎ (NoNumber a c ⊎ ((n : ℕ) × IsClosed n a c))
 gone_later a b c m s X two (inl is) = inl is
@@ -80,7 +80,7 @@ fits_before a b c m s sends n bytes whys.Gone one is = over_before n a b c m s o
 fits_before a b c m s sends n bytes whys.Limit one is = full_before n a b c m s (sends n) bytes one is
 fits_before a b c m s sends n bytes whys.Full one is = is
 fits_before a b c m s sends n bytes whys.Device one is = is
-fits_before a b c m s sends n bytes whys.NoMemory one is = tt
+fits_before a b c m s sends n bytes whys.NoMemory one is = is
 
 gone_before : (a b c : Net) (m s : ℕ → List (List ℕ)) (X : Type 0) → Goes a b m s → X ⊎ (NoNumber b c ⊎ ((n : ℕ) × IsClosed n b c)) → X ⊎ (NoNumber a c ⊎ ((n : ℕ) × IsClosed n a c))
 gone_before a b c m s X one (inl is) = inl is

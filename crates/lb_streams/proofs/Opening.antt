@@ -120,6 +120,23 @@ goes_narrow old new narrow told device =
     }) (omega (arith, failures)) (omega (arith, refusals)) narrow.next (ap (λ (t : Traffic). t.gone) told) (ap (λ (t : Traffic). t.came) told) (ap clients narrow.same) (inl (ap (λ (t : Traffic). t.turned) told))
     (same_noted old.device new.device old.told.failures new.told.failures device failures)
 
+-- want of memory is counted
+pub goes_counted : (old new : Net) → new.table ≡ record old.table { refusals = new.table.refusals } → old.table.refusals ≤ new.table.refusals → new.told ≡ old.told → new.device ≡ old.device → Goes old new none none
+goes_counted old new table more told device =
+    let failures = ap (λ (t : Traffic). t.failures) told in
+    let next : new.table.next ≡ old.table.next = ap (λ (t : Table). t.next) table in
+    goes_quiet old new (λ c. record {
+      given = ap (λ (t : Traffic). octets_of c t.given) told;
+      taken = ap (λ (t : Traffic). octets_of c t.taken) told;
+      came = ap (λ (t : Traffic). of_number c t.came) told;
+      dialed = ap (λ (t : Traffic). of_number c t.dialed) told;
+      ended = ap (λ (t : Traffic). count_by (λ (k : ℕ). k == c) t.ended) told;
+      gone = ap (λ (t : Traffic). count_by (λ (k : ℕ). k == c) t.gone) told;
+      below = λ e. ap (λ (k : ℕ). nat_lt c k) next ∙ e;
+      here = ap (λ (t : Table). at c t) table;
+    }) (omega (arith, failures)) more (omega (arith, next)) (ap (λ (t : Traffic). t.gone) told) (ap (λ (t : Traffic). t.came) told) (ap clients table) (inl (ap (λ (t : Traffic). t.turned) told))
+    (same_noted old.device new.device old.told.failures new.told.failures device failures)
+
 noted_from : (f g h : Option DeviceFault) (a b c : ℕ) → g ≡ f → b ≡ a → Notes g h b c → Notes f h a c
 noted_from f g h a b c e is notes = subst (λ (z : Option DeviceFault). Notes z h a c) e (subst (λ (k : ℕ). Notes g h k c) is notes)
 

@@ -1,6 +1,7 @@
 -- Steps one after the other, and what stays true of them.
-use Rattle.std.proofs.Common.{◌≡◌, ℕ, inl, inr, List, [], ◌++◌, length, refl, sym, ap, ◌∙◌, arith, subst}
+use Rattle.std.proofs.Common.{◌≡◌, ℕ, false, inl, inr, List, [], ◌++◌, length, refl, sym, ap, ◌∙◌, arith, subst}
 use Rattle.std.proofs.lemmas.List.{append-nil}
+use Rattle.lb_connections.specs.Table.{is_client}
 use Rattle.lb_connections.specs.declared.connection.Connection.{Connection}
 use Rattle.lb_lines.specs.declared.endpoint.Endpoint.{Endpoint}
 use Rattle.lb_lines.specs.declared.report.Why.{Why}
@@ -8,7 +9,7 @@ use Rattle.lb_lines.specs.declared.report.Why.TheVariants as whys
 use Rattle.lb_lines.specs.declared.traffic.Peer.{Peer}
 use Rattle.lb_lines.specs.declared.traffic.Peer.TheVariants as peers
 use Rattle.lb_streams.proofs.Faring.{all_on, longer_by, new_later, over_earlier, peer_on, shut_back, shut_on}
-use Rattle.lb_streams.specs.Goes.{Goes, IsFull, IsOver, Misses, NoNumber, both, none}
+use Rattle.lb_streams.specs.Goes.{Goes, IsFull, IsOver, Misses, NoClient, NoNumber, both, none}
 use Rattle.lb_streams.specs.Lines.{IsClosed, IsServers}
 use Rattle.lb_streams.specs.Links.{Fares, IsPeer, Link, Net, NewPeer, link, wants}
 use Rattle.lb_wire.specs.declared.ids.ServerId.{ServerId}
@@ -89,6 +90,14 @@ was_server n b c r q server number to y two is (inr new) = absurd (never_new (li
 pub servers_later : (n : ℕ) (b c : Net) (r q : ℕ → List (List ℕ)) (server : ServerId) (number : ℕ) (to : Endpoint) → Goes b c r q → IsServers n server number to b → IsServers n server number to c
 servers_later n b c r q server number to two is = ((two.fares n).below is.0, λ y e. was_server n b c r q server number to y two is ((two.fares n).own y e).peer)
 
+no_client_was : (n : ℕ) (b c : Net) (r q : ℕ → List (List ℕ)) (y : Connection) → Goes b c r q → NoClient n b → IsPeer (link n b) (link n c) y.peer → is_client y.peer ≡ false
+no_client_was n b c r q y two is (inl was) = ap (λ (p : Peer). is_client p) (sym was.2) ∙ is.1 was.0 was.1
+no_client_was n b c r q y two is (inr new) = absurd (never_new (link n b) (link n c) y.peer ((two.fares n).once is.0).0 ((two.fares n).once is.0).1 new)
+
+-- No client is connected under a number that has none, once it was given.
+pub no_client_later : (n : ℕ) (b c : Net) (r q : ℕ → List (List ℕ)) → Goes b c r q → NoClient n b → NoClient n c
+no_client_later n b c r q two is = ((two.fares n).below is.0, λ y e. no_client_was n b c r q y two is ((two.fares n).own y e).peer)
+
 -- Why a message was not put behind, where nothing was sent before.
 pub misses_before : (a b c : Net) (n : ℕ) (message : List ℕ) (why : Why) → Goes a b none none → Misses b c n message why → Misses a c n message why
 misses_before a b c n message whys.NoServer one is = is
@@ -96,4 +105,4 @@ misses_before a b c n message whys.Gone one is = over_before n a b c none none o
 misses_before a b c n message whys.Limit one is = full_before n a b c none none [] message one is
 misses_before a b c n message whys.Full one is = is
 misses_before a b c n message whys.Device one is = is
-misses_before a b c n message whys.NoMemory one is = tt
+misses_before a b c n message whys.NoMemory one is = is

@@ -1,6 +1,7 @@
 -- What happens to the connections of a loop.
-use Rattle.std.specs.Prelude.{◌≡◌, ◌≢◌, ℕ, ◌+◌, ◌≤◌, ◌^◌, ◌⊎◌, List, [], ◌∷◌, ◌++◌, Option, Some, None, Result, Ok, Err, length, true, false, if◌then◌else◌, ◌==◌}
-use Rattle.lb_connections.specs.Table.{clients}
+use Rattle.std.specs.Prelude.{◌≡◌, ◌≢◌, ℕ, ◌+◌, ◌≤◌, ◌^◌, ◌⊎◌, Bool, List, [], ◌∷◌, ◌++◌, Option, Some, None, Result, Ok, Err, length, true, false, if◌then◌else◌, ◌==◌}
+use Rattle.lb_connections.specs.Table.{clients, is_client}
+use Rattle.lb_connections.specs.declared.connection.Connection.{Connection}
 use Rattle.lb_lines.specs.Counts.{Fails, Rose}
 use Rattle.lb_lines.specs.Moves.{Traffic, TurnedAway}
 use Rattle.lb_lines.specs.declared.report.DeviceFault.{DeviceFault}
@@ -108,11 +109,22 @@ IsOver n old new = (shut (link n new) ≡ true) ⊎ (old.table.next ≤ n)
 abbrev pub IsFull : ℕ → Net → Net → List (List ℕ) → List ℕ → Type 0
 IsFull n old new sends message = (shut (link n old) ≡ false) × (shut (link n new) ≡ true) × Over (link n old) sends message
 
--- why a message is not put behind what a connection is to write
+-- whether a connection is closed to which a message was not put for this cause: where it is at its limit, and that of a client for want of
+-- memory
+abbrev pub is_given_up : Why → Option Connection → Bool
+is_given_up whys.Limit x = true
+is_given_up whys.NoMemory (Some x) = is_client x.peer
+is_given_up why x = false
+
+-- a number that was given, under which no client is connected any more
+abbrev pub NoClient : ℕ → Net → Type 0
+NoClient n new = ((link n new).below ≡ true) × ((y : Connection) → (link n new).here ≡ Some y → is_client y.peer ≡ false)
+
+-- why a message is not put behind what a connection is to write; where there was no memory for it, that of a client is closed
 abbrev pub Misses : Net → Net → ℕ → List ℕ → Why → Type 0
 Misses old new n message whys.Gone = IsOver n old new
 Misses old new n message whys.Limit = IsFull n old new [] message
-Misses old new n message whys.NoMemory = Unit {0}
+Misses old new n message whys.NoMemory = NoClient n new
 Misses old new n message _ = ⊥
 
 -- why there is no connection to a server

@@ -23,7 +23,7 @@ use Rattle.lb_lines.specs.declared.traffic.Front.{Front}
 use Rattle.lb_lines.specs.declared.traffic.Front.TheVariants as fronts
 use Rattle.lb_lines.specs.declared.traffic.Peer.{Peer}
 use Rattle.lb_lines.specs.declared.traffic.Peer.TheVariants as peers
-use Rattle.lb_streams.specs.Goes.{IsFull, IsOver, NoNumber, both}
+use Rattle.lb_streams.specs.Goes.{IsFull, IsOver, NoClient, NoNumber, both}
 use Rattle.lb_streams.specs.Links.{IsPeer, Net, link, shut}
 use Rattle.lb_wire.specs.declared.ids.ServerId.{ServerId}
 use Rattle.lb_wire.specs.declared.transport.Kind.{Kind}
@@ -82,11 +82,12 @@ FitsPost whys.Gone = Unit {0}
 FitsPost whys.NoMemory = Unit {0}
 FitsPost _ = ⊥
 
--- why a message is not sent to a connection: it had ended; or more octets would wait to be written to it than may
+-- why a message is not sent to a connection: it had ended; more octets would wait to be written to it than may; or there was no memory
+-- for it, and then a client's connection is closed
 abbrev pub FitsConnection : Net → Net → (ℕ → List (List ℕ)) → ℕ → List ℕ → Why → Type 0
 FitsConnection old new sends n bytes whys.Gone = IsOver n old new
 FitsConnection old new sends n bytes whys.Limit = IsFull n old new (sends n) bytes
-FitsConnection old new sends n bytes whys.NoMemory = Unit {0}
+FitsConnection old new sends n bytes whys.NoMemory = NoClient n new
 FitsConnection old new sends n bytes _ = ⊥
 
 abbrev pub is_stream : Kind → Bool

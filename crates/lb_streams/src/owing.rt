@@ -44,7 +44,7 @@ impl<S: Streams> Links<S> {
     pub(crate) fn follow(&mut self, roster: &Roster, now: u64)
         ensures { Goes self.old self.new none none }
     {
-        if !self.table.is_behind(roster.version()) {
+        if !self.table.is_behind(roster) {
             return;
         }
         for place in 0..PLACES {

@@ -1,10 +1,11 @@
 //! What is written to connections.
 
 ghost use Rattle.std.specs.Prelude.{IfErr, ◌≡◌};
-ghost use Rattle.lb_streams.specs.Goes.{Goes, Misses, none, noted_by, sent_so};
+ghost use Rattle.lb_connections.specs.Table.{at};
+ghost use Rattle.lb_streams.specs.Goes.{Goes, Misses, is_given_up, none, noted_by, sent_so};
 
 use crate::links::Links;
-use lb_lines::{Streams, Why};
+use lb_lines::{Peer, Streams, Why};
 use lb_wire::Octets;
 
 impl<S: Streams> Links<S> {
@@ -81,19 +82,33 @@ impl<S: Streams> Links<S> {
         }
     }
 
-    /// Puts a message behind what a connection is to write, which is closed where more would wait than may.
+    /// Puts a message after what a connection is to write. The connection is closed if more would wait than
+    /// may, and that of a client if there is no memory for the message: the client would wait for it for
+    /// ever. A server's connection stays, as what it was to be asked expires.
     fn promise(&mut self, number: u64, message: &Octets) -> Result<(), Why>
         ensures goes { Goes self.old self.new none (sent_so result number message.now) }
         ensures why { IfErr result (λ why. Misses self.old self.new number message.now why) }
     {
-        match self.table.promise(number, message) {
-            Ok(()) => Ok(()),
-            Err(Why::Limit) => {
-                let _ = self.table.take(number);
-                self.sockets.close(number);
-                Err(Why::Limit)
-            }
-            Err(why) => Err(why),
+        let why = match self.table.promise(number, message) {
+            Ok(()) => return Ok(()),
+            Err(why) => why,
+        };
+        if !self.is_given_up(number, why) {
+            return Err(why);
+        }
+        let _ = self.table.take(number);
+        self.sockets.close(number);
+        Err(why)
+    }
+
+    /// Whether a connection is closed to which a message was not put for this cause.
+    fn is_given_up(&self, number: u64, why: Why) -> bool
+        ensures { result ≡ is_given_up why (at number self.now.table) }
+    {
+        match why {
+            Why::Limit => true,
+            Why::NoMemory => matches!(self.table.peer_of(number), Some(Peer::Client(..))),
+            _ => false,
         }
     }
 

@@ -1,0 +1,95 @@
+-- A message that is not put behind what a connection is to write, and the connection that is closed for that.
+use Rattle.std.proofs.Common.{◌≡◌, ◌≢◌, ℕ, ◌+◌, ◌<◌, ◌≤◌, true, false, true≢false, List, Option, Some, None, sym, ap, ◌∙◌, arith, subst}
+use Rattle.std.specs.Prelude.{IfSome, nat_lt}
+use Rattle.lb_connections.specs.Table.{Table, at, client_count, clients}
+use Rattle.lb_connections.specs.Writing.{MayNotPut}
+use Rattle.lb_connections.specs.declared.connection.Connection.{Connection}
+use Rattle.lb_lines.specs.declared.report.Why.{Why}
+use Rattle.lb_lines.specs.declared.report.Why.TheVariants as whys
+use Rattle.lb_streams.proofs.Faring.{rose_later}
+use Rattle.lb_streams.proofs.Going.{Drops, drops_taken, full_at, given_of, goes_over, goes_still, goes_wanting, over_at}
+use Rattle.lb_streams.proofs.Letters.{below_at}
+use Rattle.lb_streams.proofs.Opening.{goes_counted}
+use Rattle.lb_streams.specs.Goes.{Goes, Misses, NoClient, is_given_up, none}
+use Rattle.lb_streams.specs.Links.{Net}
+
+-- It is not put, and nothing else is done.
+
+pub goes_unput : (n : ℕ) (old new : Net) (message : List ℕ) (why : Why) → MayNotPut n message old.table new.table why → new.told ≡ old.told → new.device ≡ old.device → Goes old new none none
+goes_unput n old new message whys.Gone is told device = goes_still old new told is.1 device
+goes_unput n old new message whys.Limit is told device = goes_still old new told is.3 device
+goes_unput n old new message whys.NoMemory is told device = goes_counted old new is.4 is.3 told device
+goes_unput n old new message whys.NoServer is told device = absurd is
+goes_unput n old new message whys.Full is told device = absurd is
+goes_unput n old new message whys.Device is told device = absurd is
+
+stays_servers : (n : ℕ) (old new : Net) (x : Connection) → at n old.table ≡ Some x → new.table ≡ record old.table { refusals = new.table.refusals } → is_given_up whys.NoMemory (at n new.table) ≡ false → NoClient n new
+stays_servers n old new x was table kept = (
+  ap (λ (t : Table). nat_lt n t.next) table ∙ below_at n old.table x was,
+  λ y e. sym (ap (λ (o : Option Connection). is_given_up whys.NoMemory o) e) ∙ kept,
+)
+
+pub misses_unput : (n : ℕ) (old new : Net) (message : List ℕ) (why : Why) → MayNotPut n message old.table new.table why → is_given_up why (at n new.table) ≡ false → Misses old new n message why
+misses_unput n old new message whys.Gone is kept = over_at n old new is.0 is.1
+misses_unput n old new message whys.Limit is kept = absurd (true≢false kept)
+misses_unput n old new message whys.NoMemory is kept = stays_servers n old new is.0 is.1 is.4 kept
+misses_unput n old new message whys.NoServer is kept = absurd is
+misses_unput n old new message whys.Full is kept = absurd is
+misses_unput n old new message whys.Device is kept = absurd is
+
+-- Its connection is closed.
+
+-- a connection that was open while want of memory was counted is closed
+drops_counted : (n : ℕ) (a mid b : Table) (x : Connection) → mid ≡ record a { refusals = mid.refusals } → a.refusals ≤ mid.refusals → Drops n mid b x → Drops n a b x
+drops_counted n a mid b x e le d =
+    let refusals = d.refusals in let few = d.clients in
+    let same : clients mid ≡ clients a = ap clients e in
+    record {
+      was = sym (ap (at n) e) ∙ d.was;
+      is = d.is;
+      given = d.given;
+      others = λ c apart. d.others c apart ∙ ap (at c) e;
+      next = d.next ∙ ap (λ (t : Table). t.next) e;
+      refusals = omega (arith, refusals, le);
+      clients = omega (arith, few, same);
+    }
+
+-- a table out of which the connection of a number was taken
+pub record Takes (n : ℕ) (t u : Table) (taken : Option Connection) : Type 0 where
+  pub here : at n t ≡ taken
+  pub number : IfSome taken (λ y. (y.number ≡ n) × (n < u.next))
+  pub gone : at n u ≡ None
+  pub others : (c : ℕ) → c ≢ n → at c u ≡ at c t
+  pub clients : IfSome taken (λ y. clients u + client_count y ≡ clients t)
+  pub next : u.next ≡ t.next
+  pub refusals : u.refusals ≡ t.refusals
+
+drops_so : (n : ℕ) (mid b : Table) (taken : Option Connection) (x : Connection) → at n mid ≡ Some x → Takes n mid b taken → Drops n mid b x
+drops_so n mid b taken x is takes = drops_taken n mid b taken x is takes.here takes.number takes.gone takes.others takes.clients takes.next takes.refusals
+
+none_some : (y : Connection) → None ≡ Some y → ⊥
+none_some y e = cc e
+
+goes_limit : (n : ℕ) (old new : Net) (mid : Table) (message : List ℕ) (taken : Option Connection) → MayNotPut n message old.table mid whys.Limit → Takes n mid new.table taken → new.told ≡ old.told → new.device ≡ old.device
+    → Goes old new none none × Misses old new n message whys.Limit
+goes_limit n old new mid message taken is takes told device =
+    let drop : Drops n old.table new.table is.0 = subst (λ (t : Table). Drops n t new.table is.0) is.3 (drops_so n mid new.table taken is.0 (ap (at n) is.3 ∙ is.1) takes) in
+    (goes_over n old new is.0 message drop is.2 told device, full_at n old new is.0 message drop is.2)
+
+goes_memory : (n : ℕ) (old new : Net) (mid : Table) (message : List ℕ) (taken : Option Connection) → MayNotPut n message old.table mid whys.NoMemory → Takes n mid new.table taken → new.told ≡ old.told → new.device ≡ old.device
+    → Goes old new none none × NoClient n new
+goes_memory n old new mid message taken is takes told device =
+    let after : Drops n mid new.table is.0 = drops_so n mid new.table taken is.0 (ap (at n) is.4 ∙ is.1) takes in
+    let drop : Drops n old.table new.table is.0 = drops_counted n old.table mid new.table is.0 is.4 is.3 after in (
+      goes_wanting n old new is.0 drop (rose_later old.table.refusals mid.refusals new.table.refusals is.2 after.refusals) told device,
+      (given_of new.table n drop.given, λ y e. absurd (none_some y (sym drop.is ∙ e))),
+    )
+
+pub goes_given_up : (n : ℕ) (old new : Net) (mid : Table) (message : List ℕ) (taken : Option Connection) (why : Why) → MayNotPut n message old.table mid why → is_given_up why (at n mid) ≡ true → Takes n mid new.table taken → new.told ≡ old.told → new.device ≡ old.device
+    → Goes old new none none × Misses old new n message why
+goes_given_up n old new mid message taken whys.Gone is given takes told device = absurd (true≢false (sym given))
+goes_given_up n old new mid message taken whys.Limit is given takes told device = goes_limit n old new mid message taken is takes told device
+goes_given_up n old new mid message taken whys.NoMemory is given takes told device = goes_memory n old new mid message taken is takes told device
+goes_given_up n old new mid message taken whys.NoServer is given takes told device = absurd is
+goes_given_up n old new mid message taken whys.Full is given takes told device = absurd is
+goes_given_up n old new mid message taken whys.Device is given takes told device = absurd is
