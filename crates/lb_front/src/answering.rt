@@ -13,6 +13,7 @@ ghost use Rattle.lb_front.specs.declared.heads.First.{First};
 
 use crate::cut::Cut;
 use crate::heads::{Client, First, first_of, read_body};
+use crate::late::{is_over, seconds_from_now};
 use crate::response::{HttpResponse, built};
 use crate::shared::Shared;
 use futures::Future;
@@ -29,7 +30,7 @@ use lb_wire::{MAX_MESSAGE, Octets};
 use std::alloc::Global;
 use std::mem;
 use std::sync::{Arc, Wait};
-use std::time::{Clock, Duration, Instant};
+use std::time::Clock;
 use tokio::time::Sleep;
 
 /// How many seconds a body may take to come.
@@ -198,22 +199,10 @@ impl<R: Wait + Clock + Copy + Drop, T: Taker, O: Outside, W: Waker, F> Answering
         }
     }
 
-    /// The time for the rest of a body. Where there is none to be had, none is kept.
+    /// The time for the rest of a body, if there is one to be had.
     fn limit(&self) -> Option<Sleep> {
         let shared = self.shared.as_ref()?;
-        let now = Instant::now(&self.rt).ok()?;
-        let end = now.checked_add(Duration::from_secs(BODY_SECONDS))?;
-        shared.timers.sleep_until(end).ok()
-    }
-}
-
-/// Whether a time is over. Where it is not, the task is woken when it is.
-fn is_over(late: &mut Option<Sleep>, cx: &mut Context<'_>) -> bool
-    ensures { Keeps cx.old cx.new }
-{
-    match late {
-        Some(sleep) => sleep.poll(cx).is_ready(),
-        None => false,
+        seconds_from_now(&self.rt, &shared.timers, BODY_SECONDS)
     }
 }
 

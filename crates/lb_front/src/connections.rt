@@ -5,10 +5,12 @@ ghost use Rattle.futures.specs.Task.{Keeps};
 
 use crate::answering::Front;
 use crate::heads::Client;
+use crate::paced::Paced;
 use crate::shared::Shared;
 use bytes::Bytes;
+use futures::Future;
+use futures::executor::TaskSet;
 use futures::task::{Context, Poll};
-use futures::{Future, Stream};
 use http_body_util::Full;
 use hyper::rt::TokioTimer;
 use hyper::server::conn::http1;
@@ -65,7 +67,9 @@ pub(crate) struct Maker<R: Clock + Copy, T: Taker, O: Outside, W: Waker> {
 }
 
 impl<R: Wait + Clock + Copy + Drop, T: Taker, O: Outside, W: Waker> Make for Maker<R, T, O, W> {
-    type Served = Served<Connection<TcpStream, Front<R, T, O, W>, Full<Bytes>, TokioTimer<R>>>;
+    type Served = Served<
+        Connection<Paced<R, TcpStream>, Front<R, T, O, W>, Full<Bytes>, TokioTimer<R>>,
+    >;
 
     fn make(&self, socket: TcpStream, client: Client, place: OwnedSemaphorePermit) -> Self::Served {
         let front = Front {
@@ -74,6 +78,7 @@ impl<R: Wait + Clock + Copy + Drop, T: Taker, O: Outside, W: Waker> Make for Mak
             client,
             shared: Arc::try_clone(&self.shared).ok(),
         };
+        let socket = Paced::new(self.rt, self.shared.timers.clone().ok(), socket);
         Served {
             connection: self.http.serve_connection(socket, front),
             place,
@@ -81,16 +86,18 @@ impl<R: Wait + Clock + Copy + Drop, T: Taker, O: Outside, W: Waker> Make for Mak
     }
 }
 
-/// The connections of the listeners, each of which has one of the places while it stands, until the flag is set. A client that finds no place
-/// is closed at once.
+/// Takes in the clients of the listeners until the flag is set. Each has one of the places while its connection stands. A client that finds no
+/// place, or no memory for its connection, is closed at once; the others stay.
 #[derive(Drop)]
-pub(crate) struct Connections<M> {
+pub(crate) struct Accepting<'a, M: Make> {
     pub(crate) listeners: Vec<(u8, TcpListener)>,
     pub(crate) maker: M,
     pub(crate) places: Arc<Semaphore>,
     pub(crate) stop: Arc<AtomicBool>,
     /// So often the flag is looked at.
     pub(crate) looks: Interval,
+    /// The connections that stand.
+    pub(crate) tasks: &'a TaskSet<M::Served>,
 }
 
 /// The next client of some listeners, with the place of its listener.
@@ -108,7 +115,7 @@ fn next_client(
     None
 }
 
-impl<M: Make> Connections<M> {
+impl<M: Make> Accepting<'_, M> {
     /// The future of a connection, where there is a place for it.
     fn take_in(&self, place: u8, socket: TcpStream, end: SocketAddr) -> Option<M::Served>
         ensures { IfSome result M.Served.can_poll }
@@ -119,23 +126,24 @@ impl<M: Make> Connections<M> {
     }
 }
 
-impl<M: Make> Stream for Connections<M> {
-    type Item = M::Served;
+impl<M: Make> Future for Accepting<'_, M> {
+    type Output = ();
 
-    ghost yields = { λ _ _ last. IfSome last M.Served.can_poll };
-
-    fn poll_next(&mut self, cx: &mut Context<'_>) -> Poll<Option<M::Served>> {
+    fn poll(&mut self, cx: &mut Context<'_>) -> Poll<()> {
         if self.stop.load(Ordering::SeqCst) {
-            return Poll::Ready(None);
+            return Poll::Ready(());
         }
         match next_client(&mut self.listeners, cx) {
-            Some((place, socket, end)) => match self.take_in(place, socket, end) {
-                Some(served) => Poll::Ready(Some(served)),
-                None => cx.yield_now(),
-            },
+            Some((place, socket, end)) => {
+                if let Some(served) = self.take_in(place, socket, end) {
+                    // What comes back found no memory, and is closed.
+                    let _ = self.tasks.spawn(served);
+                }
+                cx.yield_now()
+            }
             None => match self.looks.poll_tick(cx) {
                 Poll::Ready(Ok(_)) => cx.yield_now(),
-                Poll::Ready(Err(_)) => Poll::Ready(None),
+                Poll::Ready(Err(_)) => Poll::Ready(()),
                 Poll::Pending => Poll::Pending,
             },
         }

@@ -2,7 +2,7 @@
 
 ghost use Rattle.std.specs.Prelude.{IfOk, IsSome, None, Ok, length, ◌<◌, ◌≡◌};
 
-use crate::connections::{Connections, Make, Maker};
+use crate::connections::{Accepting, Make, Maker};
 use crate::cut::FrontFault;
 use crate::shared::Shared;
 use hyper::rt::TokioTimer;
@@ -195,14 +195,16 @@ fn serve<R: Wait + Clock + Net + RandomSource + AllocGlobal, M: Make>(
         .handle()
         .time()
         .interval(rt, Duration::from_millis(LOOK))?;
-    let connections = Connections {
+    let tasks = runtime.task_set(rt)?;
+    let accepting = Accepting {
         listeners,
         maker,
         places,
         stop,
         looks,
+        tasks: &tasks,
     };
-    Ok(runtime.run_all(rt, connections)?)
+    Ok(runtime.block_on_with(rt, &tasks, accepting)?)
 }
 
 /// What makes connections that share this.
@@ -246,6 +248,8 @@ fn settings<R: Clock + RandomSource + Copy + Drop>(
     let mut http = Builder::new(alloc, RandomState::new(&rt)?).timer(timer);
     http.max_buf_size(HEAD);
     http.auto_date_header(false);
+    // A client may close its side behind its request.
+    http.half_close(true);
     http.header_read_timeout(Some(Duration::from_secs(HEAD_SECONDS)));
     Ok(http)
 }
