@@ -13,7 +13,7 @@ pub enum LoopFault {
     /// Waiting for sockets failed, or there was no moment or random word to be had.
     #[error("device fault")]
     Device,
-    /// A turn found no room for its report.
+    /// A loop found no room to begin.
     #[error("no memory")]
     NoMemory,
     /// A gate held an event.

@@ -88,7 +88,11 @@ fn one_of_datagrams<S: Datagrams, T: Taker, O: Outside, G: Gate, W: Waker>(
 ) -> Result<(), LoopFault>
     ensures { T.answered part.old.taker ≤ T.answered part.new.taker }
 {
-    let report = part.turn(roster, &around.gate)?;
+    let report = match part.turn(roster, &around.gate) {
+        Ok(report) => report,
+        // Nothing was done, and a later turn does it.
+        Err(_refused) => return Ok(part.wait(WAIT)?),
+    };
     around.behind(&report)?;
     let is_idle = report.lines.is_empty();
     part.take_back(report.lines);
@@ -168,7 +172,11 @@ fn one_of_streams<R: Wait, S: Streams, T: Taker, O: Outside, P: Posts, G: Gate, 
     ensures answered { part.old.answered ≤ part.new.answered }
     ensures received { ReceivesOn part.old.jobs part.new.jobs }
 {
-    let report = stream_turn(rt, part, roster, &around.gate)?;
+    let report = match stream_turn(rt, part, roster, &around.gate) {
+        Ok(report) => report,
+        // Nothing was done, and a later turn does it.
+        Err(_refused) => return Ok(part.wait(WAIT)?),
+    };
     around.behind(&report)?;
     let is_idle = report.lines.is_empty();
     part.take_back(report.lines);
@@ -248,7 +256,11 @@ fn one_of_ticks<R: Wait, S: Datagrams, P: Posts, T: Taker, O: Outside, G: Gate, 
     ensures answered { part.old.answered ≤ part.new.answered }
     ensures sent { SendsOn part.old.outbox part.new.outbox }
 {
-    let report = clock_turn(rt, part, roster, &around.gate)?;
+    let report = match clock_turn(rt, part, roster, &around.gate) {
+        Ok(report) => report,
+        // Nothing was done, and a later turn does it.
+        Err(_refused) => return Ok(part.wait(WAIT)?),
+    };
     around.behind(&report)?;
     if report.lines.iter().any(is_job) {
         around.streams.wake();

@@ -88,7 +88,7 @@ fn under(index: &SuffixIndex, name: &Name) -> (u64, usize) {
     for _ in 0..3 {
         if let Some(rank) = walk.next() {
             sum = sum.saturating_add(rank);
-            count += 1;
+            count = count.saturating_add(1);
         }
     }
     (sum, count)

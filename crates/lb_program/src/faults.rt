@@ -125,6 +125,17 @@ fn refused_line(number: u64, fault: EditFault) -> ArrayVec<u8, MAX_TEXT>
     line
 }
 
+/// The line that reports how many calls a balancer had. It takes no memory.
+pub fn closed_line(count: u64) -> ArrayVec<u8, MAX_TEXT>
+    ensures { result.items ≡ codes "closed " ++ decimal count ++ codes "\n" }
+{
+    let mut line = ArrayVec::new();
+    put(&mut line, "closed ");
+    put_number(&mut line, count);
+    put(&mut line, "\n");
+    line
+}
+
 /// Puts a text behind a line.
 fn put(line: &mut ArrayVec<u8, MAX_TEXT>, text: &str)
     requires { array_vec_len line.old + length text.now ≤ 128 }

@@ -13,7 +13,7 @@ mod setup;
 mod shown;
 
 pub use checking::{check, check_input};
-pub use faults::{Ended, Stop};
+pub use faults::{Ended, Stop, closed_line};
 pub use input::FullCount;
 pub use output::write_line;
 pub use replaying::{replay, replay_told};

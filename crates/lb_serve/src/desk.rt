@@ -13,7 +13,7 @@ use lb_core::Balancer;
 use lb_desk::{CloseFault, Desk, Naming, Seat};
 use lb_doh::posts_cross_threads;
 use lb_loops::{Caller, Ended, callers_cross_threads};
-use lb_program::{Setup, write_line};
+use lb_program::{Setup, closed_line, write_line};
 use lb_sockets::{
     moments_cross_threads, sockets_cross_threads, streams_cross_threads, wakers_are_shared,
 };
@@ -104,7 +104,7 @@ fn serve_named<
         return Err(Fault::Closing(CloseFault::MissingSeat));
     };
     match run_at_desk(rt, alloc, &desk, five, setup, listening, output) {
-        Ok(left) => close(alloc, desk, seats, left, output),
+        Ok(left) => close(desk, seats, left, output),
         Err(fault) => Err(fault),
     }
 }
@@ -149,9 +149,8 @@ fn gathered<J: Naming>(
     Ok(seats)
 }
 
-/// Closes the desk, and tells how many calls it had: on the output, and to the client that said stop.
+/// Closes the desk, and reports how many calls it had: on the output, and to the client that said stop.
 fn close<J: Naming, W: Write>(
-    alloc: Global,
     desk: Desk<J>,
     seats: Vec<Seat<J>>,
     left: Left<J>,
@@ -165,7 +164,7 @@ fn close<J: Naming, W: Write>(
     } = left;
     let seats = gathered(seats, five)?;
     match counted(desk, seats) {
-        Ok(count) => tell_closed(alloc, count, client, output),
+        Ok(count) => tell_closed(count, client, output),
         Err(fault) => Err(fault),
     }
 }
@@ -180,27 +179,15 @@ fn counted<J: Naming>(desk: Desk<J>, seats: Vec<Seat<J>>) -> Result<u64, Fault>
     }
 }
 
-/// Tells how many calls there were.
-fn tell_closed<W: Write>(
-    alloc: Global,
-    count: u64,
-    client: Option<TcpStream>,
-    output: &mut W,
-) -> Result<(), Fault>
+/// Reports how many calls there were. It takes no memory, so that it is reported however little there is.
+fn tell_closed<W: Write>(count: u64, client: Option<TcpStream>, output: &mut W) -> Result<(), Fault>
     ensures { (old : Option (List ℕ)) (opening : Snapshot) (limit : ℕ) → Closes opening limit count → Appends old (W.contents output.old) ready_text → Served opening limit old (W.contents output.new) result }
 {
-    let line = closed_line(alloc, count)?;
+    let line = closed_line(count);
     if let Some(mut client) = client {
-        let _ = client.write(line.as_bytes());
+        let _ = client.write(line.as_slice());
     }
-    told(write_line(output, line.as_bytes()))
-}
-
-/// The line that tells how many calls there were, with its line feed.
-fn closed_line(alloc: Global, count: u64) -> Result<String, AllocError>
-    ensures { IfOk result (λ line. string_bytes line ≡ closed_text count) }
-{
-    format!(in alloc; "closed {count}\n")
+    told(write_line(output, line.as_slice()))
 }
 
 /// An output that fails ends serving.
