@@ -1,10 +1,11 @@
 /* Refuses requests for memory of the program into which it is loaded (LD_PRELOAD), for tools/refuse.
 
    REFUSE=K refuses the K-th request, from 1; REFUSE_EACH=K each K-th. A request is a call of malloc or realloc, or of
-   calloc, from the program's begin on. REFUSE_FD=N names a descriptor, to which it writes `ASKED REFUSED` as the program
+   calloc, from the program's begin on, or with REFUSE_ON_SIGNAL=1 once it got the signal USR1. REFUSE_FD=N names a descriptor, to which it writes `ASKED REFUSED` as the program
    ends: how many requests there were, and how many were refused. */
 #define _GNU_SOURCE
 #include <errno.h>
+#include <signal.h>
 #include <stdatomic.h>
 #include <stdio.h>
 #include <stdlib.h>
@@ -17,7 +18,8 @@ extern void *__libc_calloc(size_t count, size_t size);
 
 static atomic_long asked, refused;
 static long which, each;
-static int told = -1, is_begun;
+static int told = -1;
+static volatile sig_atomic_t is_begun;
 
 static long number_in(const char *name)
 {
@@ -25,12 +27,21 @@ static long number_in(const char *name)
     return text ? atol(text) : 0;
 }
 
+static void begin_now(int which_signal)
+{
+    (void)which_signal;
+    is_begun = 1;
+}
+
 __attribute__((constructor)) static void begin(void)
 {
     which = number_in("REFUSE");
     each = number_in("REFUSE_EACH");
     told = getenv("REFUSE_FD") ? (int)number_in("REFUSE_FD") : -1;
-    is_begun = 1;
+    if (number_in("REFUSE_ON_SIGNAL"))
+        signal(SIGUSR1, begin_now);
+    else
+        is_begun = 1;
 }
 
 static int is_refused(void)
