@@ -54,6 +54,13 @@ none_left a (r ∷ b) records k count whole number many less =
     let size = ap (λ (rs : List Record). length rs) whole ∙ length-append a (r ∷ b) in
     absurd (omega (arith, size, number, many, less))
 
+-- if an OPT is among records of which the first are none, others are left
+pub some_todo : (before todo records : List Record) → records ≡ before ++ todo → opts before ≡ [] → 0 < length (opts records) → 0 < length todo
+some_todo before [] records whole none some =
+    let size = ap (λ (rs : List Record). length (opts rs)) (whole ∙ append-nil before) ∙ ap (λ (rs : List Record). length rs) none in
+    absurd (omega (arith, size, some))
+some_todo before (r ∷ todo) records whole none some = omega arith
+
 opts_by : (r : Record) (b : Bool) → is_opt r ≡ b → opts (r ∷ []) ≡ (if b then r ∷ [] else [])
 opts_by r true is = rw is refl
 opts_by r false is = rw is refl
@@ -61,11 +68,6 @@ opts_by r false is = rw is refl
 -- a record more that is no OPT
 opts_more : (before : List Record) (r : Record) → opts before ≡ [] → is_opt r ≡ false → opts (before ++ r ∷ []) ≡ []
 opts_more before r none other = filter-append is_opt before (r ∷ []) ∙ ap (λ (rs : List Record). rs ++ opts (r ∷ [])) none ∙ opts_by r false other
-
--- the record at the place, among all
-pub next_there : (go : LabelsGoOn) (bytes : List ℕ) (at place end k count : ℕ) (read : Record) (records : List Record) (rest : List ℕ) (past : PastOthers bytes at place k records rest) → IsRecord read → drop place bytes ≡ record_octets read ++ drop end bytes → length records ≡ count → k < count → First bytes end read past.todo rest
-next_there go bytes at place end k count read records rest past is here many less =
-    first_of go bytes place end read past.todo rest is here past.each past.there (some_left past.before past.todo records k count past.whole past.number many less)
 
 -- a record that is no OPT is passed
 pub PastOthers-more : (bytes : List ℕ) (at place end k : ℕ) (r : Record) (records : List Record) (rest : List ℕ) (past : PastOthers bytes at place k records rest) → First bytes end r past.todo rest → drop place bytes ≡ record_octets r ++ drop end bytes → end ≡ place + length (record_octets r) → is_opt r ≡ false → PastOthers bytes at end (k + 1) records rest
@@ -86,19 +88,10 @@ PastOthers-more bytes at place end k r records rest past first here ends other =
       place_is = omega (arith, past.place_is, ends, size);
     }
 
--- if all are passed, none is an OPT
-pub PastOthers-all : (bytes : List ℕ) (at place k count : ℕ) (records : List Record) (rest : List ℕ) (past : PastOthers bytes at place k records rest) → length records ≡ count → count ≤ k → opts records ≡ []
-PastOthers-all bytes at place k count records rest past many all =
-    ap (λ (rs : List Record). opts rs) (none_left past.before past.todo records k count past.whole past.number many all) ∙ past.none
-
+-- if records are left, one stands at the place
 pub no_first_of : (bytes : List ℕ) (place : ℕ) (todo : List Record) (rest : List ℕ) → AllByRecursion IsRecord todo → drop place bytes ≡ flat_map record_octets todo ++ rest → 0 < length todo → ((r : Record) (x : List ℕ) → IsRecord r → drop place bytes ≡ record_octets r ++ x → ⊥) → ⊥
 no_first_of bytes place [] rest each there some none = omega arith
 no_first_of bytes place (s ∷ others) rest each there some none = none s (flat_map record_octets others ++ rest) each.0 (there ∙ append_assoc (record_octets s) (flat_map record_octets others) rest)
-
--- if no record stands at the place, none is left
-pub no_first : (bytes : List ℕ) (at place k count : ℕ) (records : List Record) (rest : List ℕ) (past : PastOthers bytes at place k records rest) → length records ≡ count → k < count → ((r : Record) (x : List ℕ) → IsRecord r → drop place bytes ≡ record_octets r ++ x → ⊥) → ⊥
-no_first bytes at place k count records rest past many less none =
-    no_first_of bytes place past.todo rest past.each past.there (some_left past.before past.todo records k count past.whole past.number many less) none
 
 -- TYPE, CLASS and TTL on the wire
 abbrev pub before_size : Record → List ℕ

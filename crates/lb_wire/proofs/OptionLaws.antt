@@ -52,7 +52,7 @@ are_read octets options are =
     ap (λ (xs : List ℕ). options_within (length xs) xs) are.parts ∙ all_read (length own) options are.each (omega arith)
 
 -- the number that stands at a place is the one that is read there
-number_is : (octets rest : List ℕ) (at n : ℕ) → n < 2 ^ 16 → drop at octets ≡ two_octets n ++ rest → number_at octets at ≡ n
+pub number_is : (octets rest : List ℕ) (at n : ℕ) → n < 2 ^ 16 → drop at octets ≡ two_octets n ++ rest → number_at octets at ≡ n
 number_is octets rest at n fits here = ap (λ (xs : List ℕ). from_be_bytes w16 (take 2 xs)) here ∙ from_be_bytes-to_be_bytes_2 n fits
 
 -- the option at the front of octets that are long enough

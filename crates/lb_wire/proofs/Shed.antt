@@ -1,19 +1,19 @@
 -- Messages without the options of listed codes.
-use Rattle.std.proofs.Common.{◌≡◌, ℕ, ◌+◌, ◌≤◌, Bool, true, false, ◌==◌, List, [], ◌∷◌, ◌++◌, length, take, drop, map, filter, Option, None, Some, if◌then◌else◌, is_some, not, Result, Ok, Err, Vec, Global, refl, sym, subst, ◌∙◌, ap, arith}
-use Rattle.std.proofs.lemmas.List.{append_assoc, map-append, length-append, drop_at}
+use Rattle.std.proofs.Common.{◌≡◌, ℕ, ◌+◌, ◌-◌, ◌≤◌, Bool, true, false, ◌==◌, List, [], ◌∷◌, ◌++◌, length, take, drop, map, filter, Option, None, Some, if◌then◌else◌, is_some, not, Result, Ok, Err, Vec, Global, refl, sym, subst, ◌∙◌, ap, arith}
+use Rattle.std.proofs.lemmas.List.{append_assoc, append-nil, map-append, length-append, length-take, length-drop, drop_at, drop-take, drop-append-le}
+use Rattle.std.proofs.Math.Seq.{take-add}
 use Rattle.std.proofs.lemmas.List.Elements.{filter-append}
 use Rattle.std.specs.List.{flat_map}
-use Rattle.lb_wire.specs.Record.{owner_octets, fixed_octets, Record, record_octets, Holds}
+use Rattle.lb_wire.specs.Record.{owner_octets, fixed_octets, Record, record_octets}
 use Rattle.lb_wire.specs.Opt.{is_opt, opts, first_opt}
-use Rattle.lb_wire.specs.Message.{Message, Lays, OneMessage, IsHeader, header_octets, question_octets, message_octets, count_of}
-use Rattle.lb_wire.specs.Options.{EdnsOption, option_octets, AreOptions, options_of, is_listed, is_unlisted, left_of, without_listed, shed_record, shed, DataStands, put_left}
+use Rattle.lb_wire.specs.Message.{Message, Lays, OneMessage, header_octets, question_octets, message_octets}
+use Rattle.lb_wire.specs.Options.{EdnsOption, option_octets, AreOptions, options_of, is_listed, is_unlisted, left_of, without_listed, shed_record, shed, DataStands, HoldsOpt, data_at, put_left}
 use Rattle.std.proofs.lemmas.Bool.Decides.{nat_tests}
-use Rattle.lb_wire.specs.declared.header.Header.{Header}
 use Rattle.lb_wire.specs.declared.opt.Opt.{Opt}
-use Rattle.std.specs.Prelude.{IfOk}
+use Rattle.std.specs.Prelude.{◌<◌, IfOk, IsSome}
 use Rattle.lb_wire.specs.BigEndian.{two_octets}
+use Rattle.lb_wire.proofs.Lists.{put_at}
 use Rattle.lb_wire.proofs.Made.{cut_there}
-use Rattle.lb_wire.proofs.Lays.{lays_header}
 use Rattle.lb_wire.proofs.OptionLists.{left_octets}
 use Rattle.lb_wire.proofs.OptionLaws.{AreOctets, octets_left, octets_right, read_are}
 
@@ -138,15 +138,20 @@ shed_nothing bytes m each lays =
     let behind = octets_right (question_octets m.name m.qtype m.qclass) (flat_map record_octets m.records ++ m.rest) (octets_right (header_octets m.header) (question_octets m.name m.qtype m.qclass ++ (flat_map record_octets m.records ++ m.rest)) all) in
     ap (λ (rs : List Record). record m { records = rs }) (same_records m.records (octets_left (flat_map record_octets m.records) m.rest behind))
 
--- the records of a message stand after its question
-pub held_there : (bytes : List ℕ) (m : Message) (h : Header) (end count : ℕ) → Lays bytes m → IsHeader h → bytes ≡ header_octets h ++ drop 12 bytes → end ≡ 12 + length (question_octets m.name m.qtype m.qclass) → count ≡ count_of h → Holds count (drop end bytes) m.records m.rest
-held_there bytes m h end count lays fits front ends is =
+-- an OPT that is told of is there
+some_opt : (found : List Record) → IsSome (first_opt found) → 0 < length found
+some_opt [] is = cc is
+some_opt (r ∷ records) is = omega arith
+
+-- the records of a message stand after its question, an OPT among them
+pub held_there : (bytes : List ℕ) (m : Message) (end : ℕ) (told : Option Opt) → Lays bytes m → end ≡ 12 + length (question_octets m.name m.qtype m.qclass) → told ≡ first_opt (opts m.records) → IsSome told → HoldsOpt (drop end bytes) m.records m.rest
+held_there bytes m end told lays ends opt is =
     let q = question_octets m.name m.qtype m.qclass in
     let tail = flat_map record_octets m.records ++ m.rest in
-    let size : length (header_octets m.header ++ q) ≡ end = omega (arith, ends) in
+    let size : length (header_octets m.header ++ q) ≡ end = omega (arith, ends, length-append (header_octets m.header) q) in
     record {
       each = lays.each;
-      number = lays.number ∙ sym (is ∙ ap (λ (x : Header). count_of x) (lays_header bytes m h lays fits front));
+      some = some_opt (opts m.records) (subst (λ (o : Option Opt). IsSome o) opt is);
       parts = ap (λ (xs : List ℕ). drop end xs) (lays.parts ∙ sym (append_assoc (header_octets m.header) q tail)) ∙ drop_at (header_octets m.header ++ q) tail end size;
     }
 
@@ -197,3 +202,37 @@ shed_put one skips bytes place size_at end own m lays_own lays few is stands =
 pub each_put : {E : Type 0} (skips bytes : List ℕ) (size_at end : ℕ) (made : Result (Vec ℕ Global) E) → IfOk made (λ octets. octets.items ≡ drop 2 (put_left skips size_at end bytes)) → ((m : Message) → Lays bytes m → put_left skips size_at end bytes ≡ message_octets (shed skips m)) → IfOk made (λ octets. (m : Message) → Lays bytes m → octets.items ≡ drop 2 (message_octets (shed skips m)))
 each_put skips bytes size_at end (Ok octets) made each = λ m lays. made ∙ ap (λ (xs : List ℕ). drop 2 xs) (each m lays)
 each_put skips bytes size_at end (Err error) made each = tt
+
+-- what stands before an RDLENGTH and an RDLENGTH, what is left of the data, and what stands after it, without the ID
+pub put_by : (skips bytes held front mid all : List ℕ) (size_at end n : ℕ) → 2 ≤ size_at → size_at ≤ length bytes → held ≡ data_at size_at end bytes → n ≡ length (without_listed skips held) → front ≡ drop 2 (take size_at bytes ++ two_octets n) → mid ≡ front ++ without_listed skips held → all ≡ mid ++ drop end bytes → all ≡ drop 2 (put_left skips size_at end bytes)
+put_by skips bytes held front mid all size_at end n long within is many front_is mid_is all_is =
+    let a = take size_at bytes in
+    let l = without_listed skips held in
+    let d = drop end bytes in
+    let size : 2 ≤ length (a ++ two_octets n) = omega (arith, length-append a (two_octets n)) in
+    all_is
+    ∙ ap (λ (xs : List ℕ). xs ++ d) (mid_is ∙ ap (λ (xs : List ℕ). xs ++ l) front_is)
+    ∙ append_assoc (drop 2 (a ++ two_octets n)) l d
+    ∙ sym (drop-append-le 2 (a ++ two_octets n) (l ++ d) size)
+    ∙ ap (λ (xs : List ℕ). drop 2 xs) (append_assoc a (two_octets n) (l ++ d))
+    ∙ ap (λ (k : ℕ). drop 2 (a ++ (two_octets k ++ (l ++ d)))) many
+    ∙ ap (λ (xs : List ℕ). drop 2 (a ++ (two_octets (length (without_listed skips xs)) ++ (without_listed skips xs ++ d)))) is
+
+-- the octets before an RDLENGTH, and another RDLENGTH in its place, without the ID
+pub resized : (bytes size : List ℕ) (size_at : ℕ) → length size ≡ 2 → 2 ≤ size_at → size_at + 2 ≤ length bytes → (take (size_at - 2) (take size_at (drop 2 bytes)) ++ size) ++ drop (size_at - 2 + length size) (take size_at (drop 2 bytes)) ≡ drop 2 (take size_at bytes ++ size)
+resized bytes size size_at two long within =
+    let at = size_at - 2 in
+    let ys = drop 2 bytes in
+    let a = take at ys in
+    let b = take 2 (drop at ys) in
+    let many : length ys ≡ length bytes - 2 = length-drop 2 bytes in
+    let upto : size_at ≡ at + 2 = omega arith in
+    let parts : take size_at ys ≡ a ++ (b ++ []) = ap (λ (k : ℕ). take k ys) upto ∙ take-add at 2 ys ∙ ap (λ (xs : List ℕ). a ++ xs) (sym (append-nil b)) in
+    let front : length a ≡ at = omega (arith, length-take at ys, many, within) in
+    let piece : length b ≡ 2 = omega (arith, length-take 2 (drop at ys), length-drop at ys, many, within) in
+    let before : drop 2 (take size_at bytes) ≡ a = ap (λ (k : ℕ). drop 2 (take k bytes)) (omega arith) ∙ drop-take 2 at bytes in
+    let size_a : 2 ≤ length (take size_at bytes) = omega (arith, length-take size_at bytes, within, long) in
+    put_at a b size [] (take size_at ys) at (piece ∙ sym two) parts (sym front)
+    ∙ ap (λ (xs : List ℕ). a ++ xs) (append-nil size)
+    ∙ ap (λ (xs : List ℕ). xs ++ size) (sym before)
+    ∙ sym (drop-append-le 2 (take size_at bytes) size size_a)

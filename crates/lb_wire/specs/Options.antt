@@ -1,8 +1,8 @@
 -- The options of an OPT (RFC 6891 section 6.1.2), and messages without those of listed codes.
-use Rattle.std.specs.Prelude.{◌≡◌, ℕ, zero, suc, ◌+◌, ◌-◌, ◌<◌, ◌^◌, Bool, true, false, List, [], ◌∷◌, ◌++◌, length, take, drop, map, filter, Option, None, Some, option_map, ◌==◌, ◌&&◌, nat_le, if◌then◌else◌}
+use Rattle.std.specs.Prelude.{◌≡◌, ℕ, zero, suc, ◌+◌, ◌-◌, ◌<◌, ◌≤◌, ◌^◌, Bool, true, false, List, [], ◌∷◌, ◌++◌, length, take, drop, map, filter, Option, None, Some, option_map, ◌==◌, ◌&&◌, nat_le, if◌then◌else◌}
 use Rattle.std.specs.List.{flat_map, list_any, AllByRecursion}
 use Rattle.lb_wire.specs.BigEndian.{two_octets, number_at}
-use Rattle.lb_wire.specs.Record.{Record, record_octets}
+use Rattle.lb_wire.specs.Record.{Record, IsRecord, record_octets}
 use Rattle.lb_wire.specs.Opt.{is_opt, opts}
 use Rattle.lb_wire.specs.Message.{Message}
 
@@ -91,6 +91,12 @@ carries_of (code ∷ skips) m = list_any (is_carrier (code ∷ skips)) m.records
 abbrev pub data_at : ℕ → ℕ → List ℕ → List ℕ
 data_at size_at end bytes = take (end - (size_at + 2)) (drop (size_at + 2) bytes)
 
+-- records stand at the front of the octets, an OPT among them, and the rest after them
+pub record HoldsOpt (octets : List ℕ) (records : List Record) (rest : List ℕ) : Type 0 where
+  pub each : AllByRecursion IsRecord records
+  pub some : 0 < length (opts records)
+  pub parts : octets ≡ flat_map record_octets records ++ rest
+
 -- the first OPT of records that stand at a place, its RDLENGTH and data standing up to another place: with other data in it
 -- the octets differ there alone
 pub record DataStands (bytes : List ℕ) (at : ℕ) (records : List Record) (rest : List ℕ) (size_at end : ℕ) : Type 0 where
@@ -103,9 +109,13 @@ pub record DataStands (bytes : List ℕ) (at : ℕ) (records : List Record) (res
   pub is_data : data_at size_at end bytes ≡ opt.rdata
   pub changed : (rdata : List ℕ) → take at bytes ++ (flat_map record_octets (before ++ record opt { rdata = rdata } ∷ after) ++ rest) ≡ take size_at bytes ++ (two_octets (length rdata) ++ (rdata ++ drop end bytes))
 
--- the data is a list of options, and so many octets of it are left
-abbrev pub IsLeft : List ℕ → List ℕ → ℕ → Type 0
-IsLeft skips rdata left = (options : List EdnsOption) × (options_of rdata ≡ Some options) × (left ≡ length (flat_map option_octets (filter (is_unlisted skips) options)))
+-- an RDLENGTH stands there in the octets, after two others, with its data after it up to another place
+abbrev pub StandsIn : ℕ → ℕ → List ℕ → Type 0
+StandsIn size_at end bytes = (2 ≤ size_at) × (size_at + 2 ≤ end) × (end ≤ length bytes) × (end < size_at + 2 + 2 ^ 16)
+
+-- the data is a list of options
+abbrev pub IsList : List ℕ → Type 0
+IsList rdata = (options : List EdnsOption) × (options_of rdata ≡ Some options)
 
 -- the octets with what is left of the data at a place, and its length, in place of the data and its length
 abbrev pub put_left : List ℕ → ℕ → ℕ → List ℕ → List ℕ

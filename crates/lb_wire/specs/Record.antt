@@ -2,7 +2,7 @@
 use Rattle.std.specs.Prelude.{◌≡◌, ℕ, ◌+◌, ◌/◌, ◌%◌, ◌^◌, ◌<◌, ◌≤◌, List, [], ◌∷◌, ◌++◌, length, Option, None, Some}
 use Rattle.std.specs.List.{flat_map, AllByRecursion}
 use Rattle.lb_name.specs.Name.{IsLabel, labels_octets}
-use Rattle.lb_wire.specs.BigEndian.{two_octets, four_octets}
+use Rattle.lb_wire.specs.BigEndian.{two_octets, four_octets, number_at}
 
 -- the owner of a record: labels, then the root or a pointer (section 4.1.4). The RFC has the pointer followed to the rest
 -- of the name: here it is never followed, so that it may point anywhere, and the owner ends with it
@@ -60,3 +60,7 @@ pub record Holds (count : ℕ) (octets : List ℕ) (records : List Record) (rest
   pub each : AllByRecursion IsRecord records
   pub number : length records ≡ count
   pub parts : octets ≡ flat_map record_octets records ++ rest
+
+-- the place after the data of an RDLENGTH that stands at a place
+abbrev pub end_at : ℕ → List ℕ → ℕ
+end_at size_at bytes = size_at + 2 + number_at bytes size_at

@@ -1,17 +1,18 @@
 //! The key by which the packet cache knows a query.
 
-ghost use Rattle.std.specs.Prelude.{◌≡◌, ◌≤◌, length, drop, vec_len, IfOk, IfSome, IfNone, Some};
+ghost use Rattle.std.specs.Prelude.{◌≡◌, ◌≤◌, length, drop, vec_len, IfOk, IfSome, IfNone, IsSome, OnOk, Some, []};
 ghost use Rattle.lb_wire.specs.Message.{Message, Lays, message_octets};
+ghost use Rattle.lb_wire.specs.BigEndian.{two_octets};
 ghost use Rattle.lb_wire.specs.Opt.{opts};
-ghost use Rattle.lb_wire.specs.Options.{DataStands, IsLeft, data_at, put_left, shed};
+ghost use Rattle.lb_wire.specs.Options.{DataStands, IsList, StandsIn, data_at, put_left, shed, without_listed};
 ghost use Rattle.lb_wire.specs.Query.{Views};
+ghost use Rattle.lb_wire.specs.Record.{end_at};
 ghost use Rattle.lb_wire.specs.Key.{key_of_message};
 ghost use Rattle.lb_wire.specs.Octets.{max_message};
 
-use crate::header::record_count;
 use crate::laws::one_message;
-use crate::octets::Octets;
-use crate::opt_data::{DataSpot, data_of, find_data};
+use crate::octets::{Octets, overwrite};
+use crate::opt_data::{data_at_size, data_of, find_data};
 use crate::options::{left_len, push_unlisted};
 use crate::query::QueryView;
 use crate::transport::Kind;
@@ -71,6 +72,7 @@ pub fn key_of(
 }
 
 /// The octets of a query without its ID and without the options of listed codes.
+#[inline(always)]
 fn without_options(
     alloc: Global,
     bytes: &[u8],
@@ -83,8 +85,8 @@ fn without_options(
 {
     // a law: the call does nothing
     one_message();
-    match listed_data(bytes, view, skips) {
-        Some((spot, left)) => with_left(alloc, bytes, spot, left, skips),
+    match data_to_shed(bytes, view, skips) {
+        Some(size_at) => with_left(alloc, bytes, size_at, skips),
         None => {
             let (_, kept) = bytes.split_at(ID_LEN);
             Vec::from_slice(alloc, kept)
@@ -92,59 +94,126 @@ fn without_options(
     }
 }
 
-/// Where the data of a query's OPT stands, and how many octets of it are left without the options of
-/// listed codes. `None` if it holds no such option.
-fn listed_data(bytes: &[u8], view: &QueryView, skips: &[u16]) -> Option<(DataSpot, u16)>
+/// Where the RDLENGTH of a query's OPT stands, if the OPT holds an option of a listed code.
+#[inline(always)]
+fn data_to_shed(bytes: &[u8], view: &QueryView, skips: &[u16]) -> Option<usize>
     requires view { (m : Message) × Lays bytes.now m × (length (opts m.records) ≤ 1) × Views view.now m }
-    ensures within { IfSome result (λ d. (2 ≤ d.0.size_at) × (d.0.size_at + 2 ≤ d.0.end) × (d.0.end ≤ length bytes.now)) }
-    ensures left { IfSome result (λ d. IsLeft skips.now (data_at d.0.size_at d.0.end bytes.now) d.1) }
-    ensures found { IfSome result (λ d. (m : Message) → Lays bytes.now m → DataStands bytes.now view.now.question_end m.records m.rest d.0.size_at d.0.end) }
+    ensures within { IfSome result (λ at. StandsIn at (end_at at bytes.now) bytes.now) }
+    ensures read { IfSome result (λ at. IsList (data_at at (end_at at bytes.now) bytes.now)) }
+    ensures found { IfSome result (λ at. (m : Message) → Lays bytes.now m → DataStands bytes.now view.now.question_end m.records m.rest at (end_at at bytes.now)) }
+    ensures none { IfNone result ((m : Message) → Lays bytes.now m → shed skips.now m ≡ m) }
+{
+    // a law: the call does nothing
+    one_message();
+    if skips.is_empty() || view.opt.is_none() {
+        return None;
+    }
+    listed_data(bytes, view, skips)
+}
+
+/// The same, for a query with an OPT. It is a call of its own, so that the key of a query without one is
+/// made in few registers.
+#[inline(never)]
+fn listed_data(bytes: &[u8], view: &QueryView, skips: &[u16]) -> Option<usize>
+    requires opt { IsSome view.now.opt }
+    requires view { (m : Message) × Lays bytes.now m × (length (opts m.records) ≤ 1) × Views view.now m }
+    ensures within { IfSome result (λ at. StandsIn at (end_at at bytes.now) bytes.now) }
+    ensures read { IfSome result (λ at. IsList (data_at at (end_at at bytes.now) bytes.now)) }
+    ensures found { IfSome result (λ at. (m : Message) → Lays bytes.now m → DataStands bytes.now view.now.question_end m.records m.rest at (end_at at bytes.now)) }
     ensures none { IfNone result ((m : Message) → Lays bytes.now m → shed skips.now m ≡ m) }
 {
     // laws: the calls do nothing
     one_message();
     labels_go_on();
-    if skips.is_empty() || view.opt.is_none() {
-        return None;
-    }
-    let spot = find_data(bytes, view.question_end, record_count(bytes))?;
+    let spot = find_data(bytes, view.question_end);
     let data = data_of(bytes, spot);
     let left = left_len(data, skips)?;
     if left < data.len() {
-        Some((spot, left as u16))
+        Some(spot.size_at)
     } else {
         None
     }
 }
 
-/// The octets of a query without its ID, of whose OPT's data so many octets are left. It is a call of
-/// its own, so that the key of a query without such options is made in line.
+/// The octets of a query without its ID and without the options of listed codes, which the data of its
+/// OPT holds.
 #[inline(never)]
 fn with_left(
     alloc: Global,
     bytes: &[u8],
-    spot: DataSpot,
-    left: u16,
+    size_at: usize,
     skips: &[u16],
 ) -> Result<Vec<u8>, AllocError>
-    requires within { (2 ≤ spot.size_at) × (spot.size_at + 2 ≤ spot.end) × (spot.end ≤ length bytes.now) }
-    requires left { IsLeft skips.now (data_at spot.size_at spot.end bytes.now) left }
-    ensures octets { IfOk result (λ octets. octets.items ≡ drop 2 (put_left skips.now spot.size_at spot.end bytes.now)) }
+    requires within { StandsIn size_at (end_at size_at bytes.now) bytes.now }
+    requires read { IsList (data_at size_at (end_at size_at bytes.now) bytes.now) }
+    ensures octets { IfOk result (λ octets. octets.items ≡ drop 2 (put_left skips.now size_at (end_at size_at bytes.now) bytes.now)) }
     ensures short { IfOk result (λ octets. vec_len octets ≤ length bytes.now) }
 {
-    let (front, _) = bytes.split_at(spot.size_at);
-    let (_, front) = front.split_at(ID_LEN);
+    let spot = data_at_size(bytes, size_at);
+    let data = data_of(bytes, spot);
+    let Some(left) = left_len(data, skips) else {
+        unreachable!();
+    };
     let (_, after) = bytes.split_at(spot.end);
-    let size = left.to_be_bytes();
-    let mut octets = Vec::with_capacity(
-        alloc,
-        front.len() + size.len() + usize::from(left) + after.len(),
-    )?;
-    octets.extend_from_slice(front)?;
-    octets.extend_from_slice(&size)?;
-    push_unlisted(&mut octets, data_of(bytes, spot), skips)?;
-    octets.extend_from_slice(after)?;
+    let mut octets = Vec::with_capacity(alloc, size_at + left + after.len())?;
+    push_front(&mut octets, bytes, size_at, left as u16)?;
+    push_left(&mut octets, data, left, skips)?;
+    push_after(&mut octets, after)?;
     Ok(octets)
+}
+
+/// Puts into an empty list what stands before an RDLENGTH, without the ID, and an RDLENGTH.
+#[inline(always)]
+fn push_front(
+    octets: &mut Vec<u8>,
+    bytes: &[u8],
+    size_at: usize,
+    size: u16,
+) -> Result<(), AllocError>
+    requires empty { octets.old.items ≡ [] }
+    requires within { (2 ≤ size_at) × (size_at + 2 ≤ length bytes.now) }
+    ensures octets { OnOk result (octets.new.items ≡ drop 2 (take size_at bytes.now ++ two_octets size)) }
+    ensures len { OnOk result (vec_len octets.new ≡ size_at) }
+{
+    let size = size.to_be_bytes();
+    // RDLENGTH is copied with what stands before it, and is then written anew.
+    let (_, kept) = bytes.split_at(ID_LEN);
+    let (front, _) = kept.split_at(size_at);
+    octets.extend_from_slice(front)?;
+    overwrite(octets.as_mut_slice(), size_at - ID_LEN, &size);
+    Ok(())
+}
+
+/// Appends the options of unlisted codes, which have so many octets.
+#[inline(always)]
+fn push_left(
+    octets: &mut Vec<u8>,
+    data: &[u8],
+    left: usize,
+    skips: &[u16],
+) -> Result<(), AllocError>
+    requires read { IsList data.now }
+    requires left { left ≡ length (without_listed skips.now data.now) }
+    ensures octets { OnOk result (octets.new.items ≡ octets.old.items ++ without_listed skips.now data.now) }
+    ensures short { OnOk result (vec_len octets.new ≤ vec_len octets.old + length data.now) }
+{
+    // Most queries have no option but a cookie.
+    if left > 0 {
+        push_unlisted(octets, data, skips)?;
+    }
+    Ok(())
+}
+
+/// Appends what stands after an OPT.
+#[inline(always)]
+fn push_after(octets: &mut Vec<u8>, after: &[u8]) -> Result<(), AllocError>
+    ensures octets { OnOk result (octets.new.items ≡ octets.old.items ++ after.now) }
+{
+    // Most queries have no record after their OPT.
+    if !after.is_empty() {
+        octets.extend_from_slice(after)?;
+    }
+    Ok(())
 }
 
 ghost use Rattle.std.specs.Prelude.{◌+◌, ◌++◌, take, map};

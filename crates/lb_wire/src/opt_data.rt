@@ -1,10 +1,10 @@
 //! The data of a message's OPT.
 
-ghost use Rattle.std.specs.Prelude.{◌≡◌, ℕ, ◌+◌, ◌<◌, ◌≤◌, ◌^◌, List, [], length, drop, IfSome, IfNone};
-ghost use Rattle.lb_wire.specs.Record.{Record, Holds};
-ghost use Rattle.lb_wire.specs.Opt.{opts};
-ghost use Rattle.lb_wire.specs.Options.{DataStands, data_at};
+ghost use Rattle.std.specs.Prelude.{◌≡◌, ℕ, ◌+◌, ◌≤◌, List, length, drop};
+ghost use Rattle.lb_wire.specs.Record.{Record, end_at};
+ghost use Rattle.lb_wire.specs.Options.{DataStands, HoldsOpt, StandsIn, data_at};
 
+use crate::big_endian::read_u16;
 use crate::record::{Spot, read_record};
 use crate::record_type::RecordType;
 use lb_name::labels_go_on;
@@ -35,24 +35,38 @@ pub(crate) fn data_after(spot: Spot) -> DataSpot
     }
 }
 
-/// Where the data of the first OPT among so many records from a place on stands.
-pub(crate) fn find_data(bytes: &[u8], at: usize, count: u32) -> Option<DataSpot>
-    requires { at ≤ length bytes.now }
-    ensures within { IfSome result (λ spot. (2 ≤ spot.size_at) × (spot.size_at + 2 ≤ spot.end) × (spot.end ≤ length bytes.now) × (spot.end < spot.size_at + 2 + 2 ^ 16)) }
-    ensures found { IfSome result (λ spot. (records : List Record) (rest : List ℕ) → Holds count (drop at bytes.now) records rest → DataStands bytes.now at records rest spot.size_at spot.end) }
-    ensures none { IfNone result ((records : List Record) (rest : List ℕ) → Holds count (drop at bytes.now) records rest → opts records ≡ []) }
+/// Where the data of the first OPT among the records from a place on stands. There is one, so the
+/// records need not be counted.
+pub(crate) fn find_data(bytes: &[u8], at: usize) -> DataSpot
+    requires within { at ≤ length bytes.now }
+    requires held { (records : List Record) × (rest : List ℕ) × HoldsOpt (drop at bytes.now) records rest }
+    ensures within { StandsIn result.size_at result.end bytes.now }
+    ensures found { (records : List Record) (rest : List ℕ) → HoldsOpt (drop at bytes.now) records rest → DataStands bytes.now at records rest result.size_at result.end }
+    ensures sized { result.end ≡ end_at result.size_at bytes.now }
 {
     // a law: the call does nothing
     labels_go_on();
     let mut place = at;
-    'records: for _ in 0..count {
-        let spot = read_record(bytes, place)?;
+    'records: loop {
+        let Some(spot) = read_record(bytes, place) else {
+            unreachable!();
+        };
         if spot.rtype.0 == RecordType::OPT.0 {
-            return Some(data_after(spot));
+            return data_after(spot);
         }
         place = spot.end;
     }
-    None
+}
+
+/// Where the data of an RDLENGTH stands.
+pub(crate) fn data_at_size(bytes: &[u8], size_at: usize) -> DataSpot
+    requires { size_at + 2 ≤ length bytes.now }
+    ensures { (result.size_at ≡ size_at) × (result.end ≡ end_at size_at bytes.now) }
+{
+    DataSpot {
+        size_at,
+        end: size_at + SIZE_LEN + usize::from(read_u16(bytes, size_at)),
+    }
 }
 
 /// The data that stands there.

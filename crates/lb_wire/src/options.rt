@@ -1,7 +1,7 @@
 //! The options of an OPT.
 
-ghost use Rattle.std.specs.Prelude.{◌≡◌, ℕ, ◌+◌, ◌<◌, ◌≤◌, List, ◌++◌, length, drop, filter, vec_len, IfSome, IfNone, OnOk, Some, None};
-ghost use Rattle.std.specs.List.{flat_map};
+ghost use Rattle.std.specs.Prelude.{◌≡◌, ◌==◌, ℕ, ◌+◌, ◌<◌, ◌≤◌, List, ◌++◌, length, drop, filter, vec_len, IfSome, IfNone, OnOk, Some, None};
+ghost use Rattle.std.specs.List.{flat_map, list_any};
 ghost use Rattle.lb_wire.specs.BigEndian.{number_at};
 ghost use Rattle.lb_wire.specs.Options.{EdnsOption, IsOption, AreOptions, option_octets, options_of, is_unlisted};
 
@@ -49,18 +49,31 @@ fn read_option(octets: &[u8], at: usize) -> Option<OptionSpot>
     Some(OptionSpot { code, end })
 }
 
+/// Whether a code is listed. Lists are short.
+#[inline(always)]
+fn is_listed(skips: &[u16], code: u16) -> bool
+    ensures { result ≡ list_any (λ c. c == code) skips.now }
+{
+    'codes: for listed in skips {
+        if *listed == code {
+            return true;
+        }
+    }
+    false
+}
+
 /// How many octets are left of an OPT's data without the options of listed codes. `None` if it is no
 /// list of options.
 pub(crate) fn left_len(octets: &[u8], skips: &[u16]) -> Option<usize>
     ensures found { IfSome result (λ len. (options : List EdnsOption) × AreOptions octets.now options × (options_of octets.now ≡ Some options) × (len ≡ length (flat_map option_octets (filter (is_unlisted skips.now) options)))) }
     ensures none { IfNone result (options_of octets.now ≡ None) }
+    ensures short { IfSome result (λ len. len ≤ length octets.now) }
 {
     let mut place = 0usize;
     let mut left = 0usize;
     'options: while place < octets.len() {
         let spot = read_option(octets, place)?;
-        let code = spot.code;
-        if !skips.contains(&code) {
+        if !is_listed(skips, spot.code) {
             left += spot.end - place;
         }
         place = spot.end;
@@ -83,8 +96,7 @@ pub(crate) fn push_unlisted(
         let Some(spot) = read_option(octets, place) else {
             unreachable!();
         };
-        let code = spot.code;
-        if !skips.contains(&code) {
+        if !is_listed(skips, spot.code) {
             left.extend_from_slice(&octets[place..spot.end])?;
         }
         place = spot.end;

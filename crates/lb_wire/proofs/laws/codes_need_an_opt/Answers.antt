@@ -1,7 +1,7 @@
 use Rattle.std.proofs.Common.{◌≡◌, ℕ, List, [], sym, ◌∙◌, ap}
 use Rattle.std.specs.Prelude.{drop}
 use Rattle.lb_name.specs.Name.{lower_name}
-use Rattle.lb_wire.specs.Key.{key_of_message, with_name}
+use Rattle.lb_wire.specs.Key.{with_name}
 use Rattle.lb_wire.specs.Message.{Message, message_octets}
 use Rattle.lb_wire.specs.Options.{shed}
 use Rattle.lb_wire.specs.declared.key.Key.{Key}

@@ -1,6 +1,8 @@
-use Rattle.std.proofs.Common.{◌≡◌, ◌+◌, drop, take, length, refl, arith}
+use Rattle.std.proofs.Common.{◌≡◌, ◌+◌, drop, take, length, refl, ◌∙◌, ap, ℕ, arith}
 use Rattle.std.proofs.lemmas.List.{length-take-le, length-drop}
 use Rattle.lb_wire.proofs.Holds.{number_there, record_there, no_record_fixed, no_record_data}
+use Rattle.lb_wire.specs.BigEndian.{number_at}
+use Rattle.lb_wire.proofs.OptionLaws.{number_is}
 use Rattle.lb_wire.proofs.record.read_record.Goals as goal
 
 pub returns-then-bytes-fixed-lt-FIXED_LEN-clause-none : goal.returns-then-bytes-fixed-lt-FIXED_LEN-clause-none
@@ -32,3 +34,11 @@ returns-clause-found c =
       refl,
       omega (arith, found.4),
     )
+
+pub returns-clause-sized : goal.returns-clause-sized
+returns-clause-sized c =
+    let bytes = c.args.bytes.now in
+    let fixed = c.args.at + c.in_ok-fixed.field-0 in
+    let place : fixed + 4 + 4 ≡ fixed + 8 = omega arith in
+    let size = ap (λ (at : ℕ). number_at bytes at) place ∙ number_is bytes (drop (fixed + 8 + 2) bytes) (fixed + 8) c.read_u16-2.result c.read_u16-2.type_inv c.read_u16-2.ensures in
+    omega (arith, size)
