@@ -4,12 +4,14 @@ ghost use Rattle.std.specs.Prelude.{[], IfNone, IfOk, IfSome, None, length, vec_
 ghost use Rattle.lb_clock.specs.World.{listened};
 ghost use Rattle.lb_probes.specs.Probes.{Each, IsQuietFor};
 
+use crate::tally::MOST;
 use lb_lines::{Datagrams, Front, Line, Outside, Posts, Roster, Taker, WaitFailed};
 use lb_outbox::Sender;
 use lb_probes::Probes;
 use std::alloc::{AllocError, Global};
 use std::marker::Model;
 use std::mem;
+use std::sync::Wait;
 
 /// What the loop of the clock holds: the sockets that its probes and its answers to datagrams go by, the outbox, the HTTP requests that
 /// wait, what listens at each place of the listen lines, its event handler, its source of moments and words, and the servers that it
@@ -85,6 +87,14 @@ impl<S: Datagrams, P: Posts, T: Taker, O: Outside> ClockLoop<S, P, T, O> {
         ensures same { self.new ≡ self.old }
     {
         mem::replace(&mut self.lines, Vec::new(self.alloc))
+    }
+
+    /// Whether the outbox has room for the expiries of a turn. Without it they would come back, and
+    /// clients of streams would wait for ever.
+    pub fn has_room<R: Wait>(&mut self, rt: &R) -> bool
+        ensures same { self.new ≡ self.old }
+    {
+        self.sender.has_room(rt, MOST)
     }
 
     /// Waits until a socket has a datagram, or somebody wakes it, or so many milliseconds have passed.

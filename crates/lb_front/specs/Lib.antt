@@ -4,3 +4,4 @@ pub use Rattle.lb_doh.specs.Asking
 pub mod Heads
 pub mod Response
 pub mod Answering
+pub mod Closing

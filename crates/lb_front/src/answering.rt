@@ -7,10 +7,12 @@ ghost use Rattle.http.specs.Request.{body_of};
 ghost use Rattle.hyper.specs.Incoming.{size_left};
 ghost use Rattle.lb_http.specs.declared.fault.DohFault.{DohFault};
 ghost use Rattle.lb_front.specs.Answering.{Comes, FromAnswer, FromBody, FromMessage, FromRead, Gives, GivesBody, HasAtLeast, IsAskedFor, IsBody, IsSaidUnder, IsUnasked, ReadsOctets, Says, StandsAt, origin_of};
+ghost use Rattle.lb_front.specs.Closing.{leaves_body};
 ghost use Rattle.lb_front.specs.Heads.{Begins, ReadsHead};
 ghost use Rattle.lb_front.specs.declared.cut.Cut.TheVariants as cuts;
 ghost use Rattle.lb_front.specs.declared.heads.First.{First};
 
+use crate::closing::{Closing, leaves_body};
 use crate::cut::Cut;
 use crate::heads::{Client, First, first_of, read_body};
 use crate::late::{is_over, seconds_from_now};
@@ -92,24 +94,28 @@ where
 
     type Error = Cut;
 
-    type Future = Answering<R, T, O, W, Collect<Limited<Incoming<I>>>>;
+    type Future = Closing<Answering<R, T, O, W, Collect<Limited<Incoming<I>>>>>;
 
-    ghost calls = { λ front request answering.
-        (answering.client ≡ front.client)
-        × ((least : ℕ) × HasAtLeast (size_left (body_of request).kind) least × (read : Result (List ℕ) DohFault) × (first : First) × ReadsHead request read × Begins read least first × StandsAt first answering.stage) };
+    ghost calls = { λ front request closing.
+        (closing.answering.client ≡ front.client)
+        × ((least : ℕ) × HasAtLeast (size_left (body_of request).kind) least × (read : Result (List ℕ) DohFault) × (first : First) × ReadsHead request read × Begins read least first × StandsAt first closing.answering.stage
+        × (closing.closes ≡ leaves_body (size_left (body_of request).kind) first)) };
 
     fn call(&self, request: Request<Incoming<I>>) -> Self::Future {
-        let least = request.body().size_hint().lower();
-        let stage = stage_of(first_of(self.alloc, &request, least));
+        let size = request.body().size_hint();
+        let first = first_of(self.alloc, &request, size.lower());
+        let closes = leaves_body(size.exact(), &first);
+        let stage = stage_of(first);
         let reading = Limited::new(request.into_body(), MAX_MESSAGE).collect(self.alloc);
-        Answering {
+        let answering = Answering {
             rt: self.rt,
             alloc: self.alloc,
             client: self.client,
             shared: shared_again(&self.shared),
             reading: Some(reading),
             stage,
-        }
+        };
+        Closing { answering, closes }
     }
 }
 

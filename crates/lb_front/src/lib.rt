@@ -3,6 +3,7 @@
 #![tactic(auto)]
 
 mod answering;
+mod closing;
 mod connections;
 mod cut;
 mod heads;

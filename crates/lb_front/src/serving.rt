@@ -31,7 +31,7 @@ const HEAD: usize = 65_536;
 /// How many seconds a head may take to come, and a connection may be idle.
 const HEAD_SECONDS: u64 = 10;
 
-/// How many connections stand at most.
+/// How many connections stand at most, whatever a front is made of.
 const CONNECTIONS: usize = 1_024;
 
 /// How often the flag is looked at, in milliseconds.
@@ -64,6 +64,8 @@ pub struct FrontParts<T, O, W> {
     pub streams: W,
     /// The requests that wait.
     pub requests: Arc<Requests>,
+    /// How many clients are connected at most. More than 1,024 count as 1,024.
+    pub clients: usize,
     /// Set, it ends the front within half a second.
     pub stop: Arc<AtomicBool>,
 }
@@ -122,13 +124,15 @@ fn serve_by<
         outside,
         streams,
         requests,
+        clients,
         stop,
     } = parts;
     let asker = Asker::new(taker, sender, outside, streams);
     let mut runtime = runtime_of(&rt, runtime)?;
     let shared = shared_by(alloc, runtime.handle().time(), asker, requests)?;
     let listeners = registered(alloc, listeners, runtime.handle().reactor())?;
-    serve_shared(rt, alloc, &mut runtime, listeners, stop, &shared)?;
+    let room = (listeners, clients);
+    serve_shared(rt, alloc, &mut runtime, room, stop, &shared)?;
     ended(&rt, &shared)
 }
 
@@ -163,6 +167,9 @@ fn shared_by<T: Taker, O: Outside, W: Waker>(
     )?)
 }
 
+/// Listeners, and how many clients are connected at most.
+type Room = (Vec<(u8, TcpListener)>, usize);
+
 /// Serves the connections of the listeners, which share this, until the flag is set.
 fn serve_shared<
     R: Wait + Clock + Net + RandomSource + AllocGlobal + Copy + Drop,
@@ -173,12 +180,12 @@ fn serve_shared<
     rt: R,
     alloc: Global,
     runtime: &mut LocalRuntime,
-    listeners: Vec<(u8, TcpListener)>,
+    room: Room,
     stop: Arc<AtomicBool>,
     shared: &Arc<Shared<T, O, W>>,
 ) -> Result<(), FrontFault> {
     let maker = maker_of(rt, alloc, runtime.handle().time(), shared)?;
-    serve(&rt, alloc, runtime, listeners, stop, maker)
+    serve(&rt, alloc, runtime, room, stop, maker)
 }
 
 /// Serves the connections of the listeners until the flag is set. What a connection is made of is not said here: whoever makes them is any.
@@ -186,11 +193,13 @@ fn serve<R: Wait + Clock + Net + RandomSource + AllocGlobal, M: Make>(
     rt: &R,
     alloc: Global,
     runtime: &mut LocalRuntime,
-    listeners: Vec<(u8, TcpListener)>,
+    room: Room,
     stop: Arc<AtomicBool>,
     maker: M,
 ) -> Result<(), FrontFault> {
-    let places = Arc::new(alloc, Semaphore::new(alloc, CONNECTIONS)?)?;
+    let (listeners, clients) = room;
+    let places = Semaphore::new(alloc, clients.min(CONNECTIONS))?;
+    let places = Arc::new(alloc, places)?;
     let looks = runtime
         .handle()
         .time()

@@ -24,6 +24,9 @@ const LONG_WAIT: u64 = 1_000;
 /// found no descriptor.
 const WAIT: u64 = 100;
 
+/// How long the clock waits while the outbox has no room for it, in milliseconds.
+const FULL_WAIT: u64 = 1;
+
 /// How many events a turn of the clock has at most.
 const MOST: usize = 64;
 
@@ -246,7 +249,8 @@ fn all_ticks<R: Wait, S: Datagrams, P: Posts, T: Taker, O: Outside, G: Gate, W: 
     unreachable!()
 }
 
-/// A turn of the clock. Where it made a job, the loop of streams is woken; behind a full turn the next one follows at once.
+/// A turn of the clock. If it made a job, the loop of streams is woken; after a full turn the next
+/// one follows at once. While the outbox has no room for what may expire in a turn, there is none.
 fn one_of_ticks<R: Wait, S: Datagrams, P: Posts, T: Taker, O: Outside, G: Gate, W: Waker>(
     rt: &R,
     around: &Around<G, W>,
@@ -256,6 +260,10 @@ fn one_of_ticks<R: Wait, S: Datagrams, P: Posts, T: Taker, O: Outside, G: Gate, 
     ensures answered { part.old.answered ≤ part.new.answered }
     ensures sent { SendsOn part.old.outbox part.new.outbox }
 {
+    if !part.has_room(rt) {
+        around.streams.wake();
+        return Ok(part.wait(FULL_WAIT)?);
+    }
     let report = match clock_turn(rt, part, roster, &around.gate) {
         Ok(report) => report,
         // Nothing was done, and a later turn does it.

@@ -120,6 +120,18 @@ impl Sender {
     }
 }
 
+impl Sender {
+    /// Whether there is room for so many jobs, or, in a smaller queue, no job waits. Others may
+    /// send and receive meanwhile.
+    pub fn has_room<R: Wait>(&mut self, rt: &R, jobs: usize) -> bool
+        ensures same { self.new ≡ self.old }
+    {
+        let waiting = self.queue.len_as::<Sent, R>(rt, &mut self.pass);
+        let capacity = self.queue.capacity();
+        capacity - waiting >= capacity.min(jobs)
+    }
+}
+
 impl Receiver {
     /// Takes the job that stands first. None where there is none, and nothing has changed.
     pub fn receive<R: Wait>(&mut self, rt: &R) -> Option<Job>

@@ -4,6 +4,7 @@ ghost use Rattle.std.specs.Prelude.{IfOk, map, ◌≡◌};
 ghost use Rattle.lb_serve.specs.Listening.{front_of};
 
 use crate::console::Console;
+use crate::descriptors::{Clients, limit};
 use crate::fault::Fault;
 use crate::gate::OpenGate;
 use crate::halt::Halt;
@@ -66,16 +67,18 @@ struct Sockets<'a, R: Net + Clock> {
 }
 
 impl<'a, R: Net + Clock> Sockets<'a, R> {
-    /// Those that listen, and none of servers yet. The errors are the system's, and want of memory. Listeners of the console are left.
+    /// Those that listen, and none of servers yet. The errors are the system's, and refused memory.
+    /// Listeners of the console are left.
     fn made(
         rt: &'a R,
         alloc: Global,
         datagrams: Arc<ListenSockets>,
         streams: TcpListeners,
+        clients: Clients,
     ) -> Result<Sockets<'a, R>, Fault> {
         Ok(Sockets {
             datagrams: UdpSockets::reading(rt, alloc, Arc::try_clone(&datagrams)?)?,
-            streams: TcpSockets::listening(rt, alloc, streams)?,
+            streams: TcpSockets::listening(rt, alloc, streams, clients.streams as usize)?,
             clock: UdpSockets::sending(rt, alloc, datagrams)?,
         })
     }
@@ -149,12 +152,13 @@ pub(crate) fn prepared<'a, J: Naming, R: Wait + Net + Clock + RandomSource>(
         http,
         consoles,
     } = listening;
-    let sockets = Sockets::made(rt, alloc, datagrams, streams)?;
+    let clients = Clients::under(limit(), setup.listeners(), setup.servers().len());
+    let sockets = Sockets::made(rt, alloc, datagrams, streams, clients)?;
     let outside = SystemOutside::new(rt)?;
     let shared = Shared::made(alloc, setup.servers())?;
     let (sender, second_sender, receiver) = Outbox::made(alloc, JOBS)?;
     let http = (http, Caller::new(rt, desk, fifth), sender, outside.beside());
-    let front = front_of_http(rt, alloc, http, &sockets, &shared)?;
+    let front = front_of_http(rt, alloc, http, &sockets, &shared, clients)?;
     let fronts = (
         fronts(alloc, setup.listeners())?,
         fronts(alloc, setup.listeners())?,
@@ -222,6 +226,7 @@ fn front_of_http<'a, J: Naming, R: Wait + Net + Clock + RandomSource>(
     own: OwnOfHttp<'a, R, J>,
     sockets: &Sockets<'a, R>,
     shared: &Shared,
+    clients: Clients,
 ) -> Result<DeskFront<'a, R, J>, Fault> {
     let (listeners, taker, sender, outside) = own;
     let parts = FrontParts {
@@ -232,6 +237,7 @@ fn front_of_http<'a, J: Naming, R: Wait + Net + Clock + RandomSource>(
         outside,
         streams: sockets.streams.waker()?,
         requests: Arc::try_clone(&shared.requests)?,
+        clients: clients.http as usize,
         stop: Arc::try_clone(&shared.stop)?,
     };
     Ok(Fronting {

@@ -3,10 +3,11 @@
 ghost use Rattle.std.specs.Prelude.{string_bytes, true, ◌≡◌};
 ghost use Rattle.lb_serve.specs.Sentences.{are_sentences};
 
-use crate::descriptors::{WANTED, limit};
+use crate::descriptors::{Clients, WANTED, limit};
 use crate::fault::Fault;
 use crate::listening::line_of;
-use lb_command::{Listener, Protocol};
+use lb_command::Protocol;
+use lb_program::Setup;
 use lb_sockets::BindFault;
 use lb_wire::Addr;
 use std::alloc::{AllocError, Global};
@@ -41,19 +42,26 @@ impl Sentences {
         self.text.push_str(line.as_str())
     }
 
-    /// What an operator should know before the program serves: that it may have few descriptors, and that answers to a wildcard address
-    /// leave by the system's choice.
+    /// What an operator should know before the program serves: that it may have few descriptors,
+    /// and how many clients they suffice for; and that answers to a wildcard address leave by the
+    /// system's choice.
     pub(crate) fn warn(
         &mut self,
         alloc: Global,
         text: &str,
-        lines: &[Listener],
+        setup: &Setup,
     ) -> Result<(), AllocError> {
+        let lines = setup.listeners();
         if let Some(limit) = limit()
             && limit < WANTED
         {
+            let Clients { streams, http } = Clients::under(
+                Some(limit),
+                lines,
+                setup.servers().len(),
+            );
             let words = format!(in alloc;
-                "the system allows {limit} descriptors; with 1,024 clients of streams, as many by HTTP, and 256 servers {WANTED} are needed (ulimit -n {WANTED})"
+                "the system allows {limit} descriptors: {streams} clients by TCP and {http} by HTTP at a time; 1,024 of each and 256 servers need {WANTED} (ulimit -n {WANTED})"
             )?;
             self.add(alloc, words)?;
         }

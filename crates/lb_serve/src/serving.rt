@@ -12,7 +12,6 @@ use crate::desk::serve_at_desk;
 use crate::fault::Fault;
 use crate::listening::listen;
 use crate::sentences::Sentences;
-use lb_command::Listener;
 use lb_core::Balancer;
 use lb_program::{Ended, Setup, Stop, read_setup, write_line};
 use std::alloc::Global;
@@ -61,7 +60,7 @@ pub fn serve_told<
         Ok(read) => read,
         Err(stop) => return Ended::tell(Err(stop), faults),
     };
-    warn(alloc, text, setup.listeners(), faults);
+    warn(alloc, text, &setup, faults);
     let end = serve_by(rt, alloc, text, setup, balancer, output);
     tell(alloc, end, faults)
 }
@@ -92,11 +91,11 @@ fn serve_by<
 }
 
 /// Tells what an operator should know before the program serves. Where that can't be told, it is not.
-fn warn<F: Write>(alloc: Global, text: &str, lines: &[Listener], faults: &mut F)
+fn warn<F: Write>(alloc: Global, text: &str, setup: &Setup, faults: &mut F)
     ensures { Says (F.contents faults.old) (F.contents faults.new) }
 {
     let mut sentences = Sentences::none(alloc);
-    let _ = sentences.warn(alloc, text, lines);
+    let _ = sentences.warn(alloc, text, setup);
     let _ = write_line(faults, sentences.as_bytes());
 }
 

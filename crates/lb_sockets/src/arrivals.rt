@@ -56,11 +56,16 @@ pub(crate) struct Arrivals {
 }
 
 impl Arrivals {
-    /// No connection, and these listeners. The one error is want of memory.
-    pub(crate) fn made(alloc: Global, listeners: TcpListeners) -> Result<Arrivals, AllocError> {
+    /// No connection, and these listeners, of which at most so many clients are connected at a
+    /// time. The one error is refused memory.
+    pub(crate) fn made(
+        alloc: Global,
+        listeners: TcpListeners,
+        room: usize,
+    ) -> Result<Arrivals, AllocError> {
         Ok(Arrivals {
             connections: Connections::made(alloc)?,
-            clients: Clients::made(alloc, listeners)?,
+            clients: Clients::made(alloc, listeners, room)?,
             reading: Queue::made(alloc)?,
             writing: Queue::made(alloc)?,
             kind: Kind::Writing,
@@ -154,7 +159,8 @@ impl Arrivals {
         let Some(client) = self.clients.next()? else {
             return Ok(None);
         };
-        self.enter(watch, number, client.stream)?;
+        self.enter(watch, number, true, client.stream)?;
+        self.clients.entered();
         Ok(Some((client.front, client.from)))
     }
 
@@ -175,15 +181,22 @@ impl Arrivals {
         to: Endpoint,
     ) -> io::Result<()> {
         let stream = TcpStream::connect(net, socket_addr(to))?;
-        self.enter(watch, number, stream)
+        self.enter(watch, number, false, stream)
     }
 
     /// Puts a stream in with this number. What it is given to write goes out at once.
-    fn enter(&mut self, watch: &Watch, number: u64, stream: TcpStream) -> io::Result<()> {
+    fn enter(
+        &mut self,
+        watch: &Watch,
+        number: u64,
+        is_client: bool,
+        stream: TcpStream,
+    ) -> io::Result<()> {
         let _ = stream.set_nodelay(true);
         let both = Interest::READABLE | Interest::WRITABLE;
         watch.add(&stream, number as usize, both)?;
-        self.connections.put(Connection::new(number, stream));
+        self.connections
+            .put(Connection::new(number, is_client, stream));
         Ok(())
     }
 
@@ -228,7 +241,9 @@ impl Arrivals {
 
     /// Closes a connection. Its descriptor is free for a client that waits.
     pub(crate) fn close(&mut self, number: u64) {
-        self.connections.close(number);
+        if self.connections.close(number) {
+            self.clients.left();
+        }
         self.clients.feed();
     }
 }

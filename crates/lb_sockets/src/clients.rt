@@ -34,19 +34,28 @@ pub(crate) struct Clients {
     may_wait: Vec<bool>,
     /// The place that is tried next.
     next: usize,
-    /// Whether the last try failed, so that none is made for a while: descriptors were wanting, or a listener failed.
+    /// Whether the last try failed, so that none is made for a while: no descriptor was left, or a
+    /// listener failed.
     is_starved: bool,
+    /// How many more clients may be connected.
+    room: usize,
 }
 
 impl Clients {
-    /// At these listeners, of which nothing is known yet. The one error is want of memory.
-    pub(crate) fn made(alloc: Global, fronts: TcpListeners) -> Result<Clients, AllocError> {
+    /// At these listeners, of which nothing is known yet. At most so many clients are connected at
+    /// a time. The one error is refused memory.
+    pub(crate) fn made(
+        alloc: Global,
+        fronts: TcpListeners,
+        room: usize,
+    ) -> Result<Clients, AllocError> {
         let may_wait = Vec::from_elem(alloc, false, fronts.listeners.len())?;
         Ok(Clients {
             fronts,
             may_wait,
             next: 0,
             is_starved: false,
+            room,
         })
     }
 
@@ -67,6 +76,16 @@ impl Clients {
         self.is_starved = false;
     }
 
+    /// Notes that a client is connected.
+    pub(crate) fn entered(&mut self) {
+        self.room = self.room.saturating_sub(1);
+    }
+
+    /// Notes that a client's connection was closed.
+    pub(crate) fn left(&mut self) {
+        self.room = self.room.saturating_add(1);
+    }
+
     /// Whether a client may wait and be taken in.
     pub(crate) fn may_wait(&self) -> bool {
         self.place().is_some()
@@ -74,7 +93,7 @@ impl Clients {
 
     /// The place that is to be tried next.
     fn place(&self) -> Option<usize> {
-        if self.is_starved {
+        if self.is_starved || self.room == 0 {
             return None;
         }
         first_from(&self.may_wait, self.next)

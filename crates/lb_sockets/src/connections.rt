@@ -15,6 +15,8 @@ pub(crate) const PLACES: usize = 4096;
 #[derive(Drop)]
 pub(crate) struct Connection {
     pub(crate) number: u64,
+    /// Whether a client opened it.
+    is_client: bool,
     pub(crate) stream: TcpStream,
     /// Whether an event said that nothing comes behind what waits to be read.
     pub(crate) is_read_closed: bool,
@@ -23,10 +25,11 @@ pub(crate) struct Connection {
 }
 
 impl Connection {
-    /// One that was begun.
-    pub(crate) fn new(number: u64, stream: TcpStream) -> Connection {
+    /// One that was begun, by a client or to a server.
+    pub(crate) fn new(number: u64, is_client: bool, stream: TcpStream) -> Connection {
         Connection {
             number,
+            is_client,
             stream,
             is_read_closed: false,
             awaits_room: true,
@@ -121,13 +124,15 @@ impl Connections {
         }
     }
 
-    /// Closes the connection with a number, if it is there.
-    pub(crate) fn close(&mut self, number: u64) {
-        if self.at(number).is_none() {
-            return;
-        }
+    /// Closes the connection with a number, if it is there. Whether it was a client's.
+    pub(crate) fn close(&mut self, number: u64) -> bool {
+        let Some(connection) = self.at(number) else {
+            return false;
+        };
+        let is_client = connection.is_client;
         if let Some(slot) = self.slots.get_mut(place_of(number)) {
             *slot = None;
         }
+        is_client
     }
 }

@@ -124,6 +124,15 @@ impl<'a, R: Net + Clock> UdpSockets<'a, R> {
         self.reader.read(wire, rooms)
     }
 
+    /// Notes that a datagram came at a place.
+    fn heard(&mut self, place: usize)
+        ensures { self.new ≡ record self.old { servers = self.new.servers } }
+    {
+        if let Some(slot) = place.checked_sub(self.listeners.count()) {
+            self.servers.heard(slot);
+        }
+    }
+
     /// Closes the sockets of servers by which nothing was sent for a while, and those that are to be made anew.
     fn close_idle(&mut self)
         ensures { self.new ≡ record self.old { servers = self.new.servers; readiness = self.new.readiness } }
@@ -276,7 +285,10 @@ impl<R: Net + Clock> Datagrams for UdpSockets<'_, R> {
             };
             self.reader.prepare()?;
             match self.read_at(place, rooms) {
-                Ok(datagram) => return Ok(Received::Packet(datagram)),
+                Ok(datagram) => {
+                    self.heard(place);
+                    return Ok(Received::Packet(datagram));
+                }
                 Err(error) if error.kind() == ErrorKind::WouldBlock => self.readiness.dry(place),
                 Err(_) => {
                     self.failed();

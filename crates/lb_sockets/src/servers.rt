@@ -16,8 +16,12 @@ use std::io;
 use std::net::{Net, SocketAddr};
 use std::time::{Clock, Instant};
 
-/// How long a socket by which nothing is sent stays open, in milliseconds. A reply that comes later has no query left to answer.
+/// How long a socket by which nothing is sent stays open, in milliseconds. A reply that comes later has
+/// no query left to answer.
 const KEPT: u64 = 61_000;
+
+/// How long one stays open on which as many datagrams came as were sent, in milliseconds.
+const QUIET: u64 = 5_000;
 
 /// How often idle sockets are looked for, in milliseconds.
 const LOOK: u64 = 1_000;
@@ -63,6 +67,8 @@ struct ServerSocket {
     socket: UdpSocket,
     /// When it last sent, or was made.
     used: u64,
+    /// How many more datagrams it sent than came.
+    awaited: u64,
     /// Whether its own address or its way was lost, so that it is to be made anew.
     is_lost: bool,
 }
@@ -155,6 +161,7 @@ impl<'a, R: Clock> Servers<'a, R> {
             upstream,
             socket,
             used: self.now,
+            awaited: 0,
             is_lost: false,
         };
         self.places.insert(upstream.way(), slot)?;
@@ -170,6 +177,14 @@ impl<'a, R: Clock> Servers<'a, R> {
         let now = self.now;
         if let Some(Some(server)) = self.slots.get_mut(slot) {
             server.used = now;
+            server.awaited = server.awaited.saturating_add(1);
+        }
+    }
+
+    /// Notes that a datagram came by the socket in a slot.
+    pub(crate) fn heard(&mut self, slot: usize) {
+        if let Some(Some(server)) = self.slots.get_mut(slot) {
+            server.awaited = server.awaited.saturating_sub(1);
         }
     }
 
@@ -205,12 +220,14 @@ impl<'a, R: Clock> Servers<'a, R> {
         is_due
     }
 
-    /// Whether a socket is in a slot that may be closed: it sent nothing for 61 seconds, or is to be made anew.
+    /// Whether a socket is in a slot that may be closed: it sent nothing for 61 seconds, or for 5 if nothing
+    /// is awaited, or it is to be made anew.
     pub(crate) fn is_over(&self, slot: usize) -> bool {
-        match self.in_slot(slot) {
-            Some(server) => server.is_lost || self.now.saturating_sub(server.used) >= KEPT,
-            None => false,
-        }
+        let Some(server) = self.in_slot(slot) else {
+            return false;
+        };
+        let idle = self.now.saturating_sub(server.used);
+        server.is_lost || idle >= KEPT || (server.awaited == 0 && idle >= QUIET)
     }
 }
 

@@ -27,11 +27,13 @@ pub struct TcpSockets<'a, R: Net> {
 }
 
 impl<'a, R: Net> TcpSockets<'a, R> {
-    /// Sockets that take in the clients of these listeners. The errors are the system's, and want of memory.
+    /// Sockets that take in the clients of these listeners, at most so many at a time: others wait
+    /// until one of them has left. The errors are the system's, and refused memory.
     pub fn listening(
         rt: &'a R,
         alloc: Global,
         listeners: TcpListeners,
+        clients: usize,
     ) -> io::Result<TcpSockets<'a, R>>
         ensures told { IfOk result (λ s. s.told ≡ nothing) }
     {
@@ -40,7 +42,7 @@ impl<'a, R: Net> TcpSockets<'a, R> {
         Ok(TcpSockets {
             rt,
             watch,
-            arrivals: Arrivals::made(alloc, listeners)?,
+            arrivals: Arrivals::made(alloc, listeners, clients)?,
             intake: Intake::made(alloc)?,
             told: Told::made(alloc)?,
         })

@@ -18,10 +18,13 @@ use std::sync::Wait;
 /// The most events of a turn, and the most jobs, and the most reads and accepts.
 const MOST: usize = 64;
 
-/// One turn: connections whose time is over are closed; then at most 64 rounds each take a job of another loop, what one socket has, and one
-/// message of the connection whose turn it is, whose event goes to the desk; and what is to be written is written. It ends where there is nothing more to
-/// do, where the gate holds an event, where there is no moment to be had, and where no room is found for a message. What was not taken
-/// stays. The one error is want of memory for the report: then nothing was read or sent.
+/// One turn: connections whose time is over are closed; then at most 64 rounds each take a job
+/// of another loop, what one socket has, and one message of the connection whose turn it is,
+/// whose event goes to the desk; and what is to be written is written. It ends if there is
+/// nothing more to do, if the gate holds an event, and if there is no moment to be had. A
+/// message for whose event there is no memory stays, and the turn goes on while jobs or sockets
+/// have something. What was not taken stays. The one error is refused memory for the report:
+/// then nothing was read or sent.
 pub fn stream_turn<R: Wait, S: Streams, T: Taker, O: Outside, P: Posts, G: Gate>(
     rt: &R,
     streams: &mut StreamLoop<S, T, O, P>,
@@ -169,7 +172,7 @@ fn end_after(step: &Step, was_busy: bool) -> Option<End>
 {
     match step {
         Step::Told(_) | Step::Passed => None,
-        Step::Idle if was_busy => None,
+        Step::Idle | Step::Wanting if was_busy => None,
         Step::Idle | Step::Wanting => Some(End::Done),
         Step::Held => Some(End::Held),
         Step::Blind => Some(End::Blind),

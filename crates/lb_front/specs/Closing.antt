@@ -1,0 +1,31 @@
+-- How a response says that its connection closes after it (RFC 9112 section 9.6).
+use Rattle.std.specs.Prelude.{◌≡◌, ℕ, ◌==◌, List, Bool, true, false, not, codes, Option, None, Some, Ok, Err}
+use Rattle.http.specs.Response.{body_of, head_of}
+use Rattle.http.specs.declared.response.Response.{Response}
+use Rattle.http_body_util.specs.declared.full.Full.{Full}
+use Rattle.http_header.specs.FieldValue.{plain_value}
+use Rattle.http_header.specs.HeaderMap.{append}
+use Rattle.lb_front.specs.Answering.{Outcome}
+use Rattle.lb_front.specs.Response.{IsUnbuilt}
+use Rattle.lb_front.specs.declared.heads.First.{First}
+use Rattle.lb_front.specs.declared.heads.First.TheVariants as firsts
+
+-- Whether a request leaves its body unread, of which so many octets are left, if that is known: the body is not at its end, and it is not the
+-- body that is to be read first. Its connection closes after the response.
+abbrev pub leaves_body : Option ℕ → First → Bool
+leaves_body left firsts.Body = false
+leaves_body None first = true
+leaves_body (Some left) first = not (left == 0)
+
+-- the response with one more header line, which says that the connection closes; the rest of its head and its body are the same
+pub record SaysClose (response closing : Response (Full (List ℕ))) : Type 0 where
+  pub head : head_of closing ≡ record (head_of response) { headers = append (head_of response).headers (codes "connection") (plain_value (codes "close")) }
+  pub body : body_of closing ≡ body_of response
+
+-- What a request ends with, by whether its connection closes, and by what its answering ended with: the same, but if the connection closes, a
+-- response says so, or it was not built.
+abbrev pub ClosesBy : Bool → Outcome → Outcome → Type 0
+ClosesBy false inner outcome = outcome ≡ inner
+ClosesBy true (Err cut) outcome = outcome ≡ Err cut
+ClosesBy true (Ok response) (Ok closing) = SaysClose response closing
+ClosesBy true (Ok response) (Err cut) = IsUnbuilt cut
