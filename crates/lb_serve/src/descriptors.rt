@@ -66,6 +66,18 @@ impl Clients {
     }
 }
 
+impl Clients {
+    /// How many clients of streams the sockets take in at a time. If that is no less than the loop of
+    /// streams takes, the sockets set no bound, as the loop turns further clients away.
+    pub(crate) fn room(self) -> usize {
+        if self.streams < MOST {
+            self.streams as usize
+        } else {
+            usize::MAX
+        }
+    }
+}
+
 /// How many descriptors are left for clients.
 fn left_of(limit: u64, lines: usize, servers: usize) -> u64 {
     let servers = (servers as u64).saturating_mul(OF_SERVER);

@@ -78,7 +78,7 @@ impl<'a, R: Net + Clock> Sockets<'a, R> {
     ) -> Result<Sockets<'a, R>, Fault> {
         Ok(Sockets {
             datagrams: UdpSockets::reading(rt, alloc, Arc::try_clone(&datagrams)?)?,
-            streams: TcpSockets::listening(rt, alloc, streams, clients.streams as usize)?,
+            streams: TcpSockets::listening(rt, alloc, streams, clients.room())?,
             clock: UdpSockets::sending(rt, alloc, datagrams)?,
         })
     }
