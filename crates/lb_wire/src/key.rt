@@ -105,7 +105,7 @@ fn data_to_shed(bytes: &[u8], view: &QueryView, skips: &[u16]) -> Option<usize>
 {
     // a law: the call does nothing
     one_message();
-    if skips.is_empty() || view.opt.is_none() {
+    if view.opt.is_none() || skips.is_empty() {
         return None;
     }
     listed_data(bytes, view, skips)
@@ -188,18 +188,18 @@ fn push_front(
 #[inline(always)]
 fn push_left(
     octets: &mut Vec<u8>,
-    data: &[u8],
+    options: &[u8],
     left: usize,
     skips: &[u16],
 ) -> Result<(), AllocError>
-    requires read { IsList data.now }
-    requires left { left ≡ length (without_listed skips.now data.now) }
-    ensures octets { OnOk result (octets.new.items ≡ octets.old.items ++ without_listed skips.now data.now) }
-    ensures short { OnOk result (vec_len octets.new ≤ vec_len octets.old + length data.now) }
+    requires read { IsList options.now }
+    requires left { left ≡ length (without_listed skips.now options.now) }
+    ensures octets { OnOk result (octets.new.items ≡ octets.old.items ++ without_listed skips.now options.now) }
+    ensures short { OnOk result (vec_len octets.new ≤ vec_len octets.old + length options.now) }
 {
     // Most queries have no option but a cookie.
     if left > 0 {
-        push_unlisted(octets, data, skips)?;
+        push_unlisted(octets, options, skips)?;
     }
     Ok(())
 }
