@@ -1,5 +1,5 @@
 -- Commands, against the grammar.
-use Rattle.std.proofs.Common.{◌≡◌, ℕ, ◌≤◌, false, Option, Some, None, Result, Ok, List, [], length, subst, refl, sym, ap, ◌∙◌, arith, inl, inr}
+use Rattle.std.proofs.Common.{◌≡◌, ℕ, ◌≤◌, false, Option, Some, None, Result, Ok, List, [], length, subst, refl, sym, ap, ◌∙◌, arith, inl, inr, ◌∷◌}
 use Rattle.std.proofs.lemmas.Bool.{cases_Bool}
 use Rattle.std.specs.Prelude.{codes}
 use Rattle.lb_wire.specs.declared.ids.RuleId.{RuleId}

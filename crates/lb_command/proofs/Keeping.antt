@@ -16,9 +16,9 @@ use Rattle.lb_core.specs.declared.command.StatedAction.TheVariants as actions
 use Rattle.lb_core.specs.declared.event.Event.{Event}
 use Rattle.lb_core.specs.declared.event.Event.TheVariants.{Query, Reply, Tick, HealthResult, Edit}
 use Rattle.lb_command.specs.Line.{Left, Seen, begins_word, in_front, is_word_byte, seen, whole, words_of}
-use Rattle.lb_command.specs.Grammar.{Choice, Part, ◌▷◌, action, bracketed, choice, code_skips, comma_list, command, covered, event, in_front_of, lengths, optional_type, options, order, pool, fall, rise, resolve, other_terms, others, place, says, server, setup, skips, term, terms, word}
+use Rattle.lb_command.specs.Grammar.{Choice, Part, ◌▷◌, action, bracketed, choice, code_skips, comma_list, command, covered, event, in_front_of, lengths, optional_type, options, order, pool, fall, lanes, rise, resolve, other_terms, others, place, says, server, setup, skips, term, terms, word}
 use Rattle.lb_masks.specs.Number.{number_up_to}
-use Rattle.lb_command.specs.Values.{addr_of, count_of, hex_of, ident_of, in_range, kind_of, mask_of, mode_of, name_of, number_of, outcome_of, policy_of, pool_of, port_of, protocol_of, rcode_of, type_of, word_number}
+use Rattle.lb_command.specs.Values.{addr_of, count_of, hex_of, ident_of, in_range, kind_of, lane_of, mask_of, mode_of, name_of, number_of, outcome_of, policy_of, pool_of, port_of, protocol_of, rcode_of, type_of, word_number}
 use Rattle.lb_command.specs.declared.setup.SetupLine.{SetupLine}
 use Rattle.lb_command.specs.declared.setup.SetupLine.TheVariants as setups
 use Rattle.lb_command.proofs.Lexing.{at_end, before}
@@ -122,6 +122,7 @@ choice_keeps (order n) = behind_word (codes "order") (says word_number n) (says_
 choice_keeps (pool name) = behind_word (codes "pool") (says pool_of name) (says_keeps pool_of name)
 choice_keeps (fall n) = behind_word (codes "fall") (says count_of n) (says_keeps count_of n)
 choice_keeps (rise n) = behind_word (codes "rise") (says count_of n) (says_keeps count_of n)
+choice_keeps (lanes n) = behind_word (codes "lanes") (says (in_range 1 8) n) (says_keeps (in_range 1 8) n)
 choice_keeps resolve = word_keeps (codes "resolve")
 
 options_keep : (choices : List Choice) → Keeps (options choices)
@@ -180,10 +181,10 @@ event_keeps (Query now origin kind random bytes) s t h =
     (behind_value addr_of origin.source (says word_number random ▷ says hex_of bytes)
     (behind_value word_number random (says hex_of bytes) (says_keeps hex_of bytes)))))) s t h.1
 event_keeps (Reply now id lane bytes) s t h =
-    behind_word (codes "reply") (says number_of now ▷ says number_of id.0 ▷ says kind_of lane.kind ▷ says hex_of bytes)
-    (behind_value number_of now (says number_of id.0 ▷ says kind_of lane.kind ▷ says hex_of bytes)
-    (behind_value number_of id.0 (says kind_of lane.kind ▷ says hex_of bytes)
-    (behind_value kind_of lane.kind (says hex_of bytes) (says_keeps hex_of bytes)))) s t h.1
+    behind_word (codes "reply") (says number_of now ▷ says number_of id.0 ▷ says lane_of lane ▷ says hex_of bytes)
+    (behind_value number_of now (says number_of id.0 ▷ says lane_of lane ▷ says hex_of bytes)
+    (behind_value number_of id.0 (says lane_of lane ▷ says hex_of bytes)
+    (behind_value lane_of lane (says hex_of bytes) (says_keeps hex_of bytes)))) s t h
 event_keeps (Tick now) s t h = behind_word (codes "tick") (says number_of now) (says_keeps number_of now) s t h
 event_keeps (HealthResult now id ok) s t h =
     behind_word (codes "health") (says number_of now ▷ says number_of id.0 ▷ says outcome_of ok)

@@ -18,3 +18,5 @@ pub mod EventExact
 pub mod SetupExact
 pub mod LineExact
 pub mod Said
+pub mod LanesBack
+pub mod LaneReads

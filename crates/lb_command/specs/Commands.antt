@@ -81,20 +81,21 @@ rule_at left = do
   behind_rule_verb verb.0 verb.1
 
 -- what the options of a new server say: its order, its pools, how many failures take it down and how many successes bring it
--- up, and whether a probe's name has to be resolved
+-- up, how many lanes of each transport it has, and whether a probe's name has to be resolved
 pub record Stated : Type 0 where
   pub order : ℕ
   pub pools : List PoolName
   pub fall : NonZeroU8
   pub rise : NonZeroU8
+  pub lanes : ℕ
   pub resolve : Bool
 
 -- none is given
 abbrev pub nothing_stated : Stated
-nothing_stated = record { order = 1; pools = []; fall = one; rise = one; resolve = false }
+nothing_stated = record { order = 1; pools = []; fall = one; rise = one; lanes = 1; resolve = false }
 
 abbrev pub option_words : List (ServerOption × List ℕ)
-option_words = (options.Order, codes "order") ∷ (options.Pool, codes "pool") ∷ (options.Fall, codes "fall") ∷ (options.Rise, codes "rise") ∷ (options.Resolve, codes "resolve") ∷ []
+option_words = (options.Order, codes "order") ∷ (options.Pool, codes "pool") ∷ (options.Fall, codes "fall") ∷ (options.Rise, codes "rise") ∷ (options.Lanes, codes "lanes") ∷ (options.Resolve, codes "resolve") ∷ []
 
 -- N
 unfoldable pub order_at : Stated → Left → Result (Stated × Left) CommandFault
@@ -118,11 +119,17 @@ rise_at stated left = do
   rise ← due kinds.BadNumber count_of left
   Ok (record stated { rise = rise.0 }, rise.1)
 
+unfoldable pub lanes_at : Stated → Left → Result (Stated × Left) CommandFault
+lanes_at stated left = do
+  lanes ← due kinds.BadNumber (in_range 1 8) left
+  Ok (record stated { lanes = lanes.0 }, lanes.1)
+
 abbrev pub behind_option : ServerOption → Stated → Left → Result (Stated × Left) CommandFault
 behind_option options.Order stated left = order_at stated left
 behind_option options.Pool stated left = pool_option_at stated left
 behind_option options.Fall stated left = fall_at stated left
 behind_option options.Rise stated left = rise_at stated left
+behind_option options.Lanes stated left = lanes_at stated left
 behind_option options.Resolve stated left = Ok (record stated { resolve = true }, left)
 
 -- where an option comes, it is taken, and the others read on
@@ -130,14 +137,14 @@ abbrev pub with_option : Option ServerOption → (Stated → Left → Result (St
 with_option None others stated left = Ok (stated, left)
 with_option (Some option) others stated left = behind_option option stated (behind_first left) >>= λ x. others x.0 x.1
 
--- {order N | pool PNAME | fall N | rise N | resolve}: at most so many, which a line within its length never has
+-- {order N | pool PNAME | fall N | rise N | lanes N | resolve}: at most so many, which a line within its length never has
 unfoldable pub options_at : ℕ → Stated → Left → Result (Stated × Left) CommandFault
 options_at zero stated left = Ok (stated, left)
 options_at (suc fuel) stated left = with_option (looked_up option_words (first_of left).text) (options_at fuel) stated left
 
 -- a server as it is stated
 abbrev pub spec_of : List ℕ → Addr → NonZeroU16 → Stated → ServerSpec
-spec_of name addr port stated = record { name = name; addr = addr; port = port; order = stated.order; pools = stated.pools }
+spec_of name addr port stated = record { name = name; addr = addr; port = port; order = stated.order; pools = stated.pools; lanes = stated.lanes }
 
 abbrev pub check_of : Stated → CheckSpec
 check_of stated = record { fall = stated.fall; rise = stated.rise; must_resolve = stated.resolve }

@@ -21,9 +21,9 @@ use Rattle.lb_core.specs.declared.event.Event.{Event}
 use Rattle.lb_core.specs.declared.event.Event.TheVariants.{Query, Reply, Tick, HealthResult, Edit}
 use Rattle.lb_command.specs.Line.{Left, Seen, seen, whole}
 use Rattle.lb_command.specs.Reading.{max_line}
-use Rattle.lb_command.specs.Values.{addr_of, count_of, hex_of, ident_of, in_range, kind_of, mask_of, mode_of, name_of, number_of, outcome_of, policy_of, pool_of, port_of, protocol_of, rcode_of, type_of, word_number}
+use Rattle.lb_command.specs.Values.{addr_of, count_of, hex_of, ident_of, in_range, kind_of, lane_of, mask_of, mode_of, name_of, number_of, outcome_of, policy_of, pool_of, port_of, protocol_of, rcode_of, type_of, word_number}
 use Rattle.lb_command.specs.Commands.{Stated, check_of, nothing_stated, spec_of}
-use Rattle.lb_command.specs.Events.{lane_of, told_origin}
+use Rattle.lb_command.specs.Events.{told_origin}
 use Rattle.lb_command.specs.declared.setup.SetupLine.{SetupLine}
 use Rattle.lb_command.specs.declared.setup.SetupLine.TheVariants as setups
 
@@ -125,14 +125,16 @@ pub data Choice : Type 0 where
   pool : PoolName → Choice
   fall : NonZeroU8 → Choice
   rise : NonZeroU8 → Choice
+  lanes : ℕ → Choice
   resolve : Choice
 
--- order N | pool PNAME | fall N | rise N | resolve
+-- order N | pool PNAME | fall N | rise N | lanes N | resolve
 abbrev pub choice : Choice → Part
 choice (order n) = word (codes "order") ▷ says word_number n
 choice (pool name) = word (codes "pool") ▷ says pool_of name
 choice (fall n) = word (codes "fall") ▷ says count_of n
 choice (rise n) = word (codes "rise") ▷ says count_of n
+choice (lanes n) = word (codes "lanes") ▷ says (in_range 1 8) n
 choice resolve = word (codes "resolve")
 
 -- of an option that is repeated the last counts, but for `pool`
@@ -141,13 +143,14 @@ chosen stated (order n) = record stated { order = n }
 chosen stated (pool name) = record stated { pools = stated.pools ++ name ∷ [] }
 chosen stated (fall n) = record stated { fall = n }
 chosen stated (rise n) = record stated { rise = n }
+chosen stated (lanes n) = record stated { lanes = n }
 chosen stated resolve = record stated { resolve = true }
 
 abbrev pub all_chosen : Stated → List Choice → Stated
 all_chosen stated [] = stated
 all_chosen stated (c ∷ choices) = all_chosen (chosen stated c) choices
 
--- {order N | pool PNAME | fall N | rise N | resolve}
+-- {order N | pool PNAME | fall N | rise N | lanes N | resolve}
 abbrev pub options : List Choice → Part
 options [] = nothing
 options (c ∷ choices) = choice c ▷ options choices
@@ -190,7 +193,7 @@ command (RuleAdd at rule) = word (codes "rule") ▷ word (codes "add") ▷ place
 command (RuleRemove id) = word (codes "rule") ▷ word (codes "remove") ▷ number id.0
 -- rule move ID PLACE
 command (RuleMove id to) = word (codes "rule") ▷ word (codes "move") ▷ number id.0 ▷ number to
--- server add SNAME ADDR PORT {order N | pool PNAME | fall N | rise N | resolve}
+-- server add SNAME ADDR PORT {order N | pool PNAME | fall N | rise N | lanes N | resolve}
 command (ServerAdd spec check) = word (codes "server") ▷ word (codes "add") ▷ server spec check
 -- server remove SNAME
 command (ServerRemove name) = word (codes "server") ▷ word (codes "remove") ▷ says ident_of name
@@ -218,8 +221,8 @@ abbrev pub event : Event → Part
 event (Query now origin kind random bytes) left rest =
     (origin ≡ told_origin origin.slot origin.source)
     × (word (codes "query") ▷ number now ▷ number origin.slot ▷ says kind_of kind ▷ says addr_of origin.source ▷ says word_number random ▷ says hex_of bytes) left rest
--- reply NOW SERVER udp|tcp HEX: the upstream socket is the one of that transport
-event (Reply now server lane bytes) left rest = (lane ≡ lane_of lane.kind) × (word (codes "reply") ▷ number now ▷ number server.0 ▷ says kind_of lane.kind ▷ says hex_of bytes) left rest
+-- reply NOW SERVER LANE HEX, LANE being udp|tcp or udp/N|tcp/N
+event (Reply now server lane bytes) left rest = (word (codes "reply") ▷ number now ▷ number server.0 ▷ says lane_of lane ▷ says hex_of bytes) left rest
 -- tick NOW
 event (Tick now) left rest = (word (codes "tick") ▷ number now) left rest
 -- health NOW SERVER ok|fail

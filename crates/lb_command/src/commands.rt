@@ -18,7 +18,7 @@ use crate::skips::cache_skips;
 use crate::terms::checked_term;
 use crate::values::look_up;
 use crate::words::Words;
-use lb_cache::Covered;
+use lb_cache::{Covered, Skips};
 use lb_core::{CheckSpec, Command, StatedRule};
 use lb_servers::{PoolNames, ServerSpec};
 use lb_wire::RuleId;
@@ -232,6 +232,7 @@ fn read_server_add(alloc: Global, words: &mut Words<'_>) -> Result<Command, Unre
         port,
         order: options.order,
         pools,
+        lanes: options.lanes,
     };
     let check = CheckSpec {
         fall: options.fall,

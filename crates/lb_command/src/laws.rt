@@ -3,7 +3,7 @@
 
 ghost use Rattle.hex.specs.Hex.{IsBytes};
 ghost use Rattle.lb_core.specs.declared.answer.Note.TheVariants.{Shown};
-ghost use Rattle.lb_command.specs.Laws.{AnswerFits, EqualLinesMeanEqualAnswers, IsNumber, IsPoolName, NoteFits, OneCommand, OneEvent, OneSetup};
+ghost use Rattle.lb_command.specs.Laws.{AnswerFits, EqualLinesMeanEqualAnswers, IsNumber, IsPoolName, LanesAreReadBack, NoteFits, OneCommand, OneEvent, OneSetup};
 
 use lb_core::{Answer, Note, Totals};
 use lb_servers::PoolName;
@@ -23,6 +23,12 @@ pub fn one_setup_line()
     ensures { OneSetup }
 {}
 
+/// What a lane of a server is written as is read as that lane. Other words are read as it too: `udp/0` as
+/// `udp` is, and a number may begin with zeros.
+pub fn lanes_are_read_back()
+    ensures { LanesAreReadBack }
+{}
+
 /// Answers with equal lines are equal, but for what a line does not say.
 pub fn equal_lines_mean_equal_answers(a: &Answer, b: &Answer)
     ensures { EqualLinesMeanEqualAnswers a.now b.now }
@@ -37,8 +43,9 @@ fn answer_fits(answer: &Answer)
 {
     match answer {
         Answer::Local(bytes, _) | Answer::NoMemory(bytes) => octets_fit(bytes.as_slice()),
-        Answer::Forward(server, _, id, bytes) => {
+        Answer::Forward(server, lane, id, bytes) => {
             number_fits(server.0);
+            number_fits(u64::from(lane.number));
             number_fits(u64::from(*id));
             octets_fit(bytes.as_slice());
         }

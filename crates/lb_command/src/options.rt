@@ -1,15 +1,15 @@
 //! Reading the options of a new server.
 
 ghost use Rattle.std.specs.Prelude.{◌≡◌, ◌≤◌, length};
-ghost use Rattle.lb_command.specs.Commands.{behind_option, fall_at, nothing_stated, option_words, options_at, order_at, pool_option_at, rise_at};
+ghost use Rattle.lb_command.specs.Commands.{behind_option, fall_at, lanes_at, nothing_stated, option_words, options_at, order_at, pool_option_at, rise_at};
 ghost use Rattle.lb_command.specs.Reading.{Reads};
 ghost use Rattle.lb_command.specs.Values.{looked_up};
 
 use crate::fault::{FaultKind, Unread};
-use crate::parts::{count, pool};
+use crate::parts::{count, lane_count, pool};
 use crate::values::look_up;
 use crate::words::Words;
-use lb_servers::PoolName;
+use lb_servers::{LaneCount, PoolName};
 use std::alloc::Global;
 use std::marker::Model;
 use std::num::NonZeroU8;
@@ -27,15 +27,17 @@ pub(crate) enum ServerOption {
     Pool,
     Fall,
     Rise,
+    Lanes,
     Resolve,
 }
 
 /// The words that begin options.
-const OPTIONS: [(ServerOption, &str); 5] = [
+const OPTIONS: [(ServerOption, &str); 6] = [
     (ServerOption::Order, "order"),
     (ServerOption::Pool, "pool"),
     (ServerOption::Fall, "fall"),
     (ServerOption::Rise, "rise"),
+    (ServerOption::Lanes, "lanes"),
     (ServerOption::Resolve, "resolve"),
 ];
 
@@ -53,6 +55,7 @@ pub(crate) struct Options {
     pub(crate) pools: Vec<PoolName>,
     pub(crate) fall: NonZeroU8,
     pub(crate) rise: NonZeroU8,
+    pub(crate) lanes: LaneCount,
     pub(crate) resolve: bool,
 }
 
@@ -62,7 +65,7 @@ impl Model for Options {
 
     ghost Value = { Stated };
 
-    ghost view = { λ o. record { order = o.order; pools = o.pools.items; fall = o.fall; rise = o.rise; resolve = o.resolve } };
+    ghost view = { λ o. record { order = o.order; pools = o.pools.items; fall = o.fall; rise = o.rise; lanes = o.lanes; resolve = o.resolve } };
 
     ghost invariant = { λ o. length o.pools.items ≤ 8 };
 }
@@ -77,6 +80,7 @@ impl Options {
             pools: Vec::new(alloc),
             fall: NonZeroU8::MIN,
             rise: NonZeroU8::MIN,
+            lanes: LaneCount::one(),
             resolve: false,
         }
     }
@@ -123,6 +127,15 @@ impl Options {
         Ok(Options { rise, ..self })
     }
 
+    /// Takes the number after `lanes`.
+    #[tactic(auto, unfolding(crate::specs::Commands::lanes_at))]
+    fn read_lanes(self, words: &mut Words<'_>) -> Result<Options, Unread>
+        ensures { Reads (λ o. o) result words.new (lanes_at self words.old) }
+    {
+        let lanes = lane_count(words)?;
+        Ok(Options { lanes, ..self })
+    }
+
     /// Takes what stands behind the word that begins an option.
     fn read_option(self, option: ServerOption, words: &mut Words<'_>) -> Result<Options, Unread>
         ensures { Reads (λ o. o) result words.new (behind_option option self words.old) }
@@ -132,6 +145,7 @@ impl Options {
             ServerOption::Pool => self.read_pool(words),
             ServerOption::Fall => self.read_fall(words),
             ServerOption::Rise => self.read_rise(words),
+            ServerOption::Lanes => self.read_lanes(words),
             ServerOption::Resolve => Ok(Options {
                 resolve: true,
                 ..self

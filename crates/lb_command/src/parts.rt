@@ -4,22 +4,22 @@ ghost use Rattle.std.specs.Prelude.{◌≤◌, IfOk};
 ghost use Rattle.lb_command.specs.declared.fault.FaultKind.TheVariants.{BadAddress, BadHex, BadName, BadNumber, UnknownWord};
 ghost use Rattle.lb_command.specs.Reading.{Reads, due, optional};
 ghost use Rattle.lb_command.specs.Terms.{type_at};
-ghost use Rattle.lb_command.specs.Values.{addr_of, count_of, hex_of, ident_of, in_range, kind_of, mask_of, mode_of, name_of, outcome_of, policy_of, pool_of, port_of, protocol_of, rcode_of, type_of};
+ghost use Rattle.lb_command.specs.Values.{addr_of, count_of, hex_of, ident_of, in_range, kind_of, lane_of, mask_of, mode_of, name_of, outcome_of, policy_of, pool_of, port_of, protocol_of, rcode_of, type_of};
 
 use crate::fault::{FaultKind, Unread};
 use crate::setup::Protocol;
 use crate::values::{
-    addr_of, count_of, entries_of, hex_of, ident_of, in_range, kind_of, mask_of, max_ttl_of,
-    mode_of, name_of, outcome_of, policy_of, pool_of, port_of, protocol_of, shards_of, timeout_of,
-    type_kind, type_of,
+    addr_of, count_of, entries_of, hex_of, ident_of, in_range, kind_of, lane_count_of, lane_of,
+    mask_of, max_ttl_of, mode_of, name_of, outcome_of, policy_of, pool_of, port_of, protocol_of,
+    shards_of, timeout_of, type_kind, type_of,
 };
 use crate::words::Words;
 use lb_cache::{MaxEntries, MaxTtl, Shards};
 use lb_core::Timeout;
 use lb_masks::Mask;
 use lb_name::Name;
-use lb_servers::{Ident, Mode, Policy, PoolName};
-use lb_wire::{Addr, Kind, Octets, Rcode, RecordType};
+use lb_servers::{Ident, LaneCount, Mode, Policy, PoolName};
+use lb_wire::{Addr, Kind, Lane, Octets, Rcode, RecordType};
 use std::alloc::Global;
 use std::num::{NonZeroU8, NonZeroU16};
 
@@ -94,6 +94,22 @@ pub(crate) fn max_entries(words: &mut Words<'_>) -> Result<MaxEntries, Unread>
 {
     let token = words.next();
     entries_of(token.text).ok_or(token.fault(FaultKind::BadNumber))
+}
+
+/// Takes how many lanes of each transport a server has.
+pub(crate) fn lane_count(words: &mut Words<'_>) -> Result<LaneCount, Unread>
+    ensures { Reads (λ lanes. lanes) result words.new (due BadNumber (in_range 1 8) words.old) }
+{
+    let token = words.next();
+    lane_count_of(token.text).ok_or(token.fault(FaultKind::BadNumber))
+}
+
+/// Takes a lane.
+pub(crate) fn lane(words: &mut Words<'_>) -> Result<Lane, Unread>
+    ensures { Reads (λ lane. lane) result words.new (due UnknownWord lane_of words.old) }
+{
+    let token = words.next();
+    lane_of(token.text).ok_or(token.fault(FaultKind::UnknownWord))
 }
 
 /// Takes over how many shards a cache spreads its replies.

@@ -6,7 +6,7 @@ ghost use Rattle.std.specs.Result.{result_ok};
 ghost use Rattle.hex.specs.Hex.{decode_of};
 ghost use Rattle.lb_wire.specs.Octets.{max_message};
 ghost use Rattle.lb_command.specs.Line.{is_word_byte};
-ghost use Rattle.lb_command.specs.Values.{addr_of, count_of, hex_of, ident_of, in_range, kind_of, looked_up, mask_of, mode_of, name_of, outcome_of, policy_of, pool_of, port_of, protocol_of, type_kind, type_of, worded};
+ghost use Rattle.lb_command.specs.Values.{addr_of, count_of, hex_of, ident_of, in_range, kind_of, lane_of, looked_up, mask_of, mode_of, name_of, outcome_of, policy_of, pool_of, port_of, protocol_of, type_kind, type_of, worded};
 
 use crate::answers::{kind_word, mode_word, policy_word};
 use crate::fault::FaultKind;
@@ -16,14 +16,20 @@ use lb_cache::{MaxEntries, MaxTtl, Shards};
 use lb_core::Timeout;
 use lb_masks::{Mask, decimal_up_to, parse_addr};
 use lb_name::Name;
-use lb_servers::{Ident, Mode, Policy, PoolName};
-use lb_wire::{Addr, Kind, MAX_MESSAGE, Octets, RecordType};
+use lb_servers::{Ident, LaneCount, Mode, Policy, PoolName};
+use lb_wire::{Addr, Kind, Lane, MAX_MESSAGE, Octets, RecordType};
 use std::alloc::{AllocError, Global};
 use std::num::{NonZeroU8, NonZeroU16};
 use std::str::from_utf8;
 
 /// The greatest number that is looked at where a lesser one is due.
 const MAX_NUMBER: u64 = 4_294_967_295;
+
+/// The length of a transport's word.
+const KIND_LENGTH: usize = 3;
+
+/// The last lane of a transport.
+const LAST_LANE: u64 = 7;
 
 /// The modes of a server.
 const MODES: [Mode; 3] = [Mode::Up, Mode::Down, Mode::Auto];
@@ -89,6 +95,21 @@ pub(crate) fn kind_of(text: &[u8]) -> Option<Kind>
         .iter()
         .find(|kind| kind_word(**kind).as_bytes() == text)
         .copied()
+}
+
+/// The lane that a word names: a transport, and after a slash the lane's number if it is not lane 0.
+pub(crate) fn lane_of(text: &[u8]) -> Option<Lane>
+    ensures { result ≡ lane_of text.now }
+{
+    if text.len() > KIND_LENGTH && text[KIND_LENGTH] == b'/' {
+        let (_, number) = text.split_at(KIND_LENGTH + 1);
+        let (kind, _) = text.split_at(KIND_LENGTH);
+        let kind = kind_of(kind)?;
+        let number = decimal_up_to(number, LAST_LANE)? as u8;
+        return Some(Lane { kind, number });
+    }
+    let kind = kind_of(text)?;
+    Some(Lane { kind, number: 0 })
 }
 
 /// Whether a word says that a probe was answered as it should be.
@@ -216,6 +237,13 @@ pub(crate) fn entries_of(text: &[u8]) -> Option<MaxEntries>
     ensures { result ≡ in_range 1 1000000 text.now }
 {
     MaxEntries::new(decimal_up_to(text, MAX_NUMBER)? as u32)
+}
+
+/// How many lanes of each transport a server has, 1 to 8, as a word says it.
+pub(crate) fn lane_count_of(text: &[u8]) -> Option<LaneCount>
+    ensures { result ≡ in_range 1 8 text.now }
+{
+    LaneCount::new(in_range(text, 1, 8)? as u8)
 }
 
 /// Over how many shards a cache spreads its replies, as a word says it.

@@ -8,27 +8,21 @@ use Rattle.lb_wire.specs.declared.ids.CacheId.{CacheId}
 use Rattle.lb_wire.specs.declared.ids.ServerId.{ServerId}
 use Rattle.lb_wire.specs.declared.key.Key.{Key}
 use Rattle.lb_wire.specs.declared.rcode.Rcode.TheVariants as rcodes
-use Rattle.lb_wire.specs.declared.transport.Kind.{Kind}
 use Rattle.lb_wire.specs.declared.transport.Lane.{Lane}
 use Rattle.lb_wire.specs.declared.query.QueryView.{QueryView}
 use Rattle.lb_table.specs.declared.entry.Entry.{Entry}
 use Rattle.lb_table.specs.Place.{at_place}
-use Rattle.lb_table.specs.Table.{FirstFree}
 use Rattle.lb_core.specs.declared.asked.Asked.{Asked}
 use Rattle.lb_core.specs.declared.asked.Routed.{Routed}
 use Rattle.lb_core.specs.declared.answer.Answer.{Answer}
 use Rattle.lb_core.specs.Answer.{Leaves}
 use Rattle.lb_core.specs.declared.answer.Answer.TheVariants.{Forward, Local}
 use Rattle.lb_core.specs.declared.answer.LocalReason.TheVariants as locals
-use Rattle.lb_core.specs.Upstream.{Upstreams, picked_of, with_entry, with_turn}
+use Rattle.lb_core.specs.Upstream.{FirstPlace, Upstreams, picked_of, with_entry, with_turn}
 
 -- the refusal of a query with ServFail
 abbrev pub failure_of : QueryView → List ℕ
 failure_of view = refusal_of view (rcode_number rcodes.ServFail)
-
--- the upstream socket for queries that came by a transport
-abbrev pub lane_of : Kind → Lane
-lane_of kind = record { kind = kind; number = 0 }
 
 -- the message to be sent, still with the query's own ID: RD is 0 where a rule says so
 abbrev pub sent_of : Bool → List ℕ → List ℕ
@@ -52,20 +46,20 @@ entry_of ups asked bytes view ask = record {
   cache = ask;
 }
 
--- a query sent to a server under the ID that is free, or refused where none is
-abbrev pub sent : Upstreams → Asked → List ℕ → QueryView → Routed → Option (CacheId × Key) → ServerId → Option ℕ → Upstreams × Answer
+-- a query sent to a server by the lane and under the ID that are free, or refused if none are
+abbrev pub sent : Upstreams → Asked → List ℕ → QueryView → Routed → Option (CacheId × Key) → ServerId → Option (Lane × ℕ) → Upstreams × Answer
 sent ups asked bytes view routed ask server None = (ups, Local (failure_of view) locals.LaneFull)
-sent ups asked bytes view routed ask server (Some id) = (
-  with_entry (at_place server (lane_of asked.kind) id) (entry_of ups asked bytes view ask) ups,
-  Forward server (lane_of asked.kind) id (with_id id (sent_of routed.no_recurse bytes)),
+sent ups asked bytes view routed ask server (Some (lane, id)) = (
+  with_entry (at_place server lane id) (entry_of ups asked bytes view ask) ups,
+  Forward server lane id (with_id id (sent_of routed.no_recurse bytes)),
 )
 
 -- a query for which a pool picked this server, or none: the pool's turn is counted whether an ID is free or not
 abbrev pub PickForwards : Upstreams → Asked → List ℕ → QueryView → Routed → Option (CacheId × Key) → Option ServerId → Answer → Upstreams → Type 0
 PickForwards ups asked bytes view routed ask None answer new = Leaves new answer (ups, Local (failure_of view) locals.NoServer)
 PickForwards ups asked bytes view routed ask (Some server) answer new =
-    (id : Option ℕ) × FirstFree ups.outstanding server (lane_of asked.kind) asked.word id
-    × (Leaves new answer (sent (with_turn routed.pool ups) asked bytes view routed ask server id))
+    (by : Option (Lane × ℕ)) × FirstPlace ups server asked.kind asked.word by
+    × (Leaves new answer (sent (with_turn routed.pool ups) asked bytes view routed ask server by))
 
 -- a query that a server of a pool is to answer; it asked this of a cache
 abbrev pub Forwards : Upstreams → Asked → List ℕ → QueryView → Routed → Option (CacheId × Key) → Answer → Upstreams → Type 0

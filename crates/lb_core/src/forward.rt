@@ -8,7 +8,7 @@ ghost use Rattle.lb_wire.specs.Answer.{refusal_of};
 ghost use Rattle.lb_wire.specs.Octets.{max_message};
 ghost use Rattle.lb_wire.specs.Query.{IsQuery, view_of};
 ghost use Rattle.lb_cache.specs.Caches.{name_of_key};
-ghost use Rattle.lb_core.specs.Forward.{entry_of as entry_of_spec, Forwards, lane_of as lane_of_spec, sent_of, with_id};
+ghost use Rattle.lb_core.specs.Forward.{entry_of as entry_of_spec, Forwards, sent_of, with_id};
 ghost use Rattle.lb_core.specs.declared.answer.Answer.TheVariants.{Local};
 ghost use Rattle.lb_core.specs.Upstream.{Upstreams};
 
@@ -17,9 +17,7 @@ use crate::asked::{Asked, Routed};
 use crate::lacking::Lacking;
 use crate::upstream::Upstream;
 use lb_table::{EnterFault, Entry};
-use lb_wire::{
-    CacheId, Key, Kind, Lane, Octets, QueryView, Rcode, answer_in_place, clear_rd, restore_id,
-};
+use lb_wire::{CacheId, Key, Octets, QueryView, Rcode, answer_in_place, clear_rd, restore_id};
 use std::alloc::{AllocError, Global};
 
 /// Answers a query by a server of a pool; it asked this of a cache. Where memory is refused for its entry, nothing changes and the
@@ -54,9 +52,13 @@ pub(crate) fn forward(
         Ok(entry) => entry,
         Err(error) => return Err((Lacking::from(error), bytes)),
     };
-    let lane = lane_of(asked.kind);
-    match upstream.send(routed.pool, server, lane, asked.word, entry) {
-        Ok(id) => Ok(Answer::Forward(server, lane, id, message(bytes, routed.no_recurse, id))),
+    match upstream.send(routed.pool, server, asked.kind, asked.word, entry) {
+        Ok((lane, id)) => Ok(Answer::Forward(
+            server,
+            lane,
+            id,
+            message(bytes, routed.no_recurse, id),
+        )),
         Err((fault, _)) => match fault {
             EnterFault::LaneFull => {
                 Ok(refused(bytes, view, Rcode::ServFail, LocalReason::LaneFull))
@@ -64,13 +66,6 @@ pub(crate) fn forward(
             EnterFault::NoMemory => Err((Lacking::by_table(fault), bytes)),
         },
     }
-}
-
-/// The upstream socket for queries that came by a transport.
-fn lane_of(kind: Kind) -> Lane
-    ensures { result ≡ lane_of_spec kind }
-{
-    Lane { kind, number: 0 }
 }
 
 /// What is kept of a query until its reply. The one error is want of memory.

@@ -5,4 +5,6 @@
 #[cfg(test)]
 mod lines;
 #[cfg(test)]
+mod long_runs;
+#[cfg(test)]
 mod tests;

@@ -245,3 +245,50 @@ fn a_copy_is_equal(rt: HostRuntime) -> Result<(), Fail> {
         EnterFault::LaneFull.number() == 1 && EnterFault::NoMemory.number() == 2,
     )
 }
+
+/// A lane of datagrams.
+fn udp(number: u8) -> Lane {
+    Lane {
+        kind: Kind::Datagram,
+        number,
+    }
+}
+
+/// Sends a query to server 1, which has so many lanes, with this word: its lane's number and its ID.
+fn sent(alloc: Global, table: &mut Table, lanes: u8, word: u16) -> Result<Option<(u8, u16)>, Fail> {
+    let Some(lane) = table.choose(ONE, Kind::Datagram, lanes, word) else {
+        return Ok(None);
+    };
+    match enter(table, ONE, lane, word, entry(alloc, 1, 1000, 2000)?) {
+        Ok(id) => Ok(Some((lane.number, id))),
+        Err(_) => Err(Fail::from("the lane that was chosen is full")),
+    }
+}
+
+#[test]
+fn lanes_by_the_word(rt: HostRuntime) -> Result<(), Fail> {
+    let alloc = rt.alloc();
+    let mut table = Table::new(alloc);
+    held(0, table.choose(ONE, Kind::Datagram, 0, 16).is_none())?;
+    held(1, sent(alloc, &mut table, 2, 16)? == Some((0, 16)))?;
+    held(2, sent(alloc, &mut table, 2, 17)? == Some((1, 17)))?;
+    held(3, sent(alloc, &mut table, 2, 17)? == Some((1, 18)))?;
+    held(4, sent(alloc, &mut table, 8, 65_535)? == Some((7, 65_535)))?;
+    held(5, found(&table, ONE, udp(0), 17).is_none())?;
+    held(6, table.in_flight(ONE) == 4)
+}
+
+#[test]
+fn a_full_lane_is_passed_by(rt: HostRuntime) -> Result<(), Fail> {
+    let alloc = rt.alloc();
+    let mut table = Table::new(alloc);
+    for word in 0..=65_535u16 {
+        held(0, sent(alloc, &mut table, 1, word)? == Some((0, word)))?;
+    }
+    held(1, sent(alloc, &mut table, 1, 0)?.is_none())?;
+    held(2, table.choose(ONE, Kind::Stream, 1, 0) == Some(TCP))?;
+    held(3, table.choose(TWO, Kind::Datagram, 1, 0) == Some(UDP))?;
+    held(4, sent(alloc, &mut table, 2, 0)? == Some((1, 0)))?;
+    let _ = table.take(ONE, UDP, 300);
+    held(5, sent(alloc, &mut table, 2, 0)? == Some((0, 300)))
+}

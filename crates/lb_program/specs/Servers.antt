@@ -15,7 +15,7 @@ use Rattle.lb_program.specs.declared.servers.Stated.{Stated}
 
 -- what a command states of a new server, where it adds one
 abbrev pub stated_by : Command → Option Stated
-stated_by (ServerAdd spec check) = Some (record { addr = spec.addr; port = spec.port; must_resolve = check.must_resolve })
+stated_by (ServerAdd spec check) = Some (record { addr = spec.addr; port = spec.port; must_resolve = check.must_resolve; lanes = spec.lanes })
 stated_by _ = None
 
 -- the place is that of a server
@@ -24,7 +24,7 @@ is_place id place = place.id.0 == id.0
 
 -- a new server, in mode auto, behind the others, while they are fewer than 256
 abbrev pub place_put : ServerId → Stated → List ServerPlace → List ServerPlace
-place_put id stated places = if nat_lt (length places) 256 then places ++ record { id = id; addr = stated.addr; port = stated.port; mode = Auto; must_resolve = stated.must_resolve } ∷ [] else places
+place_put id stated places = if nat_lt (length places) 256 then places ++ record { id = id; addr = stated.addr; port = stated.port; mode = Auto; must_resolve = stated.must_resolve; lanes = stated.lanes } ∷ [] else places
 
 -- the list without the one at a place
 abbrev pub removed_at : List ServerPlace → Option ℕ → List ServerPlace

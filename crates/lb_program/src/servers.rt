@@ -7,7 +7,7 @@ ghost use Rattle.lb_core.specs.declared.event.Event.TheVariants.{Edit};
 ghost use Rattle.lb_program.specs.Servers.{followed, is_place, mode_put, place_put, place_removed, stated_by};
 
 use lb_core::{Answer, Balancer, BoxedCommand, Command, Event, Note};
-use lb_servers::Mode;
+use lb_servers::{LaneCount, Mode};
 use lb_wire::{Addr, ServerId};
 use std::alloc::{AllocError, Global};
 use std::marker::Model;
@@ -26,6 +26,8 @@ pub struct ServerPlace {
     pub mode: Mode,
     /// Whether a probe's name has to be resolved: NXDomain and Refused are failures too.
     pub must_resolve: bool,
+    /// How many lanes of each transport it has.
+    pub lanes: LaneCount,
 }
 
 impl ServerPlace {
@@ -43,6 +45,7 @@ pub(crate) struct Stated {
     addr: Addr,
     port: NonZeroU16,
     must_resolve: bool,
+    lanes: LaneCount,
 }
 
 /// What an edit may do to the list of servers: it has to be told how the edit was answered, by `ServerList::follow`, or else let
@@ -63,6 +66,7 @@ impl Expected {
                     addr: spec.addr,
                     port: spec.port,
                     must_resolve: check.must_resolve,
+                    lanes: spec.lanes,
                 }),
                 _ => None,
             },
@@ -151,6 +155,7 @@ fn put(places: &mut Vec<ServerPlace>, id: ServerId, stated: Stated)
             port: stated.port,
             mode: Mode::Auto,
             must_resolve: stated.must_resolve,
+            lanes: stated.lanes,
         });
     }
 }

@@ -7,7 +7,7 @@ ghost use Rattle.lb_wire.specs.declared.ids.ServerId.{ServerId};
 ghost use Rattle.lb_servers.specs.declared.fault.ParkFault.{ParkFault};
 ghost use Rattle.lb_servers.specs.declared.server.Loaded.{Loaded};
 ghost use Rattle.lb_servers.specs.Pool.{cache_at, pool_named, turned, with_policy};
-ghost use Rattle.lb_servers.specs.Server.{is_server, marked, server_named, with_mode, with_one_less, with_one_more};
+ghost use Rattle.lb_servers.specs.Server.{is_server, lanes_of, marked, server_named, with_mode, with_one_less, with_one_more};
 ghost use Rattle.lb_servers.specs.Pick.{chosen, picked, up_servers};
 ghost use Rattle.lb_servers.specs.Park.{AreBackends, added_pool, added_server, attached, cache_ready_of, changed_pool, detached, changed_server, lacks, no_backends, removed_server, server_fault, with_pool, with_server};
 
@@ -127,6 +127,14 @@ impl Park {
         ensures { result ≡ server_named self.now.servers name.now }
     {
         server::server_named(self.servers.as_slice(), name)
+    }
+
+    /// How many lanes of each transport the server with a number has, numbered from 0; 0 if there
+    /// is none. It takes no memory.
+    pub fn lanes(&self, id: ServerId) -> u8
+        ensures { result ≡ lanes_of self.now.servers id }
+    {
+        server::lanes_of(self.servers.as_slice(), id)
     }
 
     /// The pool with a name. It takes no memory.

@@ -7,11 +7,12 @@ ghost use Rattle.lb_wire.specs.declared.ids.ServerId.{ServerId};
 ghost use Rattle.lb_servers.specs.declared.fault.ParkFault.TheVariants.{NoMemory};
 ghost use Rattle.lb_servers.specs.declared.server.Loaded.{Loaded};
 ghost use Rattle.lb_servers.specs.Pool.{same_pool};
-ghost use Rattle.lb_servers.specs.Server.{ByNumber, IsPlaceOf, change_server, is_in, is_server, is_up, is_up_by, is_up_in, marked, place_if, server_named as number_named, with_mode, with_one_less, with_one_more};
+ghost use Rattle.lb_servers.specs.Server.{ByNumber, IsPlaceOf, change_server, lanes_of as number_of_lanes, is_in, is_server, is_up, is_up_by, is_up_in, marked, place_if, server_named as number_named, with_mode, with_one_less, with_one_more};
 ghost use Rattle.lb_servers.specs.Spec.{joined};
 
 use crate::fault::ParkFault;
 use crate::ident::Ident;
+use crate::lane_count::LaneCount;
 use arrayvec::ArrayVec;
 use lb_wire::{Addr, PoolId, ServerId};
 use std::alloc::{AllocError, Global};
@@ -104,6 +105,8 @@ pub struct Server {
     /// Servers of a lesser order come first.
     pub order: u16,
     pub pools: PoolIds,
+    /// How many lanes of each transport it has, numbered from 0.
+    pub lanes: LaneCount,
     pub mode: Mode,
     /// The mark of its health, which counts in mode auto.
     pub marked_up: bool,
@@ -139,6 +142,7 @@ impl Server {
             port: self.port,
             order: self.order,
             pools: self.pools.copy(),
+            lanes: self.lanes,
             mode: self.mode,
             marked_up: self.marked_up,
         }
@@ -239,6 +243,18 @@ pub(crate) fn server_named(servers: &[Loaded], name: &Ident) -> Option<ServerId>
         .iter()
         .find(|l| l.server.name.equals(name))
         .map(|l| l.server.id)
+}
+
+/// How many lanes of each transport the server with a number has, among servers by
+/// number; 0 if there is none.
+pub(crate) fn lanes_of(servers: &[Loaded], id: ServerId) -> u8
+    requires { ByNumber servers.now }
+    ensures { result ≡ number_of_lanes servers.now id }
+{
+    match place_of(servers, id) {
+        Some(at) => servers[at].server.lanes.get(),
+        None => 0,
+    }
 }
 
 /// Puts the server at a place into a mode.

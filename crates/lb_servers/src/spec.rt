@@ -4,6 +4,7 @@ ghost use Rattle.std.specs.Prelude.{◌≡◌, ◌≤◌, [], nat_le, length, If
 ghost use Rattle.lb_servers.specs.Spec.{lacks_pool as lacks, new_server as server_of, pools_named as numbers_named, stated_pools as stated};
 
 use crate::ident::Ident;
+use crate::lane_count::LaneCount;
 use crate::pool::{Pool, PoolName, has_pool, pool_named};
 use crate::server::{Loaded, MAX_POOLS_OF_SERVER, Mode, PoolIds, Server};
 use lb_wire::{Addr, ServerId};
@@ -115,12 +116,14 @@ pub struct ServerSpec {
     pub order: u16,
     /// The pools that it stands in, a repeated one counted once; the default pool alone where none is stated.
     pub pools: PoolNames,
+    /// How many lanes of each transport it has; 1 if it is not stated.
+    pub lanes: LaneCount,
 }
 
 impl ServerSpec {
-    /// A server of order 1 in the default pool alone. It takes no memory.
+    /// A server of order 1 in the default pool alone, with one lane of each transport. It takes no memory.
     pub fn new(alloc: Global, name: Ident, addr: Addr, port: NonZeroU16) -> ServerSpec
-        ensures { result ≡ record { name = name; addr = addr; port = port; order = 1; pools = [] } }
+        ensures { result ≡ record { name = name; addr = addr; port = port; order = 1; pools = []; lanes = 1 } }
     {
         ServerSpec {
             name,
@@ -128,6 +131,7 @@ impl ServerSpec {
             port,
             order: 1,
             pools: PoolNames::none(alloc),
+            lanes: LaneCount::one(),
         }
     }
 
@@ -141,6 +145,7 @@ impl ServerSpec {
             port: self.port,
             order: self.order,
             pools: self.pools.copy(alloc)?,
+            lanes: self.lanes,
         })
     }
 
@@ -154,6 +159,7 @@ impl ServerSpec {
             && is_port(self.port, other.port)
             && self.order == other.order
             && self.pools.equals(&other.pools)
+            && self.lanes == other.lanes
     }
 }
 
@@ -218,6 +224,7 @@ pub(crate) fn new_server(id: u64, pools: &[Pool], spec: ServerSpec) -> Loaded
             port: spec.port,
             order: spec.order,
             pools,
+            lanes: spec.lanes,
             mode: Mode::Auto,
             marked_up: true,
         },

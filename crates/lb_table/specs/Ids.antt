@@ -6,6 +6,11 @@ use Rattle.std.specs.Int.{bit_at}
 abbrev pub has_id : List ℕ → ℕ → Bool
 has_id words id = bit_at (slice_index_or words (id / 64) 0) (id % 64) == 1
 
+-- whether each ID is taken; if that is not so, one is not
+abbrev pub TellsFull : (ℕ → Bool) → Bool → Type 0
+TellsFull taken true = (id : ℕ) → id < 2 ^ 16 → taken id ≡ true
+TellsFull taken false = (id : ℕ) × (id < 2 ^ 16) × (taken id ≡ false)
+
 -- the first ID at or after a word, 65,535 being followed by 0, that is not taken; None where each is
 abbrev pub FirstOf : (ℕ → Bool) → ℕ → Option ℕ → Type 0
 FirstOf taken word None = (id : ℕ) → id < 2 ^ 16 → taken id ≡ true

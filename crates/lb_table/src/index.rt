@@ -7,12 +7,12 @@ ghost use Rattle.lb_table.specs.Counts.{count_of};
 ghost use Rattle.lb_table.specs.Held.{queries, slot_of, without_first};
 ghost use Rattle.lb_table.specs.Index.{Apart, Tells, stands_at};
 ghost use Rattle.lb_table.specs.Line.{stood};
-ghost use Rattle.lb_table.specs.Table.{FirstFree, is_for};
+ghost use Rattle.lb_table.specs.Table.{FirstFree, FirstLane, FullAs, is_for, lane_after};
 
 use crate::counts::Counts;
 use crate::lanes::Lanes;
 use crate::place::Place;
-use lb_wire::{Lane, ServerId};
+use lb_wire::{Kind, Lane, ServerId};
 use std::alloc::{AllocError, Global};
 
 /// The slots of queries by their places, and how many wait for each server. A contract says what it tells of a line that it is
@@ -21,6 +21,18 @@ use std::alloc::{AllocError, Global};
 pub(crate) struct Index {
     lanes: Lanes,
     counts: Counts,
+}
+
+/// Of so many lanes of a transport the one that comes m after the word's; after the last comes lane 0.
+fn lane_after(kind: Kind, lanes: u8, word: u16, m: u8) -> Lane
+    requires { 0 < lanes }
+    ensures { result ≡ lane_after kind lanes word m }
+{
+    let number = (u32::from(word) + u32::from(m)) % u32::from(lanes);
+    Lane {
+        kind,
+        number: number as u8,
+    }
 }
 
 impl Index {
@@ -39,6 +51,27 @@ impl Index {
         ensures { (line : List (ℕ × Waiting)) → Tells self.now line → FirstFree (queries line) server lane word result }
     {
         self.lanes.free(server, lane, word)
+    }
+
+    /// Whether each ID of the server's lane has a query that waits.
+    fn is_full(&self, server: ServerId, lane: Lane) -> bool
+        ensures { (line : List (ℕ × Waiting)) → Tells self.now line → FullAs (queries line) server lane result }
+    {
+        self.lanes.is_full(server, lane)
+    }
+
+    /// The first of so many lanes of this transport, from the word's on, on which an ID is free; after the
+    /// last comes lane 0.
+    pub(crate) fn choose(&self, server: ServerId, kind: Kind, lanes: u8, word: u16) -> Option<Lane>
+        ensures { (line : List (ℕ × Waiting)) → Tells self.now line → FirstLane (queries line) server kind lanes word result }
+    {
+        for m in 0..lanes {
+            let lane = lane_after(kind, lanes, word, m);
+            if !self.is_full(server, lane) {
+                return Some(lane);
+            }
+        }
+        None
     }
 
     /// The slot of the query that waits at a place.
@@ -69,6 +102,14 @@ impl Index {
                 Err(refused)
             }
         }
+    }
+
+    /// Gives back the room of a server's lanes that have no query: so many of each transport. It takes no
+    /// memory.
+    pub(crate) fn let_go(&mut self, server: ServerId, lanes: u8)
+        ensures { (line : List (ℕ × Waiting)) → Tells self.old line → Tells self.new line }
+    {
+        self.lanes.let_go(server, lanes);
     }
 
     /// The query of a place goes, if one waits there: its slot. It takes no memory.

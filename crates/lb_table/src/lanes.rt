@@ -4,7 +4,7 @@ ghost use Rattle.std.specs.Prelude.{◌≡◌, ℕ, None, Some, IsSome, IfOk, If
 ghost use Rattle.std.specs.Bool.{OnTrue};
 ghost use Rattle.std.specs.Option.{is_some};
 ghost use Rattle.lb_table.specs.declared.place.Place.{Place};
-ghost use Rattle.lb_table.specs.Ids.{FirstOf};
+ghost use Rattle.lb_table.specs.Ids.{FirstOf, TellsFull};
 ghost use Rattle.lb_table.specs.Lanes.{lane_at, lane_key, slot_at, slot_in, slot_of_lane};
 ghost use Rattle.lb_table.specs.Place.{at_place, same_place};
 
@@ -18,8 +18,9 @@ use std::marker::Model;
 /// A lane of a server, as the index has it.
 type LaneKey = (u64, u8, u8);
 
-/// How many lanes may stand before a new one takes the room of one that has no query: 256 servers with a lane of each transport.
-const LANES: usize = 512;
+/// How many lanes may stand before a new one takes the room of one that has no query: 256 servers with 8
+/// lanes of each transport.
+const LANES: usize = 4_096;
 
 /// The lanes that have, or had, a query. A contract sees each with its IDs and their slots, and speaks of them by `slot_at`.
 #[derive(Debug, Drop)]
@@ -84,6 +85,15 @@ fn room(lanes: &mut BTreeMap<LaneKey, LaneIds>, alloc: Global) -> Result<LaneIds
     LaneIds::new(alloc)
 }
 
+/// Gives back the room of a lane if it has no query.
+fn let_go(lanes: &mut BTreeMap<LaneKey, LaneIds>, key: LaneKey)
+    ensures { (place : Place) → slot_at lanes.new.entries place ≡ slot_at lanes.old.entries place }
+{
+    if is_empty(lanes, &key) {
+        let _ = lanes.remove(&key);
+    }
+}
+
 /// Makes a lane that is not there.
 fn make(
     lanes: &mut BTreeMap<LaneKey, LaneIds>,
@@ -122,6 +132,16 @@ impl Lanes {
         }
     }
 
+    /// Whether at each ID of a lane something stands.
+    pub(crate) fn is_full(&self, server: ServerId, lane: Lane) -> bool
+        ensures { TellsFull (λ id. is_some (slot_at self.now (at_place server lane id))) result }
+    {
+        match self.lanes.get(&key_of(server, lane)) {
+            Some(ids) => ids.is_full(),
+            None => false,
+        }
+    }
+
     /// The slot of a place.
     pub(crate) fn get(&self, place: &Place) -> Option<usize>
         ensures { result ≡ slot_at self.now place.now }
@@ -137,9 +157,25 @@ impl Lanes {
         ensures kept { OnErr result ((p : Place) → slot_at self.new p ≡ slot_at self.old p) }
     {
         let key = key_of(place.server, place.lane);
+        if let Some(ids) = self.lanes.get_mut(&key) {
+            return ids.put(place.id, slot);
+        }
         make(&mut self.lanes, self.alloc, key)?;
         let ids = self.lanes.get_mut(&key).unwrap();
         ids.put(place.id, slot)
+    }
+
+    /// Gives back the room of a server's lanes that have no query: so many of each transport. It takes no
+    /// memory.
+    pub(crate) fn let_go(&mut self, server: ServerId, lanes: u8)
+        ensures { (p : Place) → slot_at self.new p ≡ slot_at self.old p }
+    {
+        for number in 0..lanes {
+            let kind = Kind::Datagram;
+            let_go(&mut self.lanes, key_of(server, Lane { kind, number }));
+            let kind = Kind::Stream;
+            let_go(&mut self.lanes, key_of(server, Lane { kind, number }));
+        }
     }
 
     /// Takes a place's slot away. It takes no memory.

@@ -4,14 +4,14 @@ ghost use Rattle.std.specs.Prelude.{◌≡◌, ◌+◌, ◌^◌, ◌<◌, ◌≤
 ghost use Rattle.std.specs.List.{AllByRecursion, count_by};
 ghost use Rattle.lb_table.specs.Entry.{deadline_of};
 ghost use Rattle.lb_table.specs.Place.{at_place};
-ghost use Rattle.lb_table.specs.Table.{AreWaiting, Enters, due, entry_at, is_for, taken_at, waits_at, without_due};
+ghost use Rattle.lb_table.specs.Table.{AreWaiting, Enters, FirstLane, due, entry_at, is_for, taken_at, waits_at, without_due};
 
 use crate::entry::{Entry, Waiting};
 use crate::fault::EnterFault;
 use crate::index::Index;
 use crate::line::Line;
 use crate::place::Place;
-use lb_wire::{Lane, ServerId};
+use lb_wire::{Kind, Lane, ServerId};
 use std::alloc::{AllocError, Global};
 use std::marker::Model;
 
@@ -68,6 +68,15 @@ impl Table {
         ensures { IfOk result (λ list. list.items ≡ self.now) }
     {
         self.line.list(alloc)
+    }
+
+    /// The lane by which a query is sent to a server that has so many lanes of this transport, numbered from
+    /// 0: the first from the word's on that has a free ID; after the last comes lane 0. None if each is
+    /// full, or if there is none. It takes no memory.
+    pub fn choose(&self, server: ServerId, kind: Kind, lanes: u8, word: u16) -> Option<Lane>
+        ensures { FirstLane self.now server kind lanes word result }
+    {
+        self.index.choose(server, kind, lanes, word)
     }
 
     /// Enters a query that is sent to a server by this lane, and gives the ID that it is sent with: the first that is free
@@ -141,6 +150,14 @@ impl Table {
         let waiting = self.line.remove(slot)?;
         let _ = self.index.take(&waiting.place);
         Some(waiting)
+    }
+
+    /// Gives back the room that is kept for the lanes of a server that was removed, so many of each
+    /// transport, if no query waits on them. It takes no memory.
+    pub fn let_go(&mut self, server: ServerId, lanes: u8)
+        ensures { self.new ≡ self.old }
+    {
+        self.index.let_go(server, lanes);
     }
 
     /// How many queries wait for a server, by all its lanes.
