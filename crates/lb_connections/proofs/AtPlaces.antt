@@ -7,7 +7,7 @@ use Rattle.std.specs.Prelude.{IfSome, nat_lt}
 use Rattle.std.specs.List.{All}
 use Rattle.std.proofs.lemmas.Bool.Decides.{nat_tests}
 use Rattle.std.proofs.lemmas.Bool.{cases_eq}
-use Rattle.lb_connections.specs.Table.{IsFirst, IsGiven, IsNew, Narrows, Swaps, Table, at, at_place, client_count, clients_in, holds_client, if_number, is_client, is_none}
+use Rattle.lb_connections.specs.Table.{IsFirst, IsGiven, IsNew, Narrows, Swaps, Table, at, at_place, client_count, clients_in, holds_client, if_number, is_client, is_none, owed_with, owed_without}
 use Rattle.lb_connections.specs.Taking.{Takes}
 use Rattle.lb_connections.specs.Writing.{max_waiting}
 use Rattle.lb_connections.specs.Writing.{Puts}
@@ -118,16 +118,19 @@ swaps_at n t x y fits lt was num num' peer = record {
 }
 
 pub puts_at : (n i : ℕ) (message : List ℕ) (t : Table) (x m y : Connection) → i ≡ n % 4096 → i < length t.slots → n < t.next → get_or t.slots i None ≡ Some x → x.number ≡ n
-    → m.outgoing ≡ x.outgoing ++ framed message → m ≡ record x { outgoing = m.outgoing } → y ≡ record m { is_touched = y.is_touched }
+    → m.outgoing ≡ x.outgoing ++ framed message → m.owed ≡ owed_with x → m ≡ record x { outgoing = m.outgoing; owed = m.owed }
+    → y ≡ record m { is_touched = y.is_touched }
     → length x.outgoing + length (framed message) ≤ max_waiting → Puts n message t (record t { slots = set t.slots i (Some y) })
-puts_at n i message t x m y at fits lt was num put rest touched few =
-    let same : y ≡ record x { outgoing = x.outgoing ++ framed message; is_touched = y.is_touched } =
-    touched ∙ ap (λ (z : Connection). record z { is_touched = y.is_touched }) rest ∙ ap (λ (zs : List ℕ). record x { outgoing = zs; is_touched = y.is_touched }) put in
+puts_at n i message t x m y place fits lt was num put owes rest touched few =
+    let same : y ≡ record x { outgoing = x.outgoing ++ framed message; owed = owed_with x; is_touched = y.is_touched } =
+    touched ∙ ap (λ (z : Connection). record z { is_touched = y.is_touched }) rest
+    ∙ ap (λ (zs : List ℕ). record x { outgoing = zs; owed = m.owed; is_touched = y.is_touched }) put
+    ∙ ap (λ (k : ℕ). record x { outgoing = x.outgoing ++ framed message; owed = k; is_touched = y.is_touched }) owes in
     let all : length y.outgoing ≡ length x.outgoing + length (framed message) = ap (λ (z : Connection). length z.outgoing) same ∙ length-append x.outgoing (framed message) in
-    subst (λ (k : ℕ). Puts n message t (record t { slots = set t.slots k (Some y) })) (sym at) (record {
+    subst (λ (k : ℕ). Puts n message t (record t { slots = set t.slots k (Some y) })) (sym place) (record {
       x = x;
       y = y;
-      swaps = swaps_at n t x y (subst (λ (k : ℕ). k < length t.slots) at fits) lt (subst (λ (k : ℕ). get_or t.slots k None ≡ Some x) at was) num (ap (λ (z : Connection). z.number) same ∙ num) (ap (λ (z : Connection). z.peer) same);
+      swaps = swaps_at n t x y (subst (λ (k : ℕ). k < length t.slots) place fits) lt (subst (λ (k : ℕ). get_or t.slots k None ≡ Some x) place was) num (ap (λ (z : Connection). z.number) same ∙ num) (ap (λ (z : Connection). z.peer) same);
       same = same;
       within = omega (arith, all, few);
     })
@@ -136,12 +139,15 @@ one_at : (n : ℕ) (t : Table) (x y : Connection) → at n t ≡ Some x → at n
 one_at n t x y here there = let both : Some y ≡ Some x = sym there ∙ here in cc
 
 pub takes_at : (n i : ℕ) (t : Table) (x m y : Connection) (peer : Peer) (message : List ℕ) → i ≡ n % 4096 → i < length t.slots → n < t.next → get_or t.slots i None ≡ Some x → x.number ≡ n
-    → ((message rest : List ℕ) → length message < 2 ^ 16 → x.incoming ≡ framed message ++ rest → m.incoming ≡ rest) → m ≡ record x { incoming = m.incoming; is_queued = false } → y ≡ record m { is_queued = y.is_queued }
+    → ((message rest : List ℕ) → length message < 2 ^ 16 → x.incoming ≡ framed message ++ rest → m.incoming ≡ rest) → m.owed ≡ owed_without x
+    → m ≡ record x { incoming = m.incoming; owed = m.owed; is_queued = false } → y ≡ record m { is_queued = y.is_queued }
     → IsFirst n peer message t → Takes n message t (record t { slots = set t.slots i (Some y) })
-takes_at n i t x m y peer message place fits lt was num left rest queued first =
+takes_at n i t x m y peer message place fits lt was num left owes rest queued first =
     let incoming : y.incoming ≡ m.incoming = ap (λ (z : Connection). z.incoming) queued in
-    let same : y ≡ record x { incoming = y.incoming; is_queued = y.is_queued } =
-    queued ∙ ap (λ (z : Connection). record z { is_queued = y.is_queued }) rest ∙ ap (λ (zs : List ℕ). record x { incoming = zs; is_queued = y.is_queued }) (sym incoming) in
+    let same : y ≡ record x { incoming = y.incoming; owed = owed_without x; is_queued = y.is_queued } =
+    queued ∙ ap (λ (z : Connection). record z { is_queued = y.is_queued }) rest
+    ∙ ap (λ (zs : List ℕ). record x { incoming = zs; owed = m.owed; is_queued = y.is_queued }) (sym incoming)
+    ∙ ap (λ (k : ℕ). record x { incoming = y.incoming; owed = k; is_queued = y.is_queued }) owes in
     let swap : Swaps n t (record t { slots = set t.slots (n % 4096) (Some y) }) x y = swaps_at n t x y (subst (λ (k : ℕ). k < length t.slots) place fits) lt (subst (λ (k : ℕ). get_or t.slots k None ≡ Some x) place was) num
     (ap (λ (z : Connection). z.number) same ∙ num) (ap (λ (z : Connection). z.peer) same) in
     let front : x.incoming ≡ framed message ++ first.1 = ap (λ (z : Connection). z.incoming) (sym (one_at n t x first.0 swap.was first.2)) ∙ first.5 in

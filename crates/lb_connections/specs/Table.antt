@@ -1,9 +1,13 @@
 -- Connections by their numbers.
-use Rattle.std.specs.Prelude.{◌≡◌, ◌≢◌, ◌⊎◌, ℕ, ◌≤◌, ◌%◌, nat_le, nat_lt, Bool, true, false, List, [], length, ◌++◌, ◌<◌, ◌^◌, if◌then◌else◌, ◌==◌, Option, Some, None, get_or}
+use Rattle.std.specs.Prelude.{◌≡◌, ◌≢◌, ◌⊎◌, ℕ, ◌≤◌, ◌%◌, ◌+◌, ◌-◌, min, nat_le, nat_lt, Bool, true, false, not, ◌&&◌, List, [], length, ◌++◌, ◌<◌, ◌^◌, if◌then◌else◌, ◌==◌, Option, Some, None, get_or}
+use Rattle.std.specs.Option.{is_some, unwrap_or}
 use Rattle.std.specs.List.{count_by}
 use Rattle.lb_connections.specs.declared.connection.Connection.{Connection}
 use Rattle.lb_frames.specs.Frames.{NoneWhole, framed}
+use Rattle.lb_lines.specs.Endpoint.{is_endpoint}
+use Rattle.lb_lines.specs.Roster.{end_of}
 use Rattle.lb_lines.specs.declared.endpoint.Endpoint.{Endpoint}
+use Rattle.lb_lines.specs.declared.roster.Listed.{Listed}
 use Rattle.lb_lines.specs.declared.traffic.Peer.{Peer}
 use Rattle.lb_lines.specs.declared.traffic.Peer.TheVariants as peers
 use Rattle.lb_wire.specs.declared.ids.ServerId.{ServerId}
@@ -107,6 +111,48 @@ abbrev pub IsToSee : Option Connection → Type 0
 IsToSee None = ⊥
 IsToSee (Some x) = (x.is_passed_over ≡ true) ⊎ IsDone x
 
--- the time of a connection is over at this moment
-abbrev pub IsOverdue : ℕ → Connection → Type 0
-IsOverdue now x = (until : ℕ) × (x.until ≡ Some until) × (until ≤ now)
+-- how many messages more were put on a server's connection than were taken of it, once one more is put
+-- there, 2^64-1 at most; a client's connection does not count these
+abbrev pub owed_with : Connection → ℕ
+owed_with x = if is_client x.peer then x.owed else min (x.owed + 1) (2 ^ 64 - 1)
+
+-- the same, once one is taken of it
+abbrev pub owed_without : Connection → ℕ
+owed_without x = if is_client x.peer then x.owed else x.owed - 1
+
+-- a server's connection is to be closed at some moment, and nothing is awaited by it
+abbrev pub is_left : Connection → Bool
+is_left x = is_some x.until && (not (is_client x.peer) && (x.owed == 0))
+
+-- when a connection is closed at the latest
+abbrev pub closes_at : Connection → ℕ
+closes_at x = if is_left x then 0 else unwrap_or x.until (2 ^ 64 - 1)
+
+-- a connection is to be closed at this moment: its time is over, or nothing is awaited by it
+pub record IsOverdue (now : ℕ) (x : Connection) : Type 0 where
+  pub until : ℕ
+  pub is : x.until ≡ Some until
+  pub over : (until ≤ now) ⊎ (is_left x ≡ true)
+
+-- whether an end is the one that the roster has
+abbrev pub is_end : Endpoint → Option Endpoint → Bool
+is_end at None = false
+is_end at (Some there) = is_endpoint there at
+
+-- how long a server's connection is read on that is not at the roster's end, in milliseconds
+abbrev pub read_on : ℕ
+read_on = 60000
+
+-- the moment at which a server's connection is closed: none if it is at the roster's end; else that which
+-- was set before, or one that comes so much later
+abbrev pub until_after : Bool → ℕ → Option ℕ → Option ℕ
+until_after true now until = None
+until_after false now until = Some (unwrap_or until (min (now + read_on) (2 ^ 64 - 1)))
+
+-- the same of any connection, by the roster; a client's is left as it is
+abbrev pub followed_by : Peer → List Listed → ℕ → Option ℕ → Option ℕ
+followed_by (peers.Client front at) listed now until = until
+followed_by (peers.Server server number at) listed now until = until_after (is_end at (end_of server listed)) now until
+
+abbrev pub followed : List Listed → ℕ → Connection → Option ℕ
+followed listed now x = followed_by x.peer listed now x.until

@@ -1,6 +1,6 @@
 -- What is taken of what came.
 use Rattle.std.specs.Prelude.{◌≡◌, ◌<◌, ◌^◌, ℕ, List, ◌++◌, length}
-use Rattle.lb_connections.specs.Table.{Swaps, Table}
+use Rattle.lb_connections.specs.Table.{Swaps, Table, owed_without}
 use Rattle.lb_connections.specs.declared.connection.Connection.{Connection}
 use Rattle.lb_frames.specs.Frames.{framed}
 
@@ -11,4 +11,4 @@ pub record Takes (n : ℕ) (message : List ℕ) (a b : Table) : Type 0 where
   pub swaps : Swaps n a b x y
   pub fits : length message < 2 ^ 16
   pub front : x.incoming ≡ framed message ++ y.incoming
-  pub same : y ≡ record x { incoming = y.incoming; is_queued = y.is_queued }
+  pub same : y ≡ record x { incoming = y.incoming; owed = owed_without x; is_queued = y.is_queued }

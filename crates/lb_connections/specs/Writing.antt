@@ -1,6 +1,6 @@
 -- What is put behind what a connection is to write.
 use Rattle.std.specs.Prelude.{◌≡◌, ◌⊎◌, ◌+◌, ◌<◌, ◌≤◌, ℕ, false, List, ◌++◌, length, Option, Some, None}
-use Rattle.lb_connections.specs.Table.{Swaps, Table, at}
+use Rattle.lb_connections.specs.Table.{Swaps, Table, at, owed_with}
 use Rattle.lb_connections.specs.declared.connection.Connection.{Connection}
 use Rattle.lb_frames.specs.Frames.{framed}
 use Rattle.lb_lines.specs.Counts.{Rose}
@@ -30,7 +30,7 @@ pub record Puts (n : ℕ) (message : List ℕ) (a b : Table) : Type 0 where
   pub x : Connection
   pub y : Connection
   pub swaps : Swaps n a b x y
-  pub same : y ≡ record x { outgoing = x.outgoing ++ framed message; is_touched = y.is_touched }
+  pub same : y ≡ record x { outgoing = x.outgoing ++ framed message; owed = owed_with x; is_touched = y.is_touched }
   pub within : length y.outgoing ≤ max_waiting
 
 -- Why a message is not put there: there is no such connection; more octets would wait to be written to it than may; or memory was

@@ -1,7 +1,7 @@
 //! One connection.
 
 ghost use Rattle.std.specs.Prelude.{[], IfSome, IsTrue, List, None, OnErr, OnOk, Some, drop, false, length, true, ℕ, ◌++◌, ◌+◌, ◌<◌, ◌^◌, ◌≡◌, ◌≤◌};
-ghost use Rattle.lb_connections.specs.Table.{IsDone, IsOverdue, is_client};
+ghost use Rattle.lb_connections.specs.Table.{IsDone, IsOverdue, closes_at, followed, is_client, is_left, owed_with, owed_without};
 ghost use Rattle.lb_frames.specs.Frames.{NoneWhole, framed};
 ghost use Rattle.lb_wire.specs.Octets.{max_message};
 
@@ -35,7 +35,8 @@ pub struct Connection {
     pub peer: Peer,
     pub incoming: Incoming,
     pub outgoing: Outgoing,
-    /// How many of its queries were sent on and are not answered.
+    /// Of a client: how many of its queries were sent on and are not answered. Of a server: how many more
+    /// messages were put on it than were taken of it.
     pub owed: u64,
     /// Whether its peer has closed its side.
     pub is_ended: bool,
@@ -122,13 +123,19 @@ impl Connection {
         self.is_ended && self.owed == 0 && self.outgoing.len() == 0 && !self.incoming.has_message()
     }
 
-    /// Puts a message behind what is to be written. The one error is want of memory, and then nothing has changed.
+    /// Puts a message after what is to be written. A server owes one message more then. The one error is
+    /// refused memory, and then nothing has changed.
     pub(crate) fn promise(&mut self, message: &Octets) -> Result<(), AllocError>
         ensures promised { OnOk result (self.new.outgoing ≡ self.old.outgoing ++ framed message.now) }
+        ensures owed { OnOk result (self.new.owed ≡ owed_with self.old) }
         ensures same { OnErr result (self.new ≡ self.old) }
-        ensures rest { self.new ≡ record self.old { outgoing = self.new.outgoing } }
+        ensures rest { self.new ≡ record self.old { outgoing = self.new.outgoing; owed = self.new.owed } }
     {
-        self.outgoing.push_framed(message.as_slice())
+        self.outgoing.push_framed(message.as_slice())?;
+        if !is_client(self.peer) {
+            self.owed = self.owed.saturating_add(1);
+        }
+        Ok(())
     }
 
     /// Notes its number among those that are to be written at the end of the turn, where there is memory for that.
@@ -140,14 +147,19 @@ impl Connection {
         }
     }
 
-    /// Takes the whole message off the front of what came. It has had its turn in the queue.
+    /// Takes the whole message off the front of what came. It has had its turn in the queue, and a server
+    /// owes one message less.
     pub(crate) fn drop_first(&mut self)
         requires { (message : List ℕ) × (rest : List ℕ) × (length message < 2 ^ 16) × (self.old.incoming ≡ framed message ++ rest) }
         ensures taken { (message : List ℕ) → (rest : List ℕ) → length message < 2 ^ 16 → self.old.incoming ≡ framed message ++ rest → self.new.incoming ≡ rest }
-        ensures rest { self.new ≡ record self.old { incoming = self.new.incoming; is_queued = false } }
+        ensures owed { self.new.owed ≡ owed_without self.old }
+        ensures rest { self.new ≡ record self.old { incoming = self.new.incoming; owed = self.new.owed; is_queued = false } }
     {
         self.incoming.drop_first();
         self.is_queued = false;
+        if !is_client(self.peer) {
+            self.owed = self.owed.saturating_sub(1);
+        }
     }
 
     /// Puts its number behind those that wait for their turn, where it has a whole message and does not stand there yet. The one error is
@@ -176,9 +188,11 @@ impl Connection {
         until
     }
 
-    /// A server's connection that is not at the roster's end of the server is read on from this moment for a while, and then closed; one
-    /// that is there is kept. Tells the moment at which it is closed; 2^64-1 where none is set now.
+    /// A server's connection that is not at the roster's end of the server is read on from this moment for
+    /// a while, and then closed; one that is there is kept. Returns when it is closed, as `closes_at` does;
+    /// 2^64-1 for a client's, which is left as it is.
     pub fn follow(&mut self, roster: &Roster, now: u64) -> u64
+        ensures until { self.new ≡ record self.old { until = followed roster.now.listed now self.old } }
         ensures rest { (self.new.number ≡ self.old.number) × (self.new.peer ≡ self.old.peer) × (self.new.incoming ≡ self.old.incoming) × (self.new.outgoing ≡ self.old.outgoing) × (self.new.is_ended ≡ self.old.is_ended) }
     {
         let Peer::Server(server, _, end) = self.peer else {
@@ -188,22 +202,40 @@ impl Connection {
             Some(place) => place.at.is(end),
             None => false,
         };
-        if stands {
-            self.until = None;
-            return u64::MAX;
-        }
-        let until = self.until.unwrap_or(now.saturating_add(READ_ON));
-        self.until = Some(until);
-        until
+        self.until = if stands {
+            None
+        } else {
+            Some(self.until.unwrap_or(now.saturating_add(READ_ON)))
+        };
+        self.closes_at()
     }
 
-    /// Whether its time is over at this moment.
+    /// Whether it leads to a server that has left the roster, or its end there, and as many messages were
+    /// taken of it as were put on it: nothing is awaited by it any more.
+    fn is_left(&self) -> bool
+        ensures { result ≡ is_left self.now }
+    {
+        self.until.is_some() && !is_client(self.peer) && self.owed == 0
+    }
+
+    /// The moment at which it is closed at the latest, in milliseconds: 0 if nothing is awaited by it, and
+    /// 2^64-1 if none is set.
+    pub fn closes_at(&self) -> u64
+        ensures { result ≡ closes_at self.now }
+    {
+        if self.is_left() {
+            return 0;
+        }
+        self.until.unwrap_or(u64::MAX)
+    }
+
+    /// Whether it is to be closed at this moment: its time is over, or nothing is awaited by it.
     pub fn is_overdue(&self, now: u64) -> bool
         ensures over { IsTrue result → IsOverdue now self.now }
-        ensures kept { result ≡ false → IfSome self.now.until (λ until. now < until) }
+        ensures kept { result ≡ false → IsOverdue now self.now → ⊥ }
     {
         match self.until {
-            Some(until) => until <= now,
+            Some(until) => until <= now || self.is_left(),
             None => false,
         }
     }

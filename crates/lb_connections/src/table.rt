@@ -1,6 +1,6 @@
 //! The connections of a loop, by their numbers.
 
-ghost use Rattle.std.specs.Prelude.{IfErr, IfNone, IfOk, IfSome, IsTrue, None, Some, false, if◌then◌else◌, length, option_map, true, vec_len, ◌%◌, ◌+◌, ◌<◌, ◌^◌, ◌≡◌, ◌≢◌, ◌≤◌, ◌⊎◌, ℕ};
+ghost use Rattle.std.specs.Prelude.{IfErr, IfNone, IfOk, IfSome, IsTrue, None, Some, false, get_or, if◌then◌else◌, length, option_map, true, vec_len, ◌%◌, ◌+◌, ◌<◌, ◌^◌, ◌≡◌, ◌≢◌, ◌≤◌, ◌⊎◌, ℕ};
 ghost use Rattle.std.specs.List.{All};
 ghost use Rattle.lb_connections.specs.Writing.{IsOver, IsUrgent};
 ghost use Rattle.lb_connections.specs.Table.{IsGiven, IsNew, IsTo, IsToSee, Narrows, at, at_place, client_count, clients, clients_in, is_none, vacant};
@@ -46,7 +46,7 @@ pub struct Connections {
     /// The connections to servers, by server and upstream socket.
     routes: Vec<Route>,
     /// No connection has to be closed before this moment, in milliseconds.
-    due: u64,
+    pub(crate) due: u64,
     /// The version of the roster that the servers' connections were held against.
     version: Option<u64>,
     ghost wide: { vec_len slots ≡ 4096 },
@@ -361,9 +361,10 @@ impl Connections {
         self.touched.len()
     }
 
-    /// The number of the connection at a place.
+    /// The number of the connection at a place, if one stands there.
     pub fn number_at(&self, place: usize) -> Option<u64>
         requires { place < 4096 }
+        ensures { result ≡ option_map (λ (x : Connection). x.number) (get_or self.now.slots place None) }
     {
         match &self.slots[place] {
             Some(connection) => Some(connection.number),

@@ -45,8 +45,9 @@ impl Connections {
         }))
     }
 
-    /// Takes the first message of a connection, which stands first in the queue, off what came of it, where it stands. With a further one
-    /// it waits for its turn again. The one error is want of memory for that; the message is taken all the same.
+    /// Takes the first message of a connection, which stands first in the queue, off what came of it. With a
+    /// further one it waits for its turn again. The one error is refused memory for that; the message is
+    /// taken all the same.
     pub fn drop_first(&mut self, number: u64) -> Result<(), AllocError>
         ensures { (peer : Peer) (message : List ℕ) → IsFirst number peer message self.old → Takes number message self.old self.new }
     {
@@ -64,6 +65,7 @@ impl Connections {
         }
         connection.drop_first();
         let _ = self.queue.pop_front();
+        self.due = self.due.min(connection.closes_at());
         connection.enqueue(&mut self.queue)
     }
 

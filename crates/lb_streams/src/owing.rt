@@ -95,7 +95,7 @@ impl<S: Streams> Links<S> {
             self.sockets.close(number);
             return;
         }
-        self.table.look_by(connection.until.unwrap_or(u64::MAX));
+        self.table.look_by(connection.closes_at());
         self.table.put(connection);
     }
 }
