@@ -9,6 +9,7 @@ use std::alloc::{AllocError, Global};
 use std::io;
 use std::io::{ErrorKind, Read, Write};
 use std::sync::Wait;
+use std::time::Clock;
 
 /// The bytes that are read at once.
 const CHUNK: usize = 4_096;
@@ -69,7 +70,7 @@ impl Client {
     }
 
     /// The next thing that can be done: to write, to answer a line, or to read.
-    pub(crate) fn step<R: Wait, T: Taker, O: Outside>(
+    pub(crate) fn step<R: Wait + Clock, T: Taker, O: Outside>(
         &mut self,
         rt: &R,
         operator: &mut Operator<T, O>,
@@ -111,7 +112,7 @@ impl Client {
     }
 
     /// Looks at what was read, up to the end of a line. Where memory is wanting for it, the client is to be closed.
-    fn look<R: Wait, T: Taker, O: Outside>(
+    fn look<R: Wait + Clock, T: Taker, O: Outside>(
         &mut self,
         rt: &R,
         operator: &mut Operator<T, O>,
@@ -135,7 +136,7 @@ impl Client {
     }
 
     /// Answers the line that has ended.
-    fn end_line<R: Wait, T: Taker, O: Outside>(
+    fn end_line<R: Wait + Clock, T: Taker, O: Outside>(
         &mut self,
         rt: &R,
         operator: &mut Operator<T, O>,

@@ -1,11 +1,13 @@
 //! How many descriptors the program may have, and for how many clients they suffice.
 
 use lb_command::{Listener, Protocol};
+use lb_program::ServerPlace;
 use libc;
 use libc::types::rlimit;
 
-/// As many as 1,024 clients of streams, 1,024 by HTTP, 256 servers, and what is listened with need.
-pub(crate) const WANTED: u64 = 3_000;
+/// As many as 1,024 clients of streams, 1,024 by HTTP, 256 servers with a lane of each transport, and what
+/// is listened with need.
+const ENOUGH: u64 = 3_200;
 
 /// The most clients of a kind, however many descriptors there are.
 const MOST: u64 = 1_024;
@@ -15,8 +17,11 @@ const MOST: u64 = 1_024;
 /// servers that the console adds.
 const OWN: u64 = 48;
 
-/// What a server takes: a socket of datagrams, a connection, and a socket of probes of each kind.
-const OF_SERVER: u64 = 4;
+/// What the probes of a server take: a socket, and another one while it is made anew.
+const OF_PROBES: u64 = 2;
+
+/// What a lane takes of a server that has it of each transport: a socket of datagrams and a connection.
+const OF_LANE: u64 = 2;
 
 /// The clients of a kind for which there is room in any case, if a line listens for them.
 const LEAST: u64 = 4;
@@ -42,8 +47,12 @@ pub(crate) struct Clients {
 
 impl Clients {
     /// As many as descriptors are left of this limit for each kind that is listened for, once the
-    /// listeners and so many servers have theirs; 1,024 at most.
-    pub(crate) fn under(limit: Option<u64>, lines: &[Listener], servers: usize) -> Clients {
+    /// listeners and these servers have theirs; 1,024 at most.
+    pub(crate) fn under(
+        limit: Option<u64>,
+        lines: &[Listener],
+        servers: &[ServerPlace],
+    ) -> Clients {
         let kinds = u64::from(listens(lines, Protocol::Tcp))
             + u64::from(listens(lines, Protocol::Doh));
         let each = match limit {
@@ -78,11 +87,26 @@ impl Clients {
     }
 }
 
+/// How many descriptors 1,024 clients of each kind, 256 servers and the further lanes of these servers need.
+pub(crate) fn wanted(servers: &[ServerPlace]) -> u64 {
+    servers.iter().fold(ENOUGH, |sum, server| {
+        sum.saturating_add(of_lanes(server).saturating_sub(OF_LANE))
+    })
+}
+
 /// How many descriptors are left for clients.
-fn left_of(limit: u64, lines: usize, servers: usize) -> u64 {
-    let servers = (servers as u64).saturating_mul(OF_SERVER);
-    let kept = OWN.saturating_add(lines as u64).saturating_add(servers);
+fn left_of(limit: u64, lines: usize, servers: &[ServerPlace]) -> u64 {
+    let kept = OWN.saturating_add(lines as u64);
+    let kept = servers.iter().fold(kept, |sum, server| {
+        sum.saturating_add(OF_PROBES)
+            .saturating_add(of_lanes(server))
+    });
     limit.saturating_sub(kept)
+}
+
+/// How many descriptors the lanes of a server take.
+fn of_lanes(server: &ServerPlace) -> u64 {
+    u64::from(server.lanes.get()).saturating_mul(OF_LANE)
 }
 
 /// Whether a line listens by a protocol.

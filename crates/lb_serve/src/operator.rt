@@ -13,9 +13,16 @@ use lb_core::{Answer, BoxedCommand, Command, Event, Note};
 use lb_desk::DeskFault;
 use lb_loops::{Endpoint, Outside, Place, Roster, RosterFull, Taker};
 use lb_program::{Expected, ServerList, ServerPlace};
+use lb_servers::Mode;
 use lb_wire::ServerId;
 use std::alloc::{AllocError, Global};
 use std::sync::{Arc, Mutex, Wait};
+use std::thread::sleep;
+use std::time::{Clock, Duration};
+
+/// How long a new server is known to the loops before it is known to the desk, in milliseconds. A turn that
+/// began with an older copy of the roster has ended by then.
+const AHEAD: u64 = 10;
 
 /// What comes of a line.
 #[derive(Debug, Drop)]
@@ -34,6 +41,8 @@ pub(crate) struct Operator<T: Taker, O: Outside> {
     taker: T,
     outside: O,
     servers: ServerList,
+    /// The number that the next server will have, as far as these servers say.
+    next: ServerId,
     roster: Arc<Mutex<Roster>>,
 }
 
@@ -48,11 +57,13 @@ impl<T: Taker, O: Outside> Operator<T, O> {
     ) -> Operator<T, O>
         ensures { (result.taker ≡ taker) × (result.outside ≡ outside) × (result.servers ≡ servers) }
     {
+        let next = number_after(servers.as_slice());
         Operator {
             alloc,
             taker,
             outside,
             servers,
+            next,
             roster,
         }
     }
@@ -67,7 +78,7 @@ impl<T: Taker, O: Outside> Operator<T, O> {
 
     /// Answers a line: a command is carried out by the desk, and its answer is told; a line that does not read is told its fault. Where no
     /// moment is to be had, or no memory for the answer, there is none: then nothing was done, or the command was carried out.
-    pub(crate) fn answer<R: Wait>(&mut self, rt: &R, line: &str) -> Result<Said, Fault>
+    pub(crate) fn answer<R: Wait + Clock>(&mut self, rt: &R, line: &str) -> Result<Said, Fault>
         ensures said { IfOk result (λ said. Says line.now said (record { answered = T.answered self.old.taker; pairs = T.pairs self.old.taker; servers = self.old.servers }) (record { answered = T.answered self.new.taker; pairs = T.pairs self.new.taker; servers = self.new.servers })) }
         ensures unsaid { IfErr result (λ _. Leaves line.now (record { answered = T.answered self.old.taker; pairs = T.pairs self.old.taker; servers = self.old.servers }) (record { answered = T.answered self.new.taker; pairs = T.pairs self.new.taker; servers = self.new.servers })) }
     {
@@ -88,7 +99,7 @@ impl<T: Taker, O: Outside> Operator<T, O> {
     }
 
     /// Carries out the command of a line.
-    fn edit<R: Wait>(&mut self, rt: &R, line: &str, command: Command) -> Result<Said, Fault>
+    fn edit<R: Wait + Clock>(&mut self, rt: &R, line: &str, command: Command) -> Result<Said, Fault>
         ensures said { IfOk result (λ said. Took command said (record { answered = T.answered self.old.taker; pairs = T.pairs self.old.taker; servers = self.old.servers }) (record { answered = T.answered self.new.taker; pairs = T.pairs self.new.taker; servers = self.new.servers })) }
         ensures unsaid { IfErr result (λ _. MayCarry command (record { answered = T.answered self.old.taker; pairs = T.pairs self.old.taker; servers = self.old.servers }) (record { answered = T.answered self.new.taker; pairs = T.pairs self.new.taker; servers = self.new.servers })) }
     {
@@ -100,14 +111,18 @@ impl<T: Taker, O: Outside> Operator<T, O> {
             Err(refused) => return self.wanting(line, refused),
         };
         let expected = Expected::of(command.get());
+        let announced = self.announce(rt, command.get());
         match self.taker.take(Event::Edit { now, command }) {
             Ok(answer) => {
                 self.servers.follow(expected, &answer);
+                count_on(&mut self.next, &answer);
                 self.tell_loops(rt, &answer);
+                self.withdraw(rt, announced);
                 Ok(Said::Line(answer_line(self.alloc, &answer)?))
             }
             Err((fault, _)) => {
                 expected.let_go();
+                self.withdraw(rt, announced);
                 Ok(Said::Line(String::from_str(self.alloc, desk_line(fault))?))
             }
         }
@@ -124,6 +139,37 @@ impl<T: Taker, O: Outside> Operator<T, O> {
         Ok(Said::Line(fault_line(self.alloc, fault)?))
     }
 
+    /// Has the loops know where a new server is before the desk can send a query to it, under the number that
+    /// it will have. It is not probed yet.
+    fn announce<R: Wait + Clock>(&self, rt: &R, command: &Command) -> Option<ServerId> {
+        let Command::ServerAdd(spec, _) = command else {
+            return None;
+        };
+        let place = Place {
+            at: Endpoint {
+                addr: spec.addr,
+                port: spec.port.get(),
+            },
+            mode: Mode::Down,
+            must_resolve: false,
+        };
+        match self.roster.lock(rt).put(self.next, place) {
+            Ok(()) => {}
+            Err(RosterFull) => return None,
+        }
+        sleep(rt, Duration::from_millis(AHEAD));
+        Some(self.next)
+    }
+
+    /// Takes a server that was announced out again, if it was not added under that number.
+    fn withdraw<R: Wait>(&self, rt: &R, announced: Option<ServerId>) {
+        if let Some(id) = announced
+            && listed(self.servers.as_slice(), id).is_none()
+        {
+            self.roster.lock(rt).remove(id);
+        }
+    }
+
     /// Tells the loops where a server is of which an edit was carried out. The roster's lock is taken for that alone.
     fn tell_loops<R: Wait>(&self, rt: &R, answer: &Answer) {
         let Answer::Edited(note) = answer else {
@@ -138,6 +184,21 @@ impl<T: Taker, O: Outside> Operator<T, O> {
             Note::ServerRemoved(id) => self.roster.lock(rt).remove(*id),
             _ => {}
         }
+    }
+}
+
+/// The number after the greatest of these servers.
+fn number_after(servers: &[ServerPlace]) -> ServerId {
+    let last = servers
+        .iter()
+        .fold(0u64, |last, server| last.max(server.id.0));
+    ServerId(last.saturating_add(1))
+}
+
+/// After an answer that a server was added, the next one has the number after its number.
+fn count_on(next: &mut ServerId, answer: &Answer) {
+    if let Answer::Edited(Note::ServerAdded(id)) = answer {
+        *next = ServerId(id.0.saturating_add(1));
     }
 }
 

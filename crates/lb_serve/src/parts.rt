@@ -152,7 +152,7 @@ pub(crate) fn prepared<'a, J: Naming, R: Wait + Net + Clock + RandomSource>(
         http,
         consoles,
     } = listening;
-    let clients = Clients::under(limit(), setup.listeners(), setup.servers().len());
+    let clients = Clients::under(limit(), setup.listeners(), setup.servers());
     let sockets = Sockets::made(rt, alloc, datagrams, streams, clients)?;
     let outside = SystemOutside::new(rt)?;
     let shared = Shared::made(alloc, setup.servers())?;

@@ -3,7 +3,7 @@
 ghost use Rattle.std.specs.Prelude.{string_bytes, true, ◌≡◌};
 ghost use Rattle.lb_serve.specs.Sentences.{are_sentences};
 
-use crate::descriptors::{Clients, WANTED, limit};
+use crate::descriptors::{Clients, limit, wanted};
 use crate::fault::Fault;
 use crate::listening::line_of;
 use lb_command::Protocol;
@@ -52,16 +52,13 @@ impl Sentences {
         setup: &Setup,
     ) -> Result<(), AllocError> {
         let lines = setup.listeners();
+        let wanted = wanted(setup.servers());
         if let Some(limit) = limit()
-            && limit < WANTED
+            && limit < wanted
         {
-            let Clients { streams, http } = Clients::under(
-                Some(limit),
-                lines,
-                setup.servers().len(),
-            );
+            let Clients { streams, http } = Clients::under(Some(limit), lines, setup.servers());
             let words = format!(in alloc;
-                "the system allows {limit} descriptors: {streams} clients by TCP and {http} by HTTP at a time; 1,024 of each and 256 servers need {WANTED} (ulimit -n {WANTED})"
+                "the system allows {limit} descriptors: {streams} clients by TCP and {http} by HTTP at a time; 1,024 of each and 256 servers need {wanted} (ulimit -n {wanted})"
             )?;
             self.add(alloc, words)?;
         }
