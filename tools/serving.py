@@ -503,8 +503,10 @@ def dnsdist_of(lines):
             address = f"[{words[3]}]" if ":" in words[3] else words[3]
             of = [words[at + 1] for at, word in enumerate(words) if word == "pool"] or [""]
             pools[words[2]] = of
+            sockets = words[words.index("lanes") + 1] if "lanes" in words else 1
             inside = ", ".join(f'"{"" if pool == "-" else pool}"' for pool in of)
-            out.append(f'newServer({{address="{address}:{words[4]}", name="{words[2]}", pool={{{inside}}}, sockets=1}}):setUp()')
+            named = f'address="{address}:{words[4]}", name="{words[2]}", pool={{{inside}}}'
+            out.append(f"newServer({{{named}, sockets={sockets}}}):setUp()")
         elif words[:2] == ["cache", "attach"]:
             pool = "" if words[2] == "-" else words[2]
             out.append(f'getPool("{pool}"):setCache(newPacketCache({words[3]}, {{maxTTL={words[5]}}}))')

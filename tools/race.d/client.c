@@ -8,7 +8,8 @@
    -t  seconds (3) or -n queries; -T a query is lost after so many milliseconds (1000); -e a seed for names and IDs
    -C  each query has an OPT with a fresh client cookie of 8 octets (RFC 7873)
 
-   It prints one line: sent S answered A lost L seconds T p50 US p99 US rcodes NOERROR SERVFAIL REFUSED OTHER */
+   It prints one line: sent S answered A lost L seconds T p50 US p99 US rcodes NOERROR SERVFAIL
+   REFUSED OTHER least US. The least is the time of the answer that came soonest. */
 #define _GNU_SOURCE
 #include <arpa/inet.h>
 #include <errno.h>
@@ -352,8 +353,14 @@ int main(int count, char **words)
     for (int i = 0; i < sockets; i++)
         lost += lanes[i]->in_flight;
     qsort(times, answered, sizeof *times, ascending);
-    printf("sent %llu answered %llu lost %llu seconds %.4f p50 %.1f p99 %.1f rcodes %llu %llu %llu %llu\n", (unsigned long long)sent, (unsigned long long)answered, (unsigned long long)lost,
-           ((drained ? drained : now()) - begin) / 1e9, answered ? times[answered / 2] / 10.0 : 0, answered ? times[answered * 99 / 100] / 10.0 : 0, (unsigned long long)rcodes[0],
-           (unsigned long long)rcodes[2], (unsigned long long)rcodes[5], (unsigned long long)(answered - rcodes[0] - rcodes[2] - rcodes[5]));
+    double took = ((drained ? drained : now()) - begin) / 1e9;
+    uint64_t others = answered - rcodes[0] - rcodes[2] - rcodes[5];
+    printf("sent %llu answered %llu lost %llu seconds %.4f", (unsigned long long)sent,
+           (unsigned long long)answered, (unsigned long long)lost, took);
+    printf(" p50 %.1f p99 %.1f", answered ? times[answered / 2] / 10.0 : 0,
+           answered ? times[answered * 99 / 100] / 10.0 : 0);
+    printf(" rcodes %llu %llu %llu %llu least %.1f\n", (unsigned long long)rcodes[0],
+           (unsigned long long)rcodes[2], (unsigned long long)rcodes[5], (unsigned long long)others,
+           answered ? times[0] / 10.0 : 0);
     return 0;
 }
