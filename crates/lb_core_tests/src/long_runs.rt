@@ -93,25 +93,27 @@ fn expect_all_sent<T: Abort + AllocGlobal>(
 #[test]
 fn a_lane_takes_65_536_queries(rt: HostRuntime) -> Result<(), Fail> {
     let mut balancer = Balancer::new(rt.alloc())?;
-    tell(
-        rt.alloc(),
-        &mut balancer,
-        "edit 0 server add s1 127.0.0.1 5301",
-    )?;
-    tell(rt.alloc(), &mut balancer, "edit 0 pool policy - roundrobin")?;
-    let answers = run_of_queries(rt.alloc(), &mut balancer, IDS + 1)?;
+    let answers = answers_by_turns(rt.alloc(), &mut balancer)?;
     expect_all_sent(&rt, answers.as_slice(), IDS)?;
-    tell(
-        rt.alloc(),
-        &mut balancer,
-        "edit 0 server add s2 127.0.0.1 5302",
-    )?;
-    let answer = tell(rt.alloc(), &mut balancer, QUERY)?;
-    assert!(rt;
-        matches!(&answer, Answer::Forward(server, ..) if server.0 == 2),
-        "{answer:?}"
-    );
+    let server = server_after(rt.alloc(), &mut balancer)?;
+    assert_eq!(rt; server, Some(2));
     Ok(())
+}
+
+/// The answers to one query more than a lane takes, of a server in a pool that takes turns.
+fn answers_by_turns(alloc: Global, balancer: &mut Balancer) -> Result<Vec<Answer>, Fail> {
+    tell(alloc, balancer, "edit 0 server add s1 127.0.0.1 5301")?;
+    tell(alloc, balancer, "edit 0 pool policy - roundrobin")?;
+    run_of_queries(alloc, balancer, IDS + 1)
+}
+
+/// The server to which a further query goes, after a second one was added.
+fn server_after(alloc: Global, balancer: &mut Balancer) -> Result<Option<u64>, Fail> {
+    tell(alloc, balancer, "edit 0 server add s2 127.0.0.1 5302")?;
+    match tell(alloc, balancer, QUERY)? {
+        Answer::Forward(server, ..) => Ok(Some(server.0)),
+        _ => Ok(None),
+    }
 }
 
 /// Two lanes take 131,072 queries, lane 0 first, as the word of each is 0.
