@@ -7,7 +7,7 @@ ghost use Rattle.lb_table.specs.Counts.{count_of};
 ghost use Rattle.lb_table.specs.Held.{queries, slot_of, without_first};
 ghost use Rattle.lb_table.specs.Index.{Apart, Tells, stands_at};
 ghost use Rattle.lb_table.specs.Line.{stood};
-ghost use Rattle.lb_table.specs.Table.{FirstFree, FirstLane, FullAs, is_for, lane_after};
+ghost use Rattle.lb_table.specs.Table.{FirstFree, FirstPlace, is_for, lane_after};
 
 use crate::counts::Counts;
 use crate::lanes::Lanes;
@@ -53,22 +53,21 @@ impl Index {
         self.lanes.free(server, lane, word)
     }
 
-    /// Whether each ID of the server's lane has a query that waits.
-    fn is_full(&self, server: ServerId, lane: Lane) -> bool
-        ensures { (line : List (ℕ × Waiting)) → Tells self.now line → FullAs (queries line) server lane result }
-    {
-        self.lanes.is_full(server, lane)
-    }
-
-    /// The first of so many lanes of this transport, from the word's on, on which an ID is free; after the
-    /// last comes lane 0.
-    pub(crate) fn choose(&self, server: ServerId, kind: Kind, lanes: u8, word: u16) -> Option<Lane>
-        ensures { (line : List (ℕ × Waiting)) → Tells self.now line → FirstLane (queries line) server kind lanes word result }
+    /// The first of so many lanes of this transport, from the word's on, on which an ID is free, and the first
+    /// free ID there at or after the word; after the last lane comes lane 0.
+    pub(crate) fn place(
+        &self,
+        server: ServerId,
+        kind: Kind,
+        lanes: u8,
+        word: u16,
+    ) -> Option<(Lane, u16)>
+        ensures { (line : List (ℕ × Waiting)) → Tells self.now line → FirstPlace (queries line) server kind lanes word result }
     {
         for m in 0..lanes {
             let lane = lane_after(kind, lanes, word, m);
-            if !self.is_full(server, lane) {
-                return Some(lane);
+            if let Some(id) = self.free(server, lane, word) {
+                return Some((lane, id));
             }
         }
         None

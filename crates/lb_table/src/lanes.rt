@@ -4,7 +4,7 @@ ghost use Rattle.std.specs.Prelude.{◌≡◌, ℕ, None, Some, IsSome, IfOk, If
 ghost use Rattle.std.specs.Bool.{OnTrue};
 ghost use Rattle.std.specs.Option.{is_some};
 ghost use Rattle.lb_table.specs.declared.place.Place.{Place};
-ghost use Rattle.lb_table.specs.Ids.{FirstOf, TellsFull};
+ghost use Rattle.lb_table.specs.Ids.{FirstOf};
 ghost use Rattle.lb_table.specs.Lanes.{lane_at, lane_key, slot_at, slot_in, slot_of_lane};
 ghost use Rattle.lb_table.specs.Place.{at_place, same_place};
 
@@ -15,8 +15,9 @@ use std::alloc::{AllocError, Global};
 use std::collections::BTreeMap;
 use std::marker::Model;
 
-/// A lane of a server, as the index has it.
-type LaneKey = (u64, u8, u8);
+/// A lane of a server, as the index has it: the server, and twice the lane's number, with one more for
+/// streams.
+type LaneKey = (u64, u16);
 
 /// How many lanes may stand before a new one takes the room of one that has no query: 256 servers with 8
 /// lanes of each transport.
@@ -32,7 +33,7 @@ pub(crate) struct Lanes {
 impl Model for Lanes {
     ghost use Rattle.std.specs.Prelude.{ℕ, List};
 
-    ghost Value = { List ((ℕ × ℕ × ℕ) × List (ℕ × ℕ)) };
+    ghost Value = { List ((ℕ × ℕ) × List (ℕ × ℕ)) };
 
     ghost view = { λ l. l.lanes.entries };
 }
@@ -45,7 +46,7 @@ fn key_of(server: ServerId, lane: Lane) -> LaneKey
         Kind::Datagram => 0,
         Kind::Stream => 1,
     };
-    (server.0, kind, lane.number)
+    (server.0, 2 * u16::from(lane.number) + kind)
 }
 
 /// Whether a lane is there and has no query.
@@ -74,7 +75,7 @@ fn empty_lane(lanes: &BTreeMap<LaneKey, LaneIds>) -> Option<LaneKey>
 fn room(lanes: &mut BTreeMap<LaneKey, LaneIds>, alloc: Global) -> Result<LaneIds, AllocError>
     ensures empty { IfOk result (λ lane. (id : ℕ) → slot_in lane id ≡ None) }
     ensures kept { (place : Place) → slot_at lanes.new.entries place ≡ slot_at lanes.old.entries place }
-    ensures absent { (key : ℕ × ℕ × ℕ) → lane_at lanes.old.entries key ≡ None → lane_at lanes.new.entries key ≡ None }
+    ensures absent { (key : ℕ × ℕ) → lane_at lanes.old.entries key ≡ None → lane_at lanes.new.entries key ≡ None }
 {
     if LANES <= lanes.len()
         && let Some(key) = empty_lane(lanes)
@@ -129,16 +130,6 @@ impl Lanes {
         match self.lanes.get(&key_of(server, lane)) {
             Some(ids) => ids.free(word),
             None => Some(word),
-        }
-    }
-
-    /// Whether at each ID of a lane something stands.
-    pub(crate) fn is_full(&self, server: ServerId, lane: Lane) -> bool
-        ensures { TellsFull (λ id. is_some (slot_at self.now (at_place server lane id))) result }
-    {
-        match self.lanes.get(&key_of(server, lane)) {
-            Some(ids) => ids.is_full(),
-            None => false,
         }
     }
 

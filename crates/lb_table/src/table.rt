@@ -1,10 +1,10 @@
 //! The table of outstanding queries.
 
-ghost use Rattle.std.specs.Prelude.{◌≡◌, ◌+◌, ◌^◌, ◌<◌, ◌≤◌, IfOk, IfSome, [], length, option_map};
+ghost use Rattle.std.specs.Prelude.{◌≡◌, ◌+◌, ◌^◌, ◌<◌, ◌≤◌, IfErr, IfOk, IfSome, OnOk, [], false, length, option_map};
 ghost use Rattle.std.specs.List.{AllByRecursion, count_by};
 ghost use Rattle.lb_table.specs.Entry.{deadline_of};
 ghost use Rattle.lb_table.specs.Place.{at_place};
-ghost use Rattle.lb_table.specs.Table.{AreWaiting, Enters, FirstLane, due, entry_at, is_for, taken_at, waits_at, without_due};
+ghost use Rattle.lb_table.specs.Table.{AreWaiting, Enters, EntersBy, FirstLane, due, entered, entry_at, is_for, is_used, taken_at, waits_at, without_due};
 
 use crate::entry::{Entry, Waiting};
 use crate::fault::EnterFault;
@@ -76,7 +76,8 @@ impl Table {
     pub fn choose(&self, server: ServerId, kind: Kind, lanes: u8, word: u16) -> Option<Lane>
         ensures { FirstLane self.now server kind lanes word result }
     {
-        self.index.choose(server, kind, lanes, word)
+        let (lane, _) = self.index.place(server, kind, lanes, word)?;
+        Some(lane)
     }
 
     /// Enters a query that is sent to a server by this lane, and gives the ID that it is sent with: the first that is free
@@ -97,21 +98,57 @@ impl Table {
         let Some(id) = self.index.free(server, lane, word) else {
             return Err((EnterFault::LaneFull, entry));
         };
-        let place = Place { server, lane, id };
+        match self.enter_at(Place { server, lane, id }, entry) {
+            Ok(()) => Ok(id),
+            Err((refused, entry)) => Err((EnterFault::from(refused), entry)),
+        }
+    }
+
+    /// Enters a query that is sent to a server that has so many lanes of this transport: on the lane that
+    /// `choose` gives, under the ID that `enter` gives there. `LaneFull` comes if each lane is full or there
+    /// is none, and then `NoMemory`; the query comes back with it, and nothing changes.
+    pub fn enter_by(
+        &mut self,
+        server: ServerId,
+        kind: Kind,
+        lanes: u8,
+        word: u16,
+        entry: Entry,
+    ) -> Result<(Lane, u16), (EnterFault, Entry)>
+        ensures enters { EntersBy self.old server kind lanes word entry result self.new }
+        // the list fits the machine, as after `enter`
+        ensures room { IfOk result (λ _. length self.new + 1 < 2 ^ 64) }
+    {
+        let Some((lane, id)) = self.index.place(server, kind, lanes, word) else {
+            return Err((EnterFault::LaneFull, entry));
+        };
+        match self.enter_at(Place { server, lane, id }, entry) {
+            Ok(()) => Ok((lane, id)),
+            Err((refused, entry)) => Err((EnterFault::from(refused), entry)),
+        }
+    }
+
+    /// Enters a query at a place at which none waits. If memory is refused, the query comes back, and
+    /// nothing changes.
+    fn enter_at(&mut self, place: Place, entry: Entry) -> Result<(), (AllocError, Entry)>
+        requires { is_used self.old place ≡ false }
+        ensures entered { OnOk result (self.new ≡ entered self.old place entry) }
+        ensures back { IfErr result (λ back. (back.1 ≡ entry) × (self.new ≡ self.old)) }
+        ensures room { length self.new + 1 < 2 ^ 64 }
+    {
+        self.line.law_of_line();
         let slot = match self.line.enter(Waiting { place, entry }) {
             Ok(slot) => slot,
-            Err((refused, Waiting { place: _, entry })) => {
-                return Err((EnterFault::from(refused), entry));
-            }
+            Err((refused, Waiting { place: _, entry })) => return Err((refused, entry)),
         };
         match self.index.add(&place, slot) {
             Ok(()) => {
                 self.line.law_of_line();
-                Ok(id)
+                Ok(())
             }
             Err(refused) => {
                 let Waiting { place: _, entry } = self.line.remove(slot).unwrap();
-                Err((EnterFault::from(refused), entry))
+                Err((refused, entry))
             }
         }
     }

@@ -3,7 +3,7 @@ use Rattle.lb_table.specs.declared.entry.Waiting.{Waiting}
 use Rattle.lb_table.specs.Held.{queries}
 use Rattle.lb_table.specs.Index.{Tells}
 use Rattle.lb_table.specs.Table.{IsFull, lane_after}
-use Rattle.lb_table.proofs.index.Index.choose.Given as goal
+use Rattle.lb_table.proofs.index.Index.place.Given as goal
 
 -- each lane that was looked at is full
 abbrev pub invariant-loop-m : goal.invariant-loop-m
