@@ -1,5 +1,5 @@
 -- Connections by their numbers.
-use Rattle.std.specs.Prelude.{◌≡◌, ◌≢◌, ◌⊎◌, ℕ, ◌≤◌, ◌%◌, ◌+◌, ◌-◌, min, nat_le, nat_lt, Bool, true, false, not, ◌&&◌, List, [], length, ◌++◌, ◌<◌, ◌^◌, if◌then◌else◌, ◌==◌, Option, Some, None, get_or}
+use Rattle.std.specs.Prelude.{◌≡◌, ◌≢◌, ◌⊎◌, ℕ, ◌≤◌, ◌%◌, ◌+◌, ◌-◌, min, nat_le, nat_lt, Bool, true, false, not, ◌&&◌, List, [], ◌∷◌, length, ◌++◌, ◌<◌, ◌^◌, if◌then◌else◌, ◌==◌, Option, Some, None, get_or}
 use Rattle.std.specs.Option.{is_some, unwrap_or}
 use Rattle.std.specs.List.{count_by}
 use Rattle.lb_connections.specs.declared.connection.Connection.{Connection}
@@ -156,3 +156,20 @@ followed_by (peers.Server server number at) listed now until = until_after (is_e
 
 abbrev pub followed : List Listed → ℕ → Connection → Option ℕ
 followed listed now x = followed_by x.peer listed now x.until
+
+-- when a connection that was held against the roster is closed at the latest: 2^64-1 for a client's, which
+-- the roster does not concern
+abbrev pub follows_until : Connection → ℕ
+follows_until x = if is_client x.peer then 2 ^ 64 - 1 else closes_at x
+
+-- The number of a connection is noted after these, once; if it was noted before, or there is no memory for
+-- it, nothing changes.
+abbrev pub Touches : Connection → Connection → List ℕ → List ℕ → Type 0
+Touches x y old new = ((x.is_touched ≡ false) × (y ≡ record x { is_touched = true }) × (new ≡ old ++ (x.number ∷ []))) ⊎ ((y ≡ x) × (new ≡ old))
+
+-- A connection waits for its turn after these: it stands there already, or has no whole message, and nothing
+-- changes; or its number comes after them.
+abbrev pub Queues : Connection → Connection → List ℕ → List ℕ → Type 0
+Queues x y old new =
+    (((x.is_queued ≡ true) ⊎ NoneWhole x.incoming) × (y ≡ x) × (new ≡ old))
+    ⊎ ((x.is_queued ≡ false) × (y ≡ record x { is_queued = true }) × (new ≡ old ++ (x.number ∷ [])))

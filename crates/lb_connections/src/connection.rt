@@ -1,7 +1,7 @@
 //! One connection.
 
 ghost use Rattle.std.specs.Prelude.{[], IfSome, IsTrue, List, None, OnErr, OnOk, Some, drop, false, length, true, ℕ, ◌++◌, ◌+◌, ◌<◌, ◌^◌, ◌≡◌, ◌≤◌};
-ghost use Rattle.lb_connections.specs.Table.{IsDone, IsOverdue, closes_at, followed, is_client, is_left, owed_with, owed_without};
+ghost use Rattle.lb_connections.specs.Table.{IsDone, IsOverdue, Queues, Touches, closes_at, followed, follows_until, is_client, is_left, owed_with, owed_without};
 ghost use Rattle.lb_frames.specs.Frames.{NoneWhole, framed};
 ghost use Rattle.lb_wire.specs.Octets.{max_message};
 
@@ -140,7 +140,8 @@ impl Connection {
 
     /// Notes its number among those that are to be written at the end of the turn, where there is memory for that.
     pub(crate) fn touch(&mut self, touched: &mut Vec<u64>)
-        ensures { self.new ≡ record self.old { is_touched = self.new.is_touched } }
+        ensures touches { Touches self.old self.new touched.old.items touched.new.items }
+        ensures rest { self.new ≡ record self.old { is_touched = self.new.is_touched } }
     {
         if !self.is_touched {
             self.is_touched = touched.push(self.number).is_ok();
@@ -165,7 +166,9 @@ impl Connection {
     /// Puts its number behind those that wait for their turn, where it has a whole message and does not stand there yet. The one error is
     /// want of memory.
     pub(crate) fn enqueue(&mut self, queue: &mut VecDeque<u64>) -> Result<(), AllocError>
-        ensures { self.new ≡ record self.old { is_queued = self.new.is_queued } }
+        ensures queues { OnOk result (Queues self.old self.new queue.old.items queue.new.items) }
+        ensures kept { OnErr result ((self.new ≡ self.old) × (queue.new.items ≡ queue.old.items)) }
+        ensures rest { self.new ≡ record self.old { is_queued = self.new.is_queued } }
     {
         if self.is_queued || !self.incoming.has_message() {
             return Ok(());
@@ -193,6 +196,7 @@ impl Connection {
     /// 2^64-1 for a client's, which is left as it is.
     pub fn follow(&mut self, roster: &Roster, now: u64) -> u64
         ensures until { self.new ≡ record self.old { until = followed roster.now.listed now self.old } }
+        ensures when { result ≡ follows_until self.new }
         ensures rest { (self.new.number ≡ self.old.number) × (self.new.peer ≡ self.old.peer) × (self.new.incoming ≡ self.old.incoming) × (self.new.outgoing ≡ self.old.outgoing) × (self.new.is_ended ≡ self.old.is_ended) }
     {
         let Peer::Server(server, _, end) = self.peer else {

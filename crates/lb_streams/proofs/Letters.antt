@@ -15,12 +15,13 @@ use Rattle.lb_lines.specs.declared.report.Way.TheVariants as ways
 use Rattle.lb_lines.specs.declared.report.Why.{Why}
 use Rattle.lb_lines.specs.declared.report.Why.TheVariants as whys
 use Rattle.lb_lines.specs.declared.roster.Listed.{Listed}
+use Rattle.lb_lines.specs.declared.traffic.Peer.TheVariants as peers
 use Rattle.lb_streams.proofs.Lifting.{server_before}
 use Rattle.lb_streams.proofs.Opening.{goes_nothing}
 use Rattle.lb_streams.proofs.Steps.{lives_at}
-use Rattle.lb_streams.proofs.Then.{closed_before, full_before, servers_later}
+use Rattle.lb_streams.proofs.Then.{closed_before, full_before, peer_before, servers_later}
 use Rattle.lb_streams.specs.Goes.{Goes, IsOver, Lacks, Misses, just, none}
-use Rattle.lb_streams.specs.Lines.{ComesClient, ComesPost, FitsConnection, FitsServer, IsClosed, IsServers, by_front, is_http}
+use Rattle.lb_streams.specs.Lines.{ComesClient, ComesPost, FitsConnection, FitsServer, IsClosed, IsMeant, IsServers, by_front, is_http}
 use Rattle.lb_streams.specs.Links.{Net, link}
 use Rattle.lb_streams.specs.Turn.{Sends}
 use Rattle.lb_streams.specs.World.{World}
@@ -49,13 +50,13 @@ servers_after n server number to a b bytes is goes = servers_later n a b none (j
 pub servers_end : (n : ℕ) (server : ServerId) (number : ℕ) (to : Endpoint) (a b : Net) → IsServers n server number to a → Goes a b none none → IsServers n server number to b
 servers_end n server number to a b is goes = servers_later n a b none none server number to goes is
 
-pub lacks_fits : (old new : Net) (lane : Lane) (bytes : List ℕ) (why : Why) → Lacks old new why → FitsServer old new none lane bytes why
-lacks_fits old new lane bytes whys.NoServer is = is
-lacks_fits old new lane bytes whys.Gone is = inr (inl is)
-lacks_fits old new lane bytes whys.Limit is = absurd is
-lacks_fits old new lane bytes whys.Full is = is
-lacks_fits old new lane bytes whys.Device is = is
-lacks_fits old new lane bytes whys.NoMemory is = tt
+pub lacks_fits : (old new : Net) (server : ServerId) (to : Endpoint) (lane : Lane) (bytes : List ℕ) (why : Why) → Lacks old new why → FitsServer old new none server to lane bytes why
+lacks_fits old new server to lane bytes whys.NoServer is = is
+lacks_fits old new server to lane bytes whys.Gone is = inr (inl is)
+lacks_fits old new server to lane bytes whys.Limit is = absurd is
+lacks_fits old new server to lane bytes whys.Full is = is
+lacks_fits old new server to lane bytes whys.Device is = is
+lacks_fits old new server to lane bytes whys.NoMemory is = tt
 
 lt_of : (n m : ℕ) → nat_lt n m ≡ true → n < m
 lt_of n m e = grind (arith, nat_tests)
@@ -64,14 +65,20 @@ closed_at : (n : ℕ) (a b : Net) (x : Connection) → at n a.table ≡ Some x �
 closed_at n a b x is (inl closed) = (lives_at (link n a) x is, closed)
 closed_at n a b x is (inr le) = let lt = lt_of n a.table.next (below_at n a.table x is) in absurd (omega (arith, lt, le))
 
+-- a connection that leads to a server's end is the one that is meant, before and after
+meant_at : (old mid new : Net) (n : ℕ) (server : ServerId) (number : ℕ) (to : Endpoint) → Goes old mid none none → IsTo n server number to mid.table → Goes mid new none none
+    → IsMeant n old new server number to
+meant_at old mid new n server number to goes is later =
+    peer_before n old mid new none none none none (peers.Server server number to) goes later (inl (is.0, is.1, is.2))
+
 pub missed_fits : (old mid new : Net) (n : ℕ) (server : ServerId) (lane : Lane) (to : Endpoint) (bytes : List ℕ) (why : Why) → Goes old mid none none → IsTo n server lane.number to mid.table
-    → Misses mid new n bytes why → FitsServer old new none lane bytes why
-missed_fits old mid new n server lane to bytes whys.NoServer goes is misses = misses
-missed_fits old mid new n server lane to bytes whys.Gone goes is misses = inr (inr (n, closed_before n old mid new none none goes (closed_at n mid new is.0 is.1 misses)))
-missed_fits old mid new n server lane to bytes whys.Limit goes is misses = (n, full_before n old mid new none none [] bytes goes misses)
-missed_fits old mid new n server lane to bytes whys.Full goes is misses = misses
-missed_fits old mid new n server lane to bytes whys.Device goes is misses = absurd misses
-missed_fits old mid new n server lane to bytes whys.NoMemory goes is misses = tt
+    → Goes mid new none none → Misses mid new n bytes why → FitsServer old new none server to lane bytes why
+missed_fits old mid new n server lane to bytes whys.NoServer goes is later misses = misses
+missed_fits old mid new n server lane to bytes whys.Gone goes is later misses = inr (inr (n, (meant_at old mid new n server lane.number to goes is later, closed_before n old mid new none none goes (closed_at n mid new is.0 is.1 misses))))
+missed_fits old mid new n server lane to bytes whys.Limit goes is later misses = (n, (meant_at old mid new n server lane.number to goes is later, full_before n old mid new none none [] bytes goes misses))
+missed_fits old mid new n server lane to bytes whys.Full goes is later misses = misses
+missed_fits old mid new n server lane to bytes whys.Device goes is later misses = absurd misses
+missed_fits old mid new n server lane to bytes whys.NoMemory goes is later misses = tt
 
 -- What came of a send.
 
@@ -178,21 +185,21 @@ server_done roster old new server lane to bytes n there goes is same = record {
   same = same_but old new same;
 }
 
-fits_device : (old new : Net) (lane : Lane) (bytes : List ℕ) (why : Why) → FitsServer old new none lane bytes why → IsTrue (is_by_device (Failed why)) → Rose old.told.failures new.told.failures
-fits_device old new lane bytes whys.NoServer is t = absurd (true≢false (sym t))
-fits_device old new lane bytes whys.Gone is t = absurd (true≢false (sym t))
-fits_device old new lane bytes whys.Limit is t = absurd (true≢false (sym t))
-fits_device old new lane bytes whys.Full is t = absurd (true≢false (sym t))
-fits_device old new lane bytes whys.Device is t = is
-fits_device old new lane bytes whys.NoMemory is t = absurd (true≢false (sym t))
+fits_device : (old new : Net) (server : ServerId) (to : Endpoint) (lane : Lane) (bytes : List ℕ) (why : Why) → FitsServer old new none server to lane bytes why → IsTrue (is_by_device (Failed why)) → Rose old.told.failures new.told.failures
+fits_device old new server to lane bytes whys.NoServer is t = absurd (true≢false (sym t))
+fits_device old new server to lane bytes whys.Gone is t = absurd (true≢false (sym t))
+fits_device old new server to lane bytes whys.Limit is t = absurd (true≢false (sym t))
+fits_device old new server to lane bytes whys.Full is t = absurd (true≢false (sym t))
+fits_device old new server to lane bytes whys.Device is t = is
+fits_device old new server to lane bytes whys.NoMemory is t = absurd (true≢false (sym t))
 
-pub server_failed : (roster : List Listed) (old new : World) (server : ServerId) (lane : Lane) (to : Endpoint) (bytes : List ℕ) (why : Why) → end_of server roster ≡ Some to → Goes old.net new.net none none → FitsServer old.net new.net none lane bytes why
+pub server_failed : (roster : List Listed) (old new : World) (server : ServerId) (lane : Lane) (to : Endpoint) (bytes : List ℕ) (why : Why) → end_of server roster ≡ Some to → Goes old.net new.net none none → FitsServer old.net new.net none server to lane bytes why
     → new ≡ record old { net = new.net } → Sends roster old new (Some (Server server lane, bytes)) (Failed why)
 server_failed roster old new server lane to bytes why there goes fits same = record {
   goes = goes;
   comes = rw there fits;
   handed = nothing_handed old new same;
-  failed = fits_device old.net new.net lane bytes why fits;
+  failed = fits_device old.net new.net server to lane bytes why fits;
   same = same_but old new same;
 }
 
@@ -205,9 +212,11 @@ sends_nothing roster old = record {
   same = refl;
 }
 
-pub missed_now : (old new : Net) (n : ℕ) (server : ServerId) (lane : Lane) (to : Endpoint) (bytes : List ℕ) (why : Why) → IsTo n server lane.number to old.table → Misses old new n bytes why → FitsServer old new none lane bytes why
-missed_now old new n server lane to bytes why is misses = missed_fits old old new n server lane to bytes why (goes_nothing old old refl) is misses
+pub missed_now : (old new : Net) (n : ℕ) (server : ServerId) (lane : Lane) (to : Endpoint) (bytes : List ℕ) (why : Why) → IsTo n server lane.number to old.table → Goes old new none none → Misses old new n bytes why
+    → FitsServer old new none server to lane bytes why
+missed_now old new n server lane to bytes why is goes misses = missed_fits old old new n server lane to bytes why (goes_nothing old old refl) is goes misses
 
-pub fits_all : (r : Result ℕ Why) (a b c : Net) (lane : Lane) (bytes : List ℕ) → Goes a b none none → IfErr r (λ why. FitsServer b c none lane bytes why) → IfErr r (λ why. FitsServer a c none lane bytes why)
-fits_all (Ok n) a b c lane bytes goes is = tt
-fits_all (Err why) a b c lane bytes goes is = server_before a b c none none none lane bytes why goes is
+pub fits_all : (r : Result ℕ Why) (a b c : Net) (m s : ℕ → List (List ℕ)) (server : ServerId) (to : Endpoint) (lane : Lane) (bytes : List ℕ) → Goes a b none none → Goes b c m s
+    → IfErr r (λ why. FitsServer b c none server to lane bytes why) → IfErr r (λ why. FitsServer a c none server to lane bytes why)
+fits_all (Ok n) a b c m s server to lane bytes goes later is = tt
+fits_all (Err why) a b c m s server to lane bytes goes later is = server_before a b c none none m s none server to lane bytes why goes later is

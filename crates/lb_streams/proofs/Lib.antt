@@ -6,6 +6,7 @@ pub mod Going
 pub mod Letters
 pub mod Lifting
 pub mod Opening
+pub mod Pieces
 pub mod Steps
 pub mod Sweeping
 pub mod Then

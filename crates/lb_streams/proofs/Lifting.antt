@@ -15,10 +15,11 @@ use Rattle.lb_lines.specs.declared.report.Why.{Why}
 use Rattle.lb_lines.specs.declared.report.Why.TheVariants as whys
 use Rattle.lb_lines.specs.declared.roster.Listed.{Listed}
 use Rattle.lb_lines.specs.declared.traffic.Front.{Front}
+use Rattle.lb_lines.specs.declared.traffic.Peer.TheVariants as peers
 use Rattle.lb_streams.proofs.Faring.{rose_earlier, rose_later}
 use Rattle.lb_streams.proofs.Then.{closed_before, closed_later, full_before, full_later, no_client_later, number_before, number_later, over_before, over_later, peer_before, peer_later, servers_later}
 use Rattle.lb_streams.specs.Goes.{Goes, IsFull, NoNumber, both, none}
-use Rattle.lb_streams.specs.Lines.{AreLines, Comes, ComesClient, ComesPost, ComesServer, ComesTo, FitsConnection, FitsServer, IsClosed, IsLine, by_front, is_http, sends_to}
+use Rattle.lb_streams.specs.Lines.{AreLines, Comes, ComesClient, ComesPost, ComesServer, ComesTo, FitsConnection, FitsServer, IsClosed, IsLine, IsMeant, by_front, is_http, sends_to}
 use Rattle.lb_streams.specs.Links.{Net}
 use Rattle.lb_wire.specs.declared.ids.ServerId.{ServerId}
 use Rattle.lb_wire.specs.declared.transport.Lane.{Lane}
@@ -33,18 +34,22 @@ fits_later a b c m s sends n bytes whys.Full two is = is
 fits_later a b c m s sends n bytes whys.Device two is = is
 fits_later a b c m s sends n bytes whys.NoMemory two is = no_client_later n b c m s two is
 
-gone_later : (a b c : Net) (m s : ℕ → List (List ℕ)) (X : Type 0) → Goes b c m s → X ⊎ (NoNumber a b ⊎ ((n : ℕ) × IsClosed n a b)) → X ⊎ (NoNumber a c ⊎ ((n : ℕ) × IsClosed n a c))
-gone_later a b c m s X two (inl is) = inl is
-gone_later a b c m s X two (inr (inl number)) = inr (inl (number_later a b c m s two number))
-gone_later a b c m s X two (inr (inr closed)) = inr (inr (closed.0, closed_later closed.0 a b c m s two closed.1))
+gone_later : (a b c : Net) (m s : ℕ → List (List ℕ)) (server : ServerId) (number : ℕ) (to : Endpoint) (X : Type 0) → Goes b c m s
+    → X ⊎ (NoNumber a b ⊎ ((n : ℕ) × (IsMeant n a b server number to × IsClosed n a b))) → X ⊎ (NoNumber a c ⊎ ((n : ℕ) × (IsMeant n a c server number to × IsClosed n a c)))
+gone_later a b c m s server number to X two (inl is) = inl is
+gone_later a b c m s server number to X two (inr (inl none)) = inr (inl (number_later a b c m s two none))
+gone_later a b c m s server number to X two (inr (inr closed)) =
+    inr (inr (closed.0, (peer_later closed.0 a b c m s (peers.Server server number to) two closed.1.0, closed_later closed.0 a b c m s two closed.1.1)))
 
-server_later : (a b c : Net) (m s sends : ℕ → List (List ℕ)) (lane : Lane) (bytes : List ℕ) (why : Why) → Goes b c m s → FitsServer a b sends lane bytes why → FitsServer a c sends lane bytes why
-server_later a b c m s sends lane bytes whys.NoServer two is = is
-server_later a b c m s sends lane bytes whys.Gone two is = gone_later a b c m s _ two is
-server_later a b c m s sends lane bytes whys.Limit two is = (is.0, full_later is.0 a b c m s (sends is.0) bytes two is.1)
-server_later a b c m s sends lane bytes whys.Full two is = is
-server_later a b c m s sends lane bytes whys.Device two is = rose_later a.told.failures b.told.failures c.told.failures is two.failures
-server_later a b c m s sends lane bytes whys.NoMemory two is = tt
+server_later : (a b c : Net) (m s sends : ℕ → List (List ℕ)) (server : ServerId) (to : Endpoint) (lane : Lane) (bytes : List ℕ) (why : Why) → Goes b c m s
+    → FitsServer a b sends server to lane bytes why → FitsServer a c sends server to lane bytes why
+server_later a b c m s sends server to lane bytes whys.NoServer two is = is
+server_later a b c m s sends server to lane bytes whys.Gone two is = gone_later a b c m s server lane.number to _ two is
+server_later a b c m s sends server to lane bytes whys.Limit two is =
+    (is.0, (peer_later is.0 a b c m s (peers.Server server lane.number to) two is.1.0, full_later is.0 a b c m s (sends is.0) bytes two is.1.1))
+server_later a b c m s sends server to lane bytes whys.Full two is = is
+server_later a b c m s sends server to lane bytes whys.Device two is = rose_later a.told.failures b.told.failures c.told.failures is two.failures
+server_later a b c m s sends server to lane bytes whys.NoMemory two is = tt
 
 client_comes_later : (a b c : Net) (m s sends : ℕ → List (List ℕ)) (n : ℕ) (bytes : List ℕ) (sending : Sending) → Goes b c m s → ComesClient a b sends n bytes sending → ComesClient a c sends n bytes sending
 client_comes_later a b c m s sends n bytes Nothing two is = is
@@ -56,7 +61,7 @@ server_comes_later : (a b c : Net) (m s sends : ℕ → List (List ℕ)) (server
 server_comes_later a b c m s sends server lane None bytes sending two is = is
 server_comes_later a b c m s sends server lane (Some to) bytes Nothing two is = is
 server_comes_later a b c m s sends server lane (Some to) bytes (Done way) two is = (is.0, is.1, servers_later is.0 b c m s server lane.number to two is.2)
-server_comes_later a b c m s sends server lane (Some to) bytes (Failed why) two is = server_later a b c m s sends lane bytes why two is
+server_comes_later a b c m s sends server lane (Some to) bytes (Failed why) two is = server_later a b c m s sends server to lane bytes why two is
 
 either_later : (http : Bool) (X Y Z : Type 0) → (Y → Z) → by_front http X Y → by_front http X Z
 either_later true X Y Z f is = is
@@ -82,40 +87,44 @@ fits_before a b c m s sends n bytes whys.Full one is = is
 fits_before a b c m s sends n bytes whys.Device one is = is
 fits_before a b c m s sends n bytes whys.NoMemory one is = is
 
-gone_before : (a b c : Net) (m s : ℕ → List (List ℕ)) (X : Type 0) → Goes a b m s → X ⊎ (NoNumber b c ⊎ ((n : ℕ) × IsClosed n b c)) → X ⊎ (NoNumber a c ⊎ ((n : ℕ) × IsClosed n a c))
-gone_before a b c m s X one (inl is) = inl is
-gone_before a b c m s X one (inr (inl number)) = inr (inl (number_before a b c m s one number))
-gone_before a b c m s X one (inr (inr closed)) = inr (inr (closed.0, closed_before closed.0 a b c m s one closed.1))
+gone_before : (a b c : Net) (m s r q : ℕ → List (List ℕ)) (server : ServerId) (number : ℕ) (to : Endpoint) (X : Type 0) → Goes a b m s → Goes b c r q
+    → X ⊎ (NoNumber b c ⊎ ((n : ℕ) × (IsMeant n b c server number to × IsClosed n b c))) → X ⊎ (NoNumber a c ⊎ ((n : ℕ) × (IsMeant n a c server number to × IsClosed n a c)))
+gone_before a b c m s r q server number to X one two (inl is) = inl is
+gone_before a b c m s r q server number to X one two (inr (inl none)) = inr (inl (number_before a b c m s one none))
+gone_before a b c m s r q server number to X one two (inr (inr closed)) =
+    inr (inr (closed.0, (peer_before closed.0 a b c m s r q (peers.Server server number to) one two closed.1.0, closed_before closed.0 a b c m s one closed.1.1)))
 
-pub server_before : (a b c : Net) (m s sends : ℕ → List (List ℕ)) (lane : Lane) (bytes : List ℕ) (why : Why) → Goes a b m s → FitsServer b c sends lane bytes why → FitsServer a c (both s sends) lane bytes why
-server_before a b c m s sends lane bytes whys.NoServer one is = is
-server_before a b c m s sends lane bytes whys.Gone one is = gone_before a b c m s _ one is
-server_before a b c m s sends lane bytes whys.Limit one is = (is.0, full_before is.0 a b c m s (sends is.0) bytes one is.1)
-server_before a b c m s sends lane bytes whys.Full one is = is
-server_before a b c m s sends lane bytes whys.Device one is = rose_earlier a.told.failures b.told.failures c.told.failures one.failures is
-server_before a b c m s sends lane bytes whys.NoMemory one is = tt
+pub server_before : (a b c : Net) (m s r q sends : ℕ → List (List ℕ)) (server : ServerId) (to : Endpoint) (lane : Lane) (bytes : List ℕ) (why : Why) → Goes a b m s → Goes b c r q
+    → FitsServer b c sends server to lane bytes why → FitsServer a c (both s sends) server to lane bytes why
+server_before a b c m s r q sends server to lane bytes whys.NoServer one two is = is
+server_before a b c m s r q sends server to lane bytes whys.Gone one two is = gone_before a b c m s r q server lane.number to _ one two is
+server_before a b c m s r q sends server to lane bytes whys.Limit one two is =
+    (is.0, (peer_before is.0 a b c m s r q (peers.Server server lane.number to) one two is.1.0, full_before is.0 a b c m s (sends is.0) bytes one is.1.1))
+server_before a b c m s r q sends server to lane bytes whys.Full one two is = is
+server_before a b c m s r q sends server to lane bytes whys.Device one two is = rose_earlier a.told.failures b.told.failures c.told.failures one.failures is
+server_before a b c m s r q sends server to lane bytes whys.NoMemory one two is = tt
 
 client_comes_before : (a b c : Net) (m s sends : ℕ → List (List ℕ)) (n : ℕ) (bytes : List ℕ) (sending : Sending) → Goes a b m s → ComesClient b c sends n bytes sending → ComesClient a c (both s sends) n bytes sending
 client_comes_before a b c m s sends n bytes Nothing one is = is
 client_comes_before a b c m s sends n bytes (Done way) one is = is
 client_comes_before a b c m s sends n bytes (Failed why) one is = fits_before a b c m s sends n bytes why one is
 
-server_comes_before : (a b c : Net) (m s sends : ℕ → List (List ℕ)) (server : ServerId) (lane : Lane) (to : Option Endpoint) (bytes : List ℕ) (sending : Sending) → Goes a b m s
+server_comes_before : (a b c : Net) (m s r q sends : ℕ → List (List ℕ)) (server : ServerId) (lane : Lane) (to : Option Endpoint) (bytes : List ℕ) (sending : Sending) → Goes a b m s → Goes b c r q
     → ComesServer b c sends server lane to bytes sending → ComesServer a c (both s sends) server lane to bytes sending
-server_comes_before a b c m s sends server lane None bytes sending one is = is
-server_comes_before a b c m s sends server lane (Some to) bytes Nothing one is = is
-server_comes_before a b c m s sends server lane (Some to) bytes (Done way) one is = is
-server_comes_before a b c m s sends server lane (Some to) bytes (Failed why) one is = server_before a b c m s sends lane bytes why one is
+server_comes_before a b c m s r q sends server lane None bytes sending one two is = is
+server_comes_before a b c m s r q sends server lane (Some to) bytes Nothing one two is = is
+server_comes_before a b c m s r q sends server lane (Some to) bytes (Done way) one two is = is
+server_comes_before a b c m s r q sends server lane (Some to) bytes (Failed why) one two is = server_before a b c m s r q sends server to lane bytes why one two is
 
-to_before : (listens : List Front) (roster : List Listed) (a b c : Net) (m s sends : ℕ → List (List ℕ)) (letter : Letter) (sending : Sending) → Goes a b m s → ComesTo listens roster b c sends letter sending → ComesTo listens roster a c (both s sends) letter sending
-to_before listens roster a b c m s sends (Client origin, bytes) sending one is =
+to_before : (listens : List Front) (roster : List Listed) (a b c : Net) (m s r q sends : ℕ → List (List ℕ)) (letter : Letter) (sending : Sending) → Goes a b m s → Goes b c r q → ComesTo listens roster b c sends letter sending → ComesTo listens roster a c (both s sends) letter sending
+to_before listens roster a b c m s r q sends (Client origin, bytes) sending one two is =
     either_later (is_http (slice_get listens origin.front)) (ComesPost sending) (ComesClient b c sends origin.slot bytes sending) (ComesClient a c (both s sends) origin.slot bytes sending) (client_comes_before a b c m s sends origin.slot bytes sending one) is
-to_before listens roster a b c m s sends (Server server lane, bytes) sending one is = server_comes_before a b c m s sends server lane (end_of server roster) bytes sending one is
+to_before listens roster a b c m s r q sends (Server server lane, bytes) sending one two is = server_comes_before a b c m s r q sends server lane (end_of server roster) bytes sending one two is
 
-pub comes_before : (listens : List Front) (roster : List Listed) (a b c : Net) (m s sends : ℕ → List (List ℕ)) (letter : Option Letter) (sending : Sending) → Goes a b m s
+pub comes_before : (listens : List Front) (roster : List Listed) (a b c : Net) (m s r q sends : ℕ → List (List ℕ)) (letter : Option Letter) (sending : Sending) → Goes a b m s → Goes b c r q
     → Comes listens roster b c sends letter sending → Comes listens roster a c (both s sends) letter sending
-comes_before listens roster a b c m s sends None sending one is = is
-comes_before listens roster a b c m s sends (Some letter) sending one is = to_before listens roster a b c m s sends letter sending one is
+comes_before listens roster a b c m s r q sends None sending one two is = is
+comes_before listens roster a b c m s r q sends (Some letter) sending one two is = to_before listens roster a b c m s r q sends letter sending one two is
 
 -- Spelled otherwise.
 
@@ -130,13 +139,13 @@ fits_as a b s r n bytes whys.Full e is = is
 fits_as a b s r n bytes whys.Device e is = is
 fits_as a b s r n bytes whys.NoMemory e is = is
 
-server_as : (a b : Net) (s r : ℕ → List (List ℕ)) (lane : Lane) (bytes : List ℕ) (why : Why) → ((c : ℕ) → s c ≡ r c) → FitsServer a b s lane bytes why → FitsServer a b r lane bytes why
-server_as a b s r lane bytes whys.NoServer e is = is
-server_as a b s r lane bytes whys.Gone e is = is
-server_as a b s r lane bytes whys.Limit e is = (is.0, full_as is.0 a b (s is.0) (r is.0) bytes (e is.0) is.1)
-server_as a b s r lane bytes whys.Full e is = is
-server_as a b s r lane bytes whys.Device e is = is
-server_as a b s r lane bytes whys.NoMemory e is = is
+server_as : (a b : Net) (s r : ℕ → List (List ℕ)) (server : ServerId) (to : Endpoint) (lane : Lane) (bytes : List ℕ) (why : Why) → ((c : ℕ) → s c ≡ r c) → FitsServer a b s server to lane bytes why → FitsServer a b r server to lane bytes why
+server_as a b s r server to lane bytes whys.NoServer e is = is
+server_as a b s r server to lane bytes whys.Gone e is = is
+server_as a b s r server to lane bytes whys.Limit e is = (is.0, (is.1.0, full_as is.0 a b (s is.0) (r is.0) bytes (e is.0) is.1.1))
+server_as a b s r server to lane bytes whys.Full e is = is
+server_as a b s r server to lane bytes whys.Device e is = is
+server_as a b s r server to lane bytes whys.NoMemory e is = is
 
 client_comes_as : (a b : Net) (s r : ℕ → List (List ℕ)) (n : ℕ) (bytes : List ℕ) (sending : Sending) → ((c : ℕ) → s c ≡ r c) → ComesClient a b s n bytes sending → ComesClient a b r n bytes sending
 client_comes_as a b s r n bytes Nothing e is = is
@@ -147,7 +156,7 @@ server_comes_as : (a b : Net) (s r : ℕ → List (List ℕ)) (server : ServerId
 server_comes_as a b s r server lane None bytes sending e is = is
 server_comes_as a b s r server lane (Some to) bytes Nothing e is = is
 server_comes_as a b s r server lane (Some to) bytes (Done way) e is = is
-server_comes_as a b s r server lane (Some to) bytes (Failed why) e is = server_as a b s r lane bytes why e is
+server_comes_as a b s r server lane (Some to) bytes (Failed why) e is = server_as a b s r server to lane bytes why e is
 
 pub comes_as : (listens : List Front) (roster : List Listed) (a b : Net) (s r : ℕ → List (List ℕ)) (letter : Option Letter) (sending : Sending) → ((c : ℕ) → s c ≡ r c) → Comes listens roster a b s letter sending → Comes listens roster a b r letter sending
 comes_as listens roster a b s r None sending e is = is
@@ -170,9 +179,9 @@ line_before : (listens : List Front) (roster : List Listed) (a b c : Net) (m s r
 line_before listens roster a b c m s r q sends (lines.Event source event outcome sending) one two is = (
   (is.0.0, is.0.1, record { peer = is.0.2.peer; is = peer_before is.0.0 a b c m s r q is.0.2.peer one two is.0.2.is; now = is.0.2.now; word = is.0.2.word; bytes = is.0.2.bytes; made = is.0.2.made }),
   is.1,
-  comes_before listens roster a b c m s sends (outcome_letter event outcome) sending one is.2,
+  comes_before listens roster a b c m s r q sends (outcome_letter event outcome) sending one two is.2,
 )
-line_before listens roster a b c m s r q sends (lines.Job job sending) one two is = comes_before listens roster a b c m s sends (Some (job_letter job)) sending one is
+line_before listens roster a b c m s r q sends (lines.Job job sending) one two is = comes_before listens roster a b c m s r q sends (Some (job_letter job)) sending one two is
 line_before listens roster a b c m s r q sends (lines.Probe server word sending) one two is = is
 
 line_as : (listens : List Front) (roster : List Listed) (a b : Net) (s r : ℕ → List (List ℕ)) (line : Line) → ((c : ℕ) → s c ≡ r c) → IsLine listens roster a b s line → IsLine listens roster a b r line

@@ -193,7 +193,7 @@ turns_told roster a mid sent b n now word peer bytes event outcome sending said 
     let pairs_len : length (pairs (line ∷ [])) ≡ length (answered_as event outcome) = ap (λ zs. length zs) pairs_one in
     let goes_sent : Goes a.net sent.net (just n bytes) (λ i. message_in i letter sending) = goes_then a.net mid.net sent.net (just n bytes) (λ i. message_in i letter sending) took sends.goes in
     let goes_all : Goes a.net b.net (just n bytes) (λ i. message_in i letter sending) = goes_after a.net sent.net b.net (just n bytes) (λ i. message_in i letter sending) goes_sent settled in
-    let comes_sent : Comes mid.fronts roster a.net sent.net none letter sending = comes_before mid.fronts roster a.net mid.net sent.net (just n bytes) none none letter sending took sends.comes in
+    let comes_sent : Comes mid.fronts roster a.net sent.net none letter sending = comes_before mid.fronts roster a.net mid.net sent.net (just n bytes) none none (λ c. message_in c letter sending) none letter sending took sends.goes sends.comes in
     let comes_all : Comes a.fronts roster a.net b.net none letter sending = subst (λ (fs : List Front). Comes fs roster a.net b.net none letter sending) fronts (comes_later mid.fronts roster a.net sent.net b.net none none none letter sending settled comes_sent) in
     let failures = settled.failures in let before = took.failures in
     record {

@@ -59,6 +59,11 @@ pub record Goes (old new : Net) (messages sends : ℕ → List (List ℕ)) : Typ
 abbrev pub TurnedFrom : Traffic → Traffic → Type 0
 TurnedFrom old new = (result : Accepted) × TurnedAway result old new
 
+-- how often sockets of streams gave something: pieces, clients, and clients' and servers' ends; and how many
+-- clients were turned away
+abbrev pub reads_of : Net → ℕ
+reads_of net = length net.told.given + length net.told.came + length net.told.ended + net.told.turned
+
 -- what a step does beside the connection that it is about: no client comes or is turned away
 pub record Beside (old new : Net) : Type 0 where
   pub failures : old.told.failures ≤ new.told.failures

@@ -94,14 +94,20 @@ abbrev pub is_stream : Kind → Bool
 is_stream kinds.Stream = true
 is_stream kinds.Datagram = false
 
--- why a message is not sent to a server that the roster has: it goes by no stream, no number was left for a connection, or the
--- connection was closed; more octets would wait to be written to it than may; a device failed; memory was wanting
-abbrev pub FitsServer : Net → Net → (ℕ → List (List ℕ)) → Lane → List ℕ → Why → Type 0
-FitsServer old new sends lane bytes whys.Gone = (is_stream lane.kind ≡ false) ⊎ (NoNumber old new ⊎ ((n : ℕ) × IsClosed n old new))
-FitsServer old new sends lane bytes whys.Limit = (n : ℕ) × IsFull n old new (sends n) bytes
-FitsServer old new sends lane bytes whys.Device = Rose old.told.failures new.told.failures
-FitsServer old new sends lane bytes whys.NoMemory = Unit {0}
-FitsServer old new sends lane bytes _ = ⊥
+-- a connection was, or is since, one to a server at this end, by the upstream socket with this number
+abbrev pub IsMeant : ℕ → Net → Net → ServerId → ℕ → Endpoint → Type 0
+IsMeant n old new server number to = IsPeer (link n old) (link n new) (peers.Server server number to)
+
+-- Why a message is not sent to a server that the roster has: it goes by no stream; no number was left for a
+-- connection; the connection to the server was closed; more octets would wait to be written to that one than
+-- may; a device failed; or memory was refused.
+abbrev pub FitsServer : Net → Net → (ℕ → List (List ℕ)) → ServerId → Endpoint → Lane → List ℕ → Why → Type 0
+FitsServer old new sends server to lane bytes whys.Gone =
+    (is_stream lane.kind ≡ false) ⊎ (NoNumber old new ⊎ ((n : ℕ) × (IsMeant n old new server lane.number to × IsClosed n old new)))
+FitsServer old new sends server to lane bytes whys.Limit = (n : ℕ) × (IsMeant n old new server lane.number to × IsFull n old new (sends n) bytes)
+FitsServer old new sends server to lane bytes whys.Device = Rose old.told.failures new.told.failures
+FitsServer old new sends server to lane bytes whys.NoMemory = Unit {0}
+FitsServer old new sends server to lane bytes _ = ⊥
 
 -- what comes of a message to a client of a listener: by the waiting request of HTTP, or by the connection of its slot
 abbrev pub ComesPost : Sending → Type 0
@@ -119,7 +125,7 @@ abbrev pub ComesServer : Net → Net → (ℕ → List (List ℕ)) → ServerId 
 ComesServer old new sends server lane None bytes sending = sending ≡ Failed whys.NoServer
 ComesServer old new sends server lane (Some to) bytes Nothing = ⊥
 ComesServer old new sends server lane (Some to) bytes (Done way) = (n : ℕ) × (way ≡ ways.Connection n) × IsServers n server lane.number to new
-ComesServer old new sends server lane (Some to) bytes (Failed why) = FitsServer old new sends lane bytes why
+ComesServer old new sends server lane (Some to) bytes (Failed why) = FitsServer old new sends server to lane bytes why
 
 -- the first where HTTP requests come by a listener, else the second
 abbrev pub by_front : Bool → Type 0 → Type 0 → Type 0

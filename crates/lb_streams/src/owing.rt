@@ -1,7 +1,7 @@
 //! How many answers a connection waits for, and how long it is kept.
 
 ghost use Rattle.std.specs.Prelude.{◌<◌, ◌≡◌};
-ghost use Rattle.lb_streams.specs.Goes.{Goes, none};
+ghost use Rattle.lb_streams.specs.Goes.{Goes, none, reads_of};
 ghost use Rattle.lb_streams.specs.Links.{Net};
 ghost use Rattle.lb_streams.specs.Turn.{Sweeps};
 
@@ -12,7 +12,8 @@ use lb_lines::{Roster, Streams};
 impl<S: Streams> Links<S> {
     /// A query of a connection was answered or sent on.
     pub(crate) fn owe(&mut self, number: u64, was_sent_on: bool)
-        ensures { Goes self.old self.new none none }
+        ensures goes { Goes self.old self.new none none }
+        ensures reads { reads_of self.new ≡ reads_of self.old }
     {
         if !was_sent_on {
             return;
@@ -26,7 +27,8 @@ impl<S: Streams> Links<S> {
 
     /// A message goes to a connection. Where a query of it was sent on, that is answered.
     pub(crate) fn pay(&mut self, number: u64, was_owed: bool)
-        ensures { Goes self.old self.new none none }
+        ensures goes { Goes self.old self.new none none }
+        ensures reads { reads_of self.new ≡ reads_of self.old }
     {
         if !was_owed {
             return;
@@ -42,7 +44,8 @@ impl<S: Streams> Links<S> {
     /// and one that is there again is kept.
     #[tactic(auto, using(crate::proofs::Opening::goes_nothing, crate::proofs::Then::goes_before))]
     pub(crate) fn follow(&mut self, roster: &Roster, now: u64)
-        ensures { Goes self.old self.new none none }
+        ensures goes { Goes self.old self.new none none }
+        ensures reads { reads_of self.new ≡ reads_of self.old }
     {
         if !self.table.is_behind(roster) {
             return;
@@ -55,7 +58,8 @@ impl<S: Streams> Links<S> {
     /// The same for the connection at one place.
     fn follow_one(&mut self, roster: &Roster, now: u64, place: usize)
         requires { place < 4096 }
-        ensures { Goes self.old self.new none none }
+        ensures goes { Goes self.old self.new none none }
+        ensures reads { reads_of self.new ≡ reads_of self.old }
     {
         let Some(number) = self.table.number_at(place) else {
             return;

@@ -1,7 +1,7 @@
 //! What comes of sockets of streams: clients, octets, and ends.
 
-ghost use Rattle.std.specs.Prelude.{◌≡◌};
-ghost use Rattle.lb_streams.specs.Goes.{Goes, TurnsOneAway, none};
+ghost use Rattle.std.specs.Prelude.{◌≡◌, ◌+◌, ◌≤◌};
+ghost use Rattle.lb_streams.specs.Goes.{Goes, TurnsOneAway, none, reads_of};
 
 use crate::links::Links;
 use lb_connections::Connection;
@@ -12,7 +12,8 @@ impl<S: Streams> Links<S> {
     /// Takes in a client that waits. One is closed at once where 1,024 are connected, or where no number is left. Where memory is
     /// wanting, it waits on.
     pub(crate) fn admit(&mut self, alloc: Global)
-        ensures { Goes self.old self.new none none }
+        ensures goes { Goes self.old self.new none none }
+        ensures reads { reads_of self.new ≤ reads_of self.old + 1 }
     {
         if self.table.is_full() {
             self.turn_away();
@@ -34,7 +35,8 @@ impl<S: Streams> Links<S> {
 
     /// Closes a client that waits.
     fn turn_away(&mut self)
-        ensures { TurnsOneAway self.old self.new }
+        ensures goes { TurnsOneAway self.old self.new }
+        ensures reads { reads_of self.new ≤ reads_of self.old + 1 }
     {
         match self.sockets.turn_away() {
             Accepted::Client(..) | Accepted::Nothing => {}
@@ -45,7 +47,8 @@ impl<S: Streams> Links<S> {
     /// Reads a piece of a connection. One that may not be read is passed over. A server's connection is closed where the server has
     /// closed its side, and each where its socket failed, or no room was found for what came.
     pub(crate) fn pull(&mut self, number: u64, now: u64)
-        ensures { Goes self.old self.new none none }
+        ensures goes { Goes self.old self.new none none }
+        ensures reads { reads_of self.new ≤ reads_of self.old + 1 }
     {
         let Some(mut connection) = self.table.take(number) else {
             return;
@@ -86,7 +89,8 @@ impl<S: Streams> Links<S> {
     /// told to be read once more.
     #[tactic(auto, using(crate::proofs::Opening::goes_nothing))]
     pub(crate) fn settle(&mut self, number: u64)
-        ensures { Goes self.old self.new none none }
+        ensures goes { Goes self.old self.new none none }
+        ensures reads { reads_of self.new ≡ reads_of self.old }
     {
         if self.table.is_settled(number) {
             return;
@@ -96,7 +100,8 @@ impl<S: Streams> Links<S> {
 
     /// The same, where there may be something to do.
     fn see_to(&mut self, number: u64)
-        ensures { Goes self.old self.new none none }
+        ensures goes { Goes self.old self.new none none }
+        ensures reads { reads_of self.new ≡ reads_of self.old }
     {
         let Some(mut connection) = self.table.take(number) else {
             return;

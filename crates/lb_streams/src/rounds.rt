@@ -1,8 +1,9 @@
 //! The rounds of a turn: a job, what a socket has, and an event.
 
-ghost use Rattle.std.specs.Prelude.{[], List, false, option_to_list, ◌++◌, ◌∷◌, ◌≡◌};
+ghost use Rattle.std.specs.Prelude.{[], List, false, option_to_list, ◌++◌, ◌∷◌, ◌≡◌, ◌+◌, ◌≤◌};
 ghost use Rattle.lb_connections.specs.Table.{IsFirst};
 ghost use Rattle.lb_lines.specs.Stamps.{Stamp};
+ghost use Rattle.lb_streams.specs.Goes.{reads_of};
 ghost use Rattle.lb_streams.specs.Lines.{event_by};
 ghost use Rattle.lb_streams.specs.Steps.{is_blind, lines_of};
 ghost use Rattle.lb_streams.specs.Turn.{Turns};
@@ -43,7 +44,8 @@ impl<S: Streams, T: Taker, O: Outside, P: Posts> StreamLoop<S, T, O, P> {
         roster: &Roster,
         may_have_jobs: bool,
     ) -> Option<Line>
-        ensures { Turns roster.now.listed 0 1 self.old self.new (option_to_list result) false }
+        ensures turns { Turns roster.now.listed 0 1 self.old self.new (option_to_list result) false }
+        ensures reads { reads_of self.new.net ≡ reads_of self.old.net }
     {
         if may_have_jobs {
             self.one_job(rt, roster)
@@ -54,7 +56,8 @@ impl<S: Streams, T: Taker, O: Outside, P: Posts> StreamLoop<S, T, O, P> {
 
     /// Takes a job, and sends its message.
     fn one_job<R: Wait>(&mut self, rt: &R, roster: &Roster) -> Option<Line>
-        ensures { Turns roster.now.listed 0 1 self.old self.new (option_to_list result) false }
+        ensures turns { Turns roster.now.listed 0 1 self.old self.new (option_to_list result) false }
+        ensures reads { reads_of self.new.net ≡ reads_of self.old.net }
     {
         let job = self.receiver.receive(rt)?;
         let sending = match &job {
@@ -69,7 +72,8 @@ impl<S: Streams, T: Taker, O: Outside, P: Posts> StreamLoop<S, T, O, P> {
     /// Sees to one socket, where one may have something. Whether there was one.
     #[tactic(auto, using(crate::proofs::Turning::turns_none))]
     pub(crate) fn next_arrival(&mut self, roster: &Roster, now: u64, may_be_ready: bool) -> bool
-        ensures { Turns roster.now.listed 0 0 self.old self.new [] false }
+        ensures turns { Turns roster.now.listed 0 0 self.old self.new [] false }
+        ensures reads { reads_of self.new.net ≤ reads_of self.old.net + 1 }
     {
         may_be_ready && self.one_arrival(roster, now)
     }
@@ -77,7 +81,8 @@ impl<S: Streams, T: Taker, O: Outside, P: Posts> StreamLoop<S, T, O, P> {
     /// Sees to one socket: takes in a client, reads a piece, or writes. Whether there was one.
     #[tactic(auto, using(crate::proofs::Turning::turns_none, crate::proofs::Turning::turns_net))]
     fn one_arrival(&mut self, roster: &Roster, now: u64) -> bool
-        ensures { Turns roster.now.listed 0 0 self.old self.new [] false }
+        ensures turns { Turns roster.now.listed 0 0 self.old self.new [] false }
+        ensures reads { reads_of self.new.net ≤ reads_of self.old.net + 1 }
     {
         match self.links.sockets.ready() {
             Ready::Nothing => return false,
@@ -91,7 +96,8 @@ impl<S: Streams, T: Taker, O: Outside, P: Posts> StreamLoop<S, T, O, P> {
     /// Hands the first message of the connection whose turn it is to the desk, and sends what it answers.
     #[tactic(auto, using(crate::proofs::Turning::turns_none, crate::proofs::Turning::turns_said, crate::proofs::Turning::turns_blind))]
     pub(crate) fn one_event<G: Gate>(&mut self, roster: &Roster, gate: &G) -> Step
-        ensures { Turns roster.now.listed 1 0 self.old self.new (lines_of result) (is_blind result) }
+        ensures turns { Turns roster.now.listed 1 0 self.old self.new (lines_of result) (is_blind result) }
+        ensures reads { reads_of self.new.net ≡ reads_of self.old.net }
     {
         let Some(number) = self.links.table.first_queued() else {
             return Step::Idle;
@@ -122,7 +128,8 @@ impl<S: Streams, T: Taker, O: Outside, P: Posts> StreamLoop<S, T, O, P> {
     ) -> Step
         requires first { IsFirst number first.peer first.message self.old.net.table }
         requires copy { first.copy ≡ first.message }
-        ensures { (said : List Stamp) → self.old.said ≡ said ++ (now, word) ∷ [] → Turns roster.now.listed 1 0 (record self.old { said = said }) self.new (lines_of result) (is_blind result) }
+        ensures turns { (said : List Stamp) → self.old.said ≡ said ++ (now, word) ∷ [] → Turns roster.now.listed 1 0 (record self.old { said = said }) self.new (lines_of result) (is_blind result) }
+        ensures reads { reads_of self.new.net ≡ reads_of self.old.net }
     {
         let First {
             peer,
@@ -150,7 +157,8 @@ impl<S: Streams, T: Taker, O: Outside, P: Posts> StreamLoop<S, T, O, P> {
     ) -> Line
         requires made { event ≡ event_by now word number peer copy }
         requires first { IsFirst number peer copy self.old.net.table }
-        ensures { (said : List Stamp) → self.old.said ≡ said ++ (now, word) ∷ [] → Turns roster.now.listed 1 0 (record self.old { said = said }) self.new (result ∷ []) false }
+        ensures turns { (said : List Stamp) → self.old.said ≡ said ++ (now, word) ∷ [] → Turns roster.now.listed 1 0 (record self.old { said = said }) self.new (result ∷ []) false }
+        ensures reads { reads_of self.new.net ≡ reads_of self.old.net }
     {
         self.links.drop_first(number);
         let outcome = outcome_of(&mut self.taker, event);

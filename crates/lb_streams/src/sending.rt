@@ -4,7 +4,7 @@ ghost use Rattle.std.specs.Prelude.{IfErr, IfOk, Some, slice_get, true, ◌≡�
 ghost use Rattle.lb_connections.specs.Table.{IsTo};
 ghost use Rattle.lb_lines.specs.Letter.{outcome_letter};
 ghost use Rattle.lb_lines.specs.declared.letter.End.TheVariants.{Client, Server};
-ghost use Rattle.lb_streams.specs.Goes.{Goes, none, sent_by};
+ghost use Rattle.lb_streams.specs.Goes.{Goes, none, sent_by, reads_of};
 ghost use Rattle.lb_streams.specs.Lines.{FitsServer, IsServers, is_http};
 ghost use Rattle.lb_streams.specs.Turn.{Sends};
 
@@ -30,7 +30,8 @@ impl<S: Streams> Links<S> {
     ) -> Result<u64, Why>
         ensures goes { Goes self.old self.new none (sent_by result bytes.now) }
         ensures to { IfOk result (λ n. IsServers n server lane.number end self.new) }
-        ensures why { IfErr result (λ why. FitsServer self.old self.new none lane bytes.now why) }
+        ensures why { IfErr result (λ why. FitsServer self.old self.new none server end lane bytes.now why) }
+        ensures reads { reads_of self.new ≡ reads_of self.old }
     {
         match lane.kind {
             Kind::Datagram => Err(Why::Gone),
@@ -49,7 +50,8 @@ impl<S: Streams> Links<S> {
     ) -> Result<u64, Why>
         ensures goes { Goes self.old self.new none (sent_by result bytes.now) }
         ensures to { IfOk result (λ n. IsServers n server lane.number end self.new) }
-        ensures why { IfErr result (λ why. FitsServer self.old self.new none lane bytes.now why) }
+        ensures why { IfErr result (λ why. FitsServer self.old self.new none server end lane bytes.now why) }
+        ensures reads { reads_of self.new ≡ reads_of self.old }
     {
         match self.dialed(alloc, server, lane.number, end) {
             Ok(number) => self.send_over(server, lane, end, number, bytes),
@@ -70,7 +72,8 @@ impl<S: Streams> Links<S> {
         requires to { IsTo number server lane.number end self.old.table }
         ensures goes { Goes self.old self.new none (sent_by result bytes.now) }
         ensures to { IfOk result (λ n. IsServers n server lane.number end self.new) }
-        ensures why { IfErr result (λ why. FitsServer self.old self.new none lane bytes.now why) }
+        ensures why { IfErr result (λ why. FitsServer self.old self.new none server end lane bytes.now why) }
+        ensures reads { reads_of self.new ≡ reads_of self.old }
     {
         match self.put_behind(number, bytes) {
             Ok(()) => Ok(number),
@@ -88,7 +91,8 @@ impl<S: Streams, T: Taker, O: Outside, P: Posts> StreamLoop<S, T, O, P> {
         event: &Event,
         outcome: &Outcome,
     ) -> Sending
-        ensures { Sends roster.now.listed self.old self.new (outcome_letter event.now outcome.now) result }
+        ensures sends { Sends roster.now.listed self.old self.new (outcome_letter event.now outcome.now) result }
+        ensures reads { reads_of self.new.net ≡ reads_of self.old.net }
     {
         match outcome {
             Outcome::Answered(Answer::Local(bytes, _) | Answer::NoMemory(bytes))
@@ -115,7 +119,8 @@ impl<S: Streams, T: Taker, O: Outside, P: Posts> StreamLoop<S, T, O, P> {
         bytes: &Octets,
         was_owed: bool,
     ) -> Sending
-        ensures { Sends roster.now.listed self.old self.new (Some (Client origin, bytes.now)) result }
+        ensures sends { Sends roster.now.listed self.old self.new (Some (Client origin, bytes.now)) result }
+        ensures reads { reads_of self.new.net ≡ reads_of self.old.net }
     {
         if self.is_http(origin) {
             return self.hand(roster, origin, bytes);
@@ -141,7 +146,8 @@ impl<S: Streams, T: Taker, O: Outside, P: Posts> StreamLoop<S, T, O, P> {
     #[tactic(auto, using(crate::proofs::Letters::post_done, crate::proofs::Letters::post_gone, crate::proofs::Letters::post_wanting))]
     fn hand(&mut self, roster: &Roster, origin: Origin, bytes: &Octets) -> Sending
         requires http { is_http (slice_get self.old.fronts origin.front) ≡ true }
-        ensures { Sends roster.now.listed self.old self.new (Some (Client origin, bytes.now)) result }
+        ensures sends { Sends roster.now.listed self.old self.new (Some (Client origin, bytes.now)) result }
+        ensures reads { reads_of self.new.net ≡ reads_of self.old.net }
     {
         match self.posts.hand(origin, bytes) {
             Ok(()) => Sending::Done(Way::Post),
@@ -161,7 +167,8 @@ impl<S: Streams, T: Taker, O: Outside, P: Posts> StreamLoop<S, T, O, P> {
         lane: Lane,
         bytes: &Octets,
     ) -> Sending
-        ensures { Sends roster.now.listed self.old self.new (Some (Server server lane, bytes.now)) result }
+        ensures sends { Sends roster.now.listed self.old self.new (Some (Server server lane, bytes.now)) result }
+        ensures reads { reads_of self.new.net ≡ reads_of self.old.net }
     {
         let Some(place) = roster.get(server) else {
             return Sending::Failed(Why::NoServer);

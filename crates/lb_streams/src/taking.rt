@@ -1,8 +1,8 @@
 //! Messages that are taken of what came.
 
-ghost use Rattle.std.specs.Prelude.{List, ℕ};
+ghost use Rattle.std.specs.Prelude.{List, ℕ, ◌≡◌};
 ghost use Rattle.lb_connections.specs.Table.{IsFirst};
-ghost use Rattle.lb_streams.specs.Goes.{Goes, just, none};
+ghost use Rattle.lb_streams.specs.Goes.{Goes, just, none, reads_of};
 
 use crate::links::Links;
 use lb_lines::{Peer, Streams};
@@ -11,7 +11,8 @@ impl<S: Streams> Links<S> {
     /// Takes the first message of a connection, which stands first in the queue, off what came of it. With a further one it waits for
     /// its turn again.
     pub(crate) fn drop_first(&mut self, number: u64)
-        ensures { (peer : Peer) (message : List ℕ) → IsFirst number peer message self.old.table → Goes self.old self.new (just number message) none }
+        ensures goes { (peer : Peer) (message : List ℕ) → IsFirst number peer message self.old.table → Goes self.old self.new (just number message) none }
+        ensures reads { reads_of self.new ≡ reads_of self.old }
     {
         if let Err(refused) = self.table.drop_first(number) {
             let _ = self.table.take(number);

@@ -3,7 +3,7 @@
 ghost use Rattle.std.specs.Prelude.{[], IfNone, IfOk, IfSome, None, OnErr, false, option_to_list, vec_capacity, vec_len, ℕ, ◌++◌, ◌+◌, ◌∷◌, ◌≡◌, ◌≤◌};
 ghost use Rattle.lb_lines.specs.Lines.{FirstFault};
 ghost use Rattle.lb_streams.specs.Ends.{first_device, is_blind, is_blinded};
-ghost use Rattle.lb_streams.specs.Goes.{Goes, none};
+ghost use Rattle.lb_streams.specs.Goes.{Goes, none, reads_of};
 ghost use Rattle.lb_streams.specs.Steps as steps;
 ghost use Rattle.lb_streams.specs.Steps.{lines_of};
 ghost use Rattle.lb_streams.specs.Turn.{Stood, Sweeps, Turned, Turns};
@@ -36,6 +36,8 @@ pub fn stream_turn<R: Wait, S: Streams, T: Taker, O: Outside, P: Posts, G: Gate>
     // The first device that failed is reported.
     ensures device { IfOk result (λ r. FirstFault r.device streams.old.net.told.failures streams.new.net.told.failures streams.old.outside streams.new.outside) }
     ensures held { IfOk result (λ r. r.held ≡ None) }
+    // At most 64 reads and accepts gave something.
+    ensures reads { IfOk result (λ _. reads_of streams.new.net ≤ reads_of streams.old.net + 64) }
     ensures refused { OnErr result (streams.new ≡ streams.old) }
 {
     let mut lines = streams.blank_lines();
@@ -57,6 +59,7 @@ impl<S: Streams, T: Taker, O: Outside, P: Posts> StreamLoop<S, T, O, P> {
         ensures turned { Turned roster.now.listed self.old self.new result.lines.items }
         ensures device { FirstFault result.device self.old.net.told.failures self.new.net.told.failures self.old.outside self.new.outside }
         ensures held { result.held ≡ None }
+        ensures reads { reads_of self.new.net ≤ reads_of self.old.net + 64 }
     {
         let Some(now) = self.begin() else {
             return report(lines, self.device(), End::Blind);
@@ -86,6 +89,7 @@ impl<S: Streams, T: Taker, O: Outside, P: Posts> StreamLoop<S, T, O, P> {
     fn follow(&mut self, roster: &Roster, now: u64)
         ensures goes { Goes self.old.net self.new.net none none }
         ensures same { self.new ≡ record self.old { net = self.new.net } }
+        ensures reads { reads_of self.new.net ≡ reads_of self.old.net }
     {
         self.links.follow(roster, now);
     }
@@ -94,6 +98,7 @@ impl<S: Streams, T: Taker, O: Outside, P: Posts> StreamLoop<S, T, O, P> {
     fn write_all(&mut self)
         ensures goes { Goes self.old.net self.new.net none none }
         ensures same { self.new ≡ record self.old { net = self.new.net } }
+        ensures reads { reads_of self.new.net ≡ reads_of self.old.net }
     {
         self.links.write_all();
     }
@@ -116,7 +121,8 @@ impl<S: Streams, T: Taker, O: Outside, P: Posts> StreamLoop<S, T, O, P> {
     ) -> End
         requires empty { (lines.old.items ≡ []) × (vec_len lines.old ≡ 0) }
         requires room { 128 ≤ vec_capacity lines.old }
-        ensures { Turns roster.now.listed 64 64 self.old self.new lines.new.items (is_blind result) }
+        ensures turns { Turns roster.now.listed 64 64 self.old self.new lines.new.items (is_blind result) }
+        ensures reads { reads_of self.new.net ≤ reads_of self.old.net + 64 }
     {
         let mut coming = Coming {
             jobs: true,
@@ -145,6 +151,7 @@ impl<S: Streams, T: Taker, O: Outside, P: Posts> StreamLoop<S, T, O, P> {
         ensures turned { (first : World) (n : ℕ) → Turns roster.now.listed n n first self.old lines.old.items false → Turns roster.now.listed (n + 1) (n + 1) first self.new lines.new.items (is_blinded result) }
         ensures len { vec_len lines.new ≤ vec_len lines.old + 2 }
         ensures capacity { vec_capacity lines.new ≡ vec_capacity lines.old }
+        ensures reads { reads_of self.new.net ≤ reads_of self.old.net + 1 }
     {
         let job = self.next_job(rt, roster, coming.jobs);
         coming.jobs = job.is_some();

@@ -1,8 +1,8 @@
 //! What is written to connections.
 
-ghost use Rattle.std.specs.Prelude.{IfErr, ◌≡◌};
+ghost use Rattle.std.specs.Prelude.{IfErr, ◌≡◌, ◌+◌, ◌≤◌};
 ghost use Rattle.lb_connections.specs.Table.{at};
-ghost use Rattle.lb_streams.specs.Goes.{Goes, Misses, is_given_up, none, noted_by, sent_so};
+ghost use Rattle.lb_streams.specs.Goes.{Goes, Misses, is_given_up, none, noted_by, sent_so, reads_of};
 
 use crate::links::Links;
 use lb_lines::{Peer, Streams, Why};
@@ -12,7 +12,8 @@ impl<S: Streams> Links<S> {
     /// Writes what waits to be written to a connection, as much as its socket takes. It is closed where the socket failed, or the peer takes
     /// no more.
     pub(crate) fn flush(&mut self, number: u64)
-        ensures { Goes self.old self.new none none }
+        ensures goes { Goes self.old self.new none none }
+        ensures reads { reads_of self.new ≡ reads_of self.old }
     {
         let Some(mut connection) = self.table.take(number) else {
             return;
@@ -51,6 +52,7 @@ impl<S: Streams> Links<S> {
     pub(crate) fn put_behind(&mut self, number: u64, message: &Octets) -> Result<(), Why>
         ensures goes { Goes self.old self.new none (sent_so result number message.now) }
         ensures why { IfErr result (λ why. Misses self.old self.new number message.now why) }
+        ensures reads { reads_of self.new ≡ reads_of self.old }
     {
         self.make_room(number, message);
         match self.promise(number, message) {
@@ -65,7 +67,8 @@ impl<S: Streams> Links<S> {
     /// Writes what waits to be written to a connection, where with this message more would wait than may.
     #[tactic(auto, using(crate::proofs::Opening::goes_nothing))]
     fn make_room(&mut self, number: u64, message: &Octets)
-        ensures { Goes self.old self.new none none }
+        ensures goes { Goes self.old self.new none none }
+        ensures reads { reads_of self.new ≡ reads_of self.old }
     {
         if self.table.is_over(number, message) {
             self.flush(number);
@@ -75,7 +78,8 @@ impl<S: Streams> Links<S> {
     /// Writes what waits to be written to a connection, where it is not to wait for the turn's end.
     #[tactic(auto, using(crate::proofs::Opening::goes_nothing))]
     fn write_urgent(&mut self, number: u64)
-        ensures { Goes self.old self.new none none }
+        ensures goes { Goes self.old self.new none none }
+        ensures reads { reads_of self.new ≡ reads_of self.old }
     {
         if self.table.is_urgent(number) {
             self.flush(number);
@@ -88,6 +92,7 @@ impl<S: Streams> Links<S> {
     fn promise(&mut self, number: u64, message: &Octets) -> Result<(), Why>
         ensures goes { Goes self.old self.new none (sent_so result number message.now) }
         ensures why { IfErr result (λ why. Misses self.old self.new number message.now why) }
+        ensures reads { reads_of self.new ≡ reads_of self.old }
     {
         let why = match self.table.promise(number, message) {
             Ok(()) => return Ok(()),
@@ -115,7 +120,8 @@ impl<S: Streams> Links<S> {
     /// Writes what is to be written at the end of a turn.
     #[tactic(auto, using(crate::proofs::Opening::goes_nothing, crate::proofs::Then::goes_before))]
     pub(crate) fn write_all(&mut self)
-        ensures { Goes self.old self.new none none }
+        ensures goes { Goes self.old self.new none none }
+        ensures reads { reads_of self.new ≡ reads_of self.old }
     {
         for _ in 0..self.table.touched() {
             self.write_next();
@@ -124,7 +130,8 @@ impl<S: Streams> Links<S> {
 
     /// Writes to a connection that is to be written at the end of a turn.
     fn write_next(&mut self)
-        ensures { Goes self.old self.new none none }
+        ensures goes { Goes self.old self.new none none }
+        ensures reads { reads_of self.new ≡ reads_of self.old }
     {
         let Some(number) = self.next_touched() else {
             return;
@@ -142,7 +149,8 @@ impl<S: Streams> Links<S> {
 
     /// Writes to a connection whose socket takes more.
     pub(crate) fn write(&mut self, number: u64)
-        ensures { Goes self.old self.new none none }
+        ensures goes { Goes self.old self.new none none }
+        ensures reads { reads_of self.new ≡ reads_of self.old }
     {
         self.flush(number);
         self.settle(number);
@@ -150,7 +158,8 @@ impl<S: Streams> Links<S> {
 
     /// Reads a connection that may have something.
     pub(crate) fn read(&mut self, number: u64, now: u64)
-        ensures { Goes self.old self.new none none }
+        ensures goes { Goes self.old self.new none none }
+        ensures reads { reads_of self.new ≤ reads_of self.old + 1 }
     {
         self.pull(number, now);
         self.settle(number);

@@ -14,4 +14,4 @@ returns c = λ peer message first.
     let is_first : IsFirst c.args.number peer message old = subst (IsFirst c.args.number peer message) (sym c.self.view_is) first in
     subst (λ (z : Table). Takes c.args.number message z new) c.self.view_is
     (takes_at c.args.number c.place_of.result old c.in-Some.connection c.drop_first.new.self c.enqueue.new.self peer message c.place_of.ensures.0 fits (search rules) was (search rules)
-    c.drop_first.ensures.taken c.drop_first.ensures.owed c.drop_first.ensures.rest c.enqueue.ensures is_first)
+    c.drop_first.ensures.taken c.drop_first.ensures.owed c.drop_first.ensures.rest c.enqueue.ensures.rest is_first)

@@ -13,4 +13,4 @@ returns-in-Ok-clause-put c =
     let was : get_or old.slots c.place_of.result None ≡ Some c.in-Some.connection = sym (get_or_read_under old.slots c.place_of.result (length old.slots) c.index_mut.result.now None c.index_mut.ensures.value fits refl) ∙ c.in-Some.is in
     subst (λ (z : Table). Puts c.args.number c.args.message.now z new) c.self.view_is
     (puts_at c.args.number c.place_of.result c.args.message.now old c.in-Some.connection c.promise.new.self c.touch.new.self c.place_of.ensures.0
-    fits (search rules) was (search rules) c.in-Ok.ensures.promised c.in-Ok.ensures.owed c.promise.ensures.rest c.touch.ensures (c.is_over.ensures.within c.if-is_over.false))
+    fits (search rules) was (search rules) c.in-Ok.ensures.promised c.in-Ok.ensures.owed c.promise.ensures.rest c.touch.ensures.rest (c.is_over.ensures.within c.if-is_over.false))

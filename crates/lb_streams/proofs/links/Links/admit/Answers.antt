@@ -5,8 +5,8 @@ use Rattle.lb_streams.proofs.links.Links.admit.Goals as goal
 use Rattle.lb_streams.specs.Goes.{Goes, none}
 use Rattle.lb_streams.specs.Links.{Net}
 
-pub returns-in-Ok-Client : goal.returns-in-Ok-Client
-returns-in-Ok-Client g c =
+pub returns-in-Ok-Client-clause-goes : goal.returns-in-Ok-Client-clause-goes
+returns-in-Ok-Client-clause-goes g c =
     let old : Net = record { told = g.S.Streams.told c.self.inside.sockets; table = c.self.inside.table; device = c.self.inside.device } in
     let mid : Net = record { told = g.S.Streams.told c.self.inside.sockets; table = c.candidate.new.self; device = c.self.inside.device } in
     let new : Net = record { told = g.S.Streams.told c.accept.new.self; table = c.add.new.self; device = c.self.inside.device } in

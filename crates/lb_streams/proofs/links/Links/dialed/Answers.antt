@@ -1,9 +1,10 @@
-use Rattle.std.proofs.Common.{◌≡◌, ℕ, refl, sym, ap, ◌∙◌, subst}
+use Rattle.std.proofs.Common.{◌≡◌, ℕ, Err, refl, sym, ap, ◌∙◌, subst}
 use Rattle.lb_connections.specs.Table.{Narrows, Table}
 use Rattle.lb_connections.specs.declared.connection.Connection.{Connection}
 use Rattle.lb_streams.proofs.Opening.{Adds, adds, goes_begun, goes_undialed, undialed_lacks}
+use Rattle.lb_streams.proofs.Pieces.{dialed_reads}
 use Rattle.lb_streams.proofs.links.Links.dialed.Goals as goal
-use Rattle.lb_streams.specs.Goes.{Goes, Lacks, none}
+use Rattle.lb_streams.specs.Goes.{Goes, Lacks, none, reads_of}
 use Rattle.lb_streams.specs.Links.{Net}
 
 pub returns-in-Ok-clause-goes : goal.returns-in-Ok-clause-goes
@@ -26,8 +27,10 @@ returns-in-Err g c =
     let narrow = subst (λ (t : Table). Narrows old.table t) (sym c.note.ensures.same) c.candidate.ensures.narrows in
     let goes = goes_undialed c.in-Some-candidate.number old mid new (g.S.Streams.told c.dial.new.self) c.args.at c.in-Err.why narrow refl refl (ap (λ (z : Net). z.table) c.note-in-Err.ensures) c.in-Err.ensures.dialed (ap (λ (z : Net). z.told) c.note-in-Err.ensures) (ap (λ (z : Net). z.device) c.note-in-Err.ensures) in
     let why = undialed_lacks c.in-Some-candidate.number old new (g.S.Streams.told c.dial.new.self) c.args.at c.in-Err.why c.in-Err.ensures.dialed (ap (λ (z : Net). z.told) c.note-in-Err.ensures) in
+    let reads : reads_of new ≡ reads_of old = ap (λ (z : Net). reads_of z) c.note-in-Err.ensures ∙ dialed_reads (Err c.in-Err.why) c.in-Some-candidate.number c.args.at old.told (g.S.Streams.told c.dial.new.self) c.in-Err.ensures.dialed in
     record {
       goes = subst (λ (z : Net). Goes z new none none) c.self.view_is goes;
       to = tt;
       why = subst (λ (z : Net). Lacks z new c.in-Err.why) c.self.view_is why;
+      reads = subst (λ (z : Net). reads_of new ≡ reads_of z) c.self.view_is reads;
     }

@@ -6,15 +6,15 @@ use Rattle.lb_streams.proofs.links.Links.drop_first.Goals as goal
 use Rattle.lb_streams.specs.Goes.{Goes, just, none}
 use Rattle.lb_streams.specs.Links.{Net}
 
-pub returns-in_default : goal.returns-in_default
-returns-in_default g c = λ peer message first.
+pub returns-in_default-clause-goes : goal.returns-in_default-clause-goes
+returns-in_default-clause-goes g c = λ peer message first.
     let old : Net = record { told = g.S.Streams.told c.self.inside.sockets; table = c.self.inside.table; device = c.self.inside.device } in
     let new : Net = record { told = g.S.Streams.told c.self.inside.sockets; table = c.drop_first.new.self; device = c.self.inside.device } in
     let is_first : IsFirst c.args.number peer message old.table = subst (λ (z : Net). IsFirst c.args.number peer message z.table) (sym c.self.view_is) first in
     subst (λ (z : Net). Goes z new (just c.args.number message) none) c.self.view_is (goes_took c.args.number old new message (c.drop_first.ensures peer message is_first) refl refl)
 
-pub returns-in-Err : goal.returns-in-Err
-returns-in-Err g c = λ peer message first.
+pub returns-in-Err-clause-goes : goal.returns-in-Err-clause-goes
+returns-in-Err-clause-goes g c = λ peer message first.
     let old : Net = record { told = g.S.Streams.told c.self.inside.sockets; table = c.self.inside.table; device = c.self.inside.device } in
     let mid : Table = c.drop_first.new.self in
     let out : Table = c.take.new.self in

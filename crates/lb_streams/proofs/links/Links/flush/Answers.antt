@@ -6,8 +6,8 @@ use Rattle.lb_streams.proofs.links.Links.flush.Goals as goal
 use Rattle.lb_streams.specs.Goes.{Goes, none}
 use Rattle.lb_streams.specs.Links.{Net}
 
-pub returns-then-len-eq0 : goal.returns-then-len-eq0
-returns-then-len-eq0 g c =
+pub returns-then-len-eq0-clause-goes : goal.returns-then-len-eq0-clause-goes
+returns-then-len-eq0-clause-goes g c =
     let old : Net = record { told = g.S.Streams.told c.self.inside.sockets; table = c.self.inside.table; device = c.self.inside.device } in
     let x : Connection = c.in-Some.connection in
     let new : Net = record { told = g.S.Streams.told c.self.inside.sockets; table = c.put.new.self; device = c.self.inside.device } in
@@ -16,8 +16,8 @@ returns-then-len-eq0 g c =
     c.put.ensures.here c.put.ensures.others c.put.ensures.clients c.put.ensures.same.0 c.put.ensures.same.1 (refl) (refl) in
     subst (λ (z : Net). Goes z new none none) c.self.view_is (goes_kept c.args.number old new x y swap refl refl refl refl refl refl)
 
-pub returns-in-Ok : goal.returns-in-Ok
-returns-in-Ok g c =
+pub returns-in-Ok-clause-goes : goal.returns-in-Ok-clause-goes
+returns-in-Ok-clause-goes g c =
     let old : Net = record { told = g.S.Streams.told c.self.inside.sockets; table = c.self.inside.table; device = c.self.inside.device } in
     let x : Connection = c.in-Some.connection in
     let new : Net = record { told = g.S.Streams.told c.write_to.new.self; table = c.put-in-Ok.new.self; device = c.self.inside.device } in
@@ -26,8 +26,8 @@ returns-in-Ok g c =
     c.put-in-Ok.ensures.here c.put-in-Ok.ensures.others c.put-in-Ok.ensures.clients c.put-in-Ok.ensures.same.0 c.put-in-Ok.ensures.same.1 (refl) (refl) in
     subst (λ (z : Net). Goes z new none none) c.self.view_is (goes_written c.args.number c.in-Ok.written old new x y swap (search rules) refl refl refl (search rules) refl)
 
-pub returns-in-Err : goal.returns-in-Err
-returns-in-Err g c =
+pub returns-in-Err-clause-goes : goal.returns-in-Err-clause-goes
+returns-in-Err-clause-goes g c =
     let old : Net = record { told = g.S.Streams.told c.self.inside.sockets; table = c.self.inside.table; device = c.self.inside.device } in
     let x : Connection = c.in-Some.connection in
     let new : Net = c.note.new.self in

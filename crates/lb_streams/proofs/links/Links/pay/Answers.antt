@@ -5,8 +5,8 @@ use Rattle.lb_streams.proofs.links.Links.pay.Goals as goal
 use Rattle.lb_streams.specs.Goes.{Goes, none}
 use Rattle.lb_streams.specs.Links.{Net}
 
-pub returns : goal.returns
-returns g c =
+pub returns-clause-goes : goal.returns-clause-goes
+returns-clause-goes g c =
     let old : Net = record { told = g.S.Streams.told c.self.inside.sockets; table = c.self.inside.table; device = c.self.inside.device } in
     let x : Connection = c.in-Some.connection in
     let new : Net = record { told = g.S.Streams.told c.self.inside.sockets; table = c.put.new.self; device = c.self.inside.device } in

@@ -8,8 +8,8 @@ use Rattle.lb_streams.proofs.links.Links.pull.Goals as goal
 use Rattle.lb_streams.specs.Goes.{Goes, none}
 use Rattle.lb_streams.specs.Links.{Net}
 
-pub returns-then-not-may_be_read : goal.returns-then-not-may_be_read
-returns-then-not-may_be_read g c =
+pub returns-then-not-may_be_read-clause-goes : goal.returns-then-not-may_be_read-clause-goes
+returns-then-not-may_be_read-clause-goes g c =
     let old : Net = record { told = g.S.Streams.told c.self.inside.sockets; table = c.self.inside.table; device = c.self.inside.device } in
     let x : Connection = c.in-Some.connection in
     let new : Net = record { told = g.S.Streams.told c.self.inside.sockets; table = c.put.new.self; device = c.self.inside.device } in
@@ -18,8 +18,8 @@ returns-then-not-may_be_read g c =
     c.put.ensures.here c.put.ensures.others c.put.ensures.clients c.put.ensures.same.0 c.put.ensures.same.1 (refl) (refl) in
     subst (λ (z : Net). Goes z new none none) c.self.view_is (goes_kept c.args.number old new x y swap refl refl refl refl refl refl)
 
-pub returns-in-Ok : goal.returns-in-Ok
-returns-in-Ok g c =
+pub returns-in-Ok-clause-goes : goal.returns-in-Ok-clause-goes
+returns-in-Ok-clause-goes g c =
     let old : Net = record { told = g.S.Streams.told c.self.inside.sockets; table = c.self.inside.table; device = c.self.inside.device } in
     let x : Connection = c.in-Some.connection in
     let new : Net = record { told = g.S.Streams.told c.read_from.new.self; table = c.put-in-Ok.new.self; device = c.self.inside.device } in
@@ -29,8 +29,8 @@ returns-in-Ok g c =
     let told = rw c.in-Ok-Piece.field-0-is at c.in-Ok-Piece.ensures.gave in
     subst (λ (z : Net). Goes z new none none) c.self.view_is (goes_heard c.args.number old new x y c.in-Ok-Piece.octets swap told refl c.hear.ensures.rest.1 c.in-Ok.ensures.heard c.hear.ensures.rest.2 c.hear.ensures.rest.3)
 
-pub returns-in-Err-hear : goal.returns-in-Err-hear
-returns-in-Err-hear g c =
+pub returns-in-Err-hear-clause-goes : goal.returns-in-Err-hear-clause-goes
+returns-in-Err-hear-clause-goes g c =
     let old : Net = record { told = g.S.Streams.told c.self.inside.sockets; table = c.self.inside.table; device = c.self.inside.device } in
     let x : Connection = c.in-Some.connection in
     let new : Net = record { told = g.S.Streams.told c.close.new.self; table = c.lacks.new.self; device = c.self.inside.device } in
@@ -40,8 +40,8 @@ returns-in-Err-hear g c =
     let told = rw c.in-Ok-Piece.field-0-is at c.in-Ok-Piece.ensures.gave in
     subst (λ (z : Net). Goes z new none none) c.self.view_is (goes_wanting_read c.args.number old new x c.in-Ok-Piece.octets drop rose (c.close.ensures.same ∙ told) refl)
 
-pub returns-in-Ok-Nothing : goal.returns-in-Ok-Nothing
-returns-in-Ok-Nothing g c =
+pub returns-in-Ok-Nothing-clause-goes : goal.returns-in-Ok-Nothing-clause-goes
+returns-in-Ok-Nothing-clause-goes g c =
     let old : Net = record { told = g.S.Streams.told c.self.inside.sockets; table = c.self.inside.table; device = c.self.inside.device } in
     let x : Connection = c.in-Some.connection in
     let new : Net = record { told = g.S.Streams.told c.read_from.new.self; table = c.put-in-Ok-Nothing.new.self; device = c.self.inside.device } in
@@ -51,8 +51,8 @@ returns-in-Ok-Nothing g c =
     let told = rw c.in-Ok-Nothing.field-0-is at c.in-Ok-Nothing.ensures.gave in
     subst (λ (z : Net). Goes z new none none) c.self.view_is (goes_kept c.args.number old new x y swap told refl refl refl refl refl)
 
-pub returns-in-Server : goal.returns-in-Server
-returns-in-Server g c =
+pub returns-in-Server-clause-goes : goal.returns-in-Server-clause-goes
+returns-in-Server-clause-goes g c =
     let old : Net = record { told = g.S.Streams.told c.self.inside.sockets; table = c.self.inside.table; device = c.self.inside.device } in
     let x : Connection = c.in-Some.connection in
     let new : Net = record { told = g.S.Streams.told c.close-in-Server.new.self; table = c.take.new.self; device = c.self.inside.device } in
@@ -60,8 +60,8 @@ returns-in-Server g c =
     let told = rw c.in-Ok-Ended.field-0-is at c.in-Ok-Ended.ensures.gave in
     subst (λ (z : Net). Goes z new none none) c.self.view_is (goes_left c.args.number old new x drop (ap (λ (p : Peer). is_client p) c.in-Server.is) (c.close-in-Server.ensures.same ∙ told) refl)
 
-pub returns-in-Client : goal.returns-in-Client
-returns-in-Client g c =
+pub returns-in-Client-clause-goes : goal.returns-in-Client-clause-goes
+returns-in-Client-clause-goes g c =
     let old : Net = record { told = g.S.Streams.told c.self.inside.sockets; table = c.self.inside.table; device = c.self.inside.device } in
     let x : Connection = c.in-Some.connection in
     let new : Net = record { told = g.S.Streams.told c.read_from.new.self; table = c.put-in-Client.new.self; device = c.self.inside.device } in
@@ -71,8 +71,8 @@ returns-in-Client g c =
     let told = rw c.in-Ok-Ended.field-0-is at c.in-Ok-Ended.ensures.gave in
     subst (λ (z : Net). Goes z new none none) c.self.view_is (goes_asked c.args.number old new x y swap told refl c.end.ensures.rest.1 c.end.ensures.rest.2 c.end.ensures.rest.3)
 
-pub returns-in-Ok-Failed : goal.returns-in-Ok-Failed
-returns-in-Ok-Failed g c =
+pub returns-in-Ok-Failed-clause-goes : goal.returns-in-Ok-Failed-clause-goes
+returns-in-Ok-Failed-clause-goes g c =
     let old : Net = record { told = g.S.Streams.told c.self.inside.sockets; table = c.self.inside.table; device = c.self.inside.device } in
     let x : Connection = c.in-Some.connection in
     let new : Net = c.fails.new.self in
@@ -82,8 +82,8 @@ returns-in-Ok-Failed g c =
     let table : new.table ≡ c.take.new.self = ap (λ (z : Net). z.table) c.fails.ensures in
     subst (λ (z : Net). Goes z new none none) c.self.view_is (goes_failed c.args.number old new x (subst (λ (t : Table). Drops c.args.number old.table t x) (sym table) drop) faulty (ap (λ (z : Net). z.device) c.fails.ensures))
 
-pub returns-in-Err : goal.returns-in-Err
-returns-in-Err g c =
+pub returns-in-Err-clause-goes : goal.returns-in-Err-clause-goes
+returns-in-Err-clause-goes g c =
     let old : Net = record { told = g.S.Streams.told c.self.inside.sockets; table = c.self.inside.table; device = c.self.inside.device } in
     let x : Connection = c.in-Some.connection in
     let new : Net = record { told = g.S.Streams.told c.close-in-Err.new.self; table = c.lacks-in-Err.new.self; device = c.self.inside.device } in

@@ -2,5 +2,5 @@ use Rattle.lb_streams.proofs.Then.{goes_before}
 use Rattle.lb_streams.specs.Goes.{none}
 use Rattle.lb_streams.proofs.links.Links.read.Goals as goal
 
-pub returns : goal.returns
-returns g c = goes_before c.args.self.now c.pull.new.self c.settle.new.self none none c.pull.ensures c.settle.ensures
+pub returns-clause-goes : goal.returns-clause-goes
+returns-clause-goes g c = goes_before c.args.self.now c.pull.new.self c.settle.new.self none none c.pull.ensures.goes c.settle.ensures.goes

@@ -5,16 +5,16 @@ use Rattle.lb_streams.proofs.links.Links.see_to.Goals as goal
 use Rattle.lb_streams.specs.Goes.{Goes, none}
 use Rattle.lb_streams.specs.Links.{Net}
 
-pub returns-then-is_finished : goal.returns-then-is_finished
-returns-then-is_finished g c =
+pub returns-then-is_finished-clause-goes : goal.returns-then-is_finished-clause-goes
+returns-then-is_finished-clause-goes g c =
     let old : Net = record { told = g.S.Streams.told c.self.inside.sockets; table = c.self.inside.table; device = c.self.inside.device } in
     let x : Connection = c.in-Some.connection in
     let new : Net = record { told = g.S.Streams.told c.close.new.self; table = c.take.new.self; device = c.self.inside.device } in
     let drop = drops c.args.number old.table c.take.new.self x c.in-Some.ensures.here c.in-Some.ensures.number.1 c.take.ensures.gone c.take.ensures.others c.in-Some.ensures.clients c.take.ensures.same.0 c.take.ensures.same.1 in
     subst (λ (z : Net). Goes z new none none) c.self.view_is (goes_finished c.args.number old new x drop (c.is_finished.ensures.done c.if-is_finished.true).ended (c.is_finished.ensures.done c.if-is_finished.true).written (c.is_finished.ensures.done c.if-is_finished.true).none c.close.ensures.same refl)
 
-pub returns : goal.returns
-returns g c =
+pub returns-clause-goes : goal.returns-clause-goes
+returns-clause-goes g c =
     let old : Net = record { told = g.S.Streams.told c.self.inside.sockets; table = c.self.inside.table; device = c.self.inside.device } in
     let x : Connection = c.in-Some.connection in
     let new : Net = record { told = g.S.Streams.told c.resume.new.sockets; table = c.put.new.self; device = c.self.inside.device } in

@@ -1,6 +1,10 @@
+use Rattle.std.proofs.Common.{◌∙◌}
 use Rattle.lb_streams.proofs.Then.{goes_before}
 use Rattle.lb_streams.specs.Goes.{none}
 use Rattle.lb_streams.proofs.links.Links.write_all.Goals as goal
 
 pub loop-preserved : goal.loop-preserved
-loop-preserved g c = goes_before _ c.loop.self c.write_next.new.self none none c.loop.invariant c.write_next.ensures
+loop-preserved g c = (
+  goes_before _ c.loop.self c.write_next.new.self none none c.loop.invariant.0 c.write_next.ensures.goes,
+  c.write_next.ensures.reads ∙ c.loop.invariant.1,
+)

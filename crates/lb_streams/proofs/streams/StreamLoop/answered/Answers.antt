@@ -14,8 +14,8 @@ use Rattle.lb_streams.specs.Goes.{Goes, just, none}
 use Rattle.lb_streams.specs.Turn.{Sends, Turns}
 use Rattle.lb_streams.specs.World.{World}
 
-pub returns : goal.returns
-returns g c = λ said stamp.
+pub returns-clause-turns : goal.returns-clause-turns
+returns-clause-turns g c = λ said stamp.
     let a : World = record { net = c.self.inside.links; jobs = c.self.inside.receiver; fronts = c.self.inside.fronts.items; handed = g.P.Posts.handed c.self.inside.posts; answered = g.T.Taker.answered c.self.inside.taker; pairs = g.T.Taker.pairs c.self.inside.taker; said = g.O.Outside.said c.self.inside.outside; outside = g.O.Outside.failures c.self.inside.outside } in
     let mid : World = record { net = c.owe.new.self; jobs = c.self.inside.receiver; fronts = c.self.inside.fronts.items; handed = g.P.Posts.handed c.self.inside.posts; answered = g.T.Taker.answered c.outcome_of-outcome.new.taker; pairs = g.T.Taker.pairs c.outcome_of-outcome.new.taker; said = g.O.Outside.said c.self.inside.outside; outside = g.O.Outside.failures c.self.inside.outside } in
     let sent : World = record { net = c.self-2.inside.links; jobs = c.self-2.inside.receiver; fronts = c.self-2.inside.fronts.items; handed = g.P.Posts.handed c.self-2.inside.posts; answered = g.T.Taker.answered c.self-2.inside.taker; pairs = g.T.Taker.pairs c.self-2.inside.taker; said = g.O.Outside.said c.self-2.inside.outside; outside = g.O.Outside.failures c.self-2.inside.outside } in
@@ -28,10 +28,10 @@ returns g c = λ said stamp.
     let sending = c.send_outcome-sending.result in
     let first : IsFirst n c.args.peer c.args.copy a.net.table = subst (λ (w : World). IsFirst n c.args.peer c.args.copy w.net.table) (sym c.self.view_is) c.requires.first in
     let said_now : a.said ≡ said ++ (c.args.now, c.args.word) ∷ [] = ap (λ (w : World). w.said) c.self.view_is ∙ stamp in
-    let took : Goes a.net mid.net (just n c.args.copy) none = goes_after a.net c.drop_first.new.self mid.net (just n c.args.copy) none (c.drop_first.ensures c.args.peer c.args.copy first) c.owe.ensures in
+    let took : Goes a.net mid.net (just n c.args.copy) none = goes_after a.net c.drop_first.new.self mid.net (just n c.args.copy) none (c.drop_first.ensures.goes c.args.peer c.args.copy first) c.owe.ensures.goes in
     let counted : mid.answered ≡ a.answered + length (answered_as told outcome) = subst (λ (e : Event). mid.answered ≡ a.answered + length (answered_as e outcome)) same_event c.outcome_of-outcome.ensures.answered in
     let grows : Grows a.pairs mid.pairs (answered_as told outcome) = subst (λ (e : Event). Grows a.pairs mid.pairs (answered_as e outcome)) same_event c.outcome_of-outcome.ensures.pairs in
     let is : IsOutcome told outcome = subst (λ (e : Event). IsOutcome e outcome) same_event c.outcome_of-outcome.ensures.is in
-    let sends : Sends roster mid sent (outcome_letter told outcome) sending = subst (λ (w : World). Sends roster mid w (outcome_letter told outcome) sending) (sym c.self-2.view_is) c.send_outcome-sending.ensures in
+    let sends : Sends roster mid sent (outcome_letter told outcome) sending = subst (λ (w : World). Sends roster mid w (outcome_letter told outcome) sending) (sym c.self-2.view_is) c.send_outcome-sending.ensures.sends in
     subst (λ (w : World). Turns roster 1 0 (record w { said = said }) b (lines.Event (sources.Connection n) told outcome sending ∷ []) false) c.self.view_is
-    (turns_told roster a mid sent b n c.args.now c.args.word c.args.peer c.args.copy told outcome sending said first c.event_made-told.ensures said_now took refl counted grows is sends c.settle.ensures refl)
+    (turns_told roster a mid sent b n c.args.now c.args.word c.args.peer c.args.copy told outcome sending said first c.event_made-told.ensures said_now took refl counted grows is sends c.settle.ensures.goes refl)

@@ -17,4 +17,4 @@ returns-clause-turned g c = λ first n before.
     c.add_line-2.ensures.lines ∙ ap (λ zs. zs ++ option_to_list c.line_of.result) c.add_line.ensures.lines ∙ ap (λ zs. (ls ++ js) ++ zs) c.line_of.ensures in
     subst (λ (zs : List Line). Turns roster (n + 1) (n + 1) first c.one_event-step.new.self zs (is_blinded c.end_after-end.result)) (sym all)
     (subst (λ (b : Bool). Turns roster (n + 1) (n + 1) first c.one_event-step.new.self ((ls ++ js) ++ es) b) (sym c.end_after-end.ensures)
-    (turns_round roster n first c.args.self.now c.next_job-job.new.self c.next_arrival-coming.new.self c.one_event-step.new.self ls js es (steps.is_blind c.one_event-step.result) before c.next_job-job.ensures c.next_arrival-coming.ensures c.one_event-step.ensures))
+    (turns_round roster n first c.args.self.now c.next_job-job.new.self c.next_arrival-coming.new.self c.one_event-step.new.self ls js es (steps.is_blind c.one_event-step.result) before c.next_job-job.ensures.turns c.next_arrival-coming.ensures.turns c.one_event-step.ensures.turns))

@@ -11,8 +11,8 @@ use Rattle.lb_streams.specs.World.{World}
 use Rattle.lb_streams.proofs.streams.StreamLoop.send_to_client.Goals as goal
 use Rattle.lb_streams.proofs.streams.StreamLoop.send_to_client.Goals.{in-Ok, in-Err}
 
-pub returns : goal.returns
-returns g c =
+pub returns-clause-sends : goal.returns-clause-sends
+returns-clause-sends g c =
     let old : World = record { net = c.self.inside.links; jobs = c.self.inside.receiver; fronts = c.self.inside.fronts.items; handed = g.P.Posts.handed c.self.inside.posts; answered = g.T.Taker.answered c.self.inside.taker; pairs = g.T.Taker.pairs c.self.inside.taker; said = g.O.Outside.said c.self.inside.outside; outside = g.O.Outside.failures c.self.inside.outside } in
     let new : World = record { net = c.put_behind.new.self; jobs = c.self.inside.receiver; fronts = c.self.inside.fronts.items; handed = g.P.Posts.handed c.self.inside.posts; answered = g.T.Taker.answered c.self.inside.taker; pairs = g.T.Taker.pairs c.self.inside.taker; said = g.O.Outside.said c.self.inside.outside; outside = g.O.Outside.failures c.self.inside.outside } in
     let roster = c.args.roster.now.listed in
@@ -22,8 +22,8 @@ returns g c =
     subst (λ (w : World). Sends roster w new (Some (Client c.args.origin, bytes)) c.match-put_behind.result) c.self.view_is
     (elim c.match-put_behind.branch [
       | in-Ok w ↦ subst (λ (s : Sending). Sends roster old new (Some (Client c.args.origin, bytes)) s) (sym w.result-is)
-          (client_done roster old new c.args.origin bytes stream (goes_before old.net c.pay.new.self new.net none (just slot bytes) c.pay.ensures w.in-Ok.ensures.goes) refl)
+          (client_done roster old new c.args.origin bytes stream (goes_before old.net c.pay.new.self new.net none (just slot bytes) c.pay.ensures.goes w.in-Ok.ensures.goes) refl)
       | in-Err w ↦ subst (λ (s : Sending). Sends roster old new (Some (Client c.args.origin, bytes)) s) (sym w.result-is)
-          (client_failed roster old new c.args.origin bytes w.in-Err.why stream (goes_before old.net c.pay.new.self new.net none none c.pay.ensures w.in-Err.ensures.goes)
-          (misses_before old.net c.pay.new.self new.net slot bytes w.in-Err.why c.pay.ensures w.in-Err.ensures.why) refl)
+          (client_failed roster old new c.args.origin bytes w.in-Err.why stream (goes_before old.net c.pay.new.self new.net none none c.pay.ensures.goes w.in-Err.ensures.goes)
+          (misses_before old.net c.pay.new.self new.net slot bytes w.in-Err.why c.pay.ensures.goes w.in-Err.ensures.why) refl)
     ])
