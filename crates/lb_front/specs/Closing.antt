@@ -17,6 +17,12 @@ leaves_body left firsts.Body = false
 leaves_body None first = true
 leaves_body (Some left) first = not (left == 0)
 
+-- whether a response says that a body was too long: what is left of that body is not read, and so its
+-- connection closes after the response (RFC 9110 section 15.5.14)
+abbrev pub is_too_long : Outcome → Bool
+is_too_long (Ok response) = (head_of response).status == 413
+is_too_long (Err cut) = false
+
 -- the response with one more header line, which says that the connection closes; the rest of its head and its body are the same
 pub record SaysClose (response closing : Response (Full (List ℕ))) : Type 0 where
   pub head : head_of closing ≡ record (head_of response) { headers = append (head_of response).headers (codes "connection") (plain_value (codes "close")) }

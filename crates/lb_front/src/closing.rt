@@ -1,9 +1,10 @@
 //! Responses that say that their connection closes after them (RFC 9112 section 9.6). A client that
 //! sent further requests knows then that they get no response.
 
-ghost use Rattle.std.specs.Prelude.{◌≡◌, IfErr, IfOk};
+ghost use Rattle.std.specs.Prelude.{◌≡◌, ◌==◌, ◌||◌, IfErr, IfOk};
+ghost use Rattle.http.specs.Response.{head_of};
 ghost use Rattle.lb_front.specs.Answering.{Outcome};
-ghost use Rattle.lb_front.specs.Closing.{ClosesBy, SaysClose, leaves_body};
+ghost use Rattle.lb_front.specs.Closing.{ClosesBy, SaysClose, is_too_long, leaves_body};
 ghost use Rattle.lb_front.specs.Response.{IsUnbuilt};
 
 use crate::cut::Cut;
@@ -32,6 +33,16 @@ pub(crate) fn leaves_body(left: Option<u64>, first: &First) -> bool
     }
 }
 
+/// The status of a response to a body that is too long.
+const TOO_LONG: u16 = 413;
+
+/// Whether a response says that a body was too long: what is left of that body is not read.
+fn is_too_long(response: &HttpResponse) -> bool
+    ensures { result ≡ (head_of response.now).status == 413 }
+{
+    response.status().as_u16() == TOO_LONG
+}
+
 /// The response with the header line that says that the connection closes.
 fn saying_close(mut response: HttpResponse) -> Result<HttpResponse, Cut>
     ensures closing { IfOk result (SaysClose response) }
@@ -52,11 +63,13 @@ impl<F: Future<Output = Result<HttpResponse, Cut>>> Future for Closing<F> {
     ghost needs = { λ c. F.needs c.answering };
 
     ghost gives = { λ c outcome.
-        (inner : Outcome) × F.gives c.answering inner × ClosesBy c.closes inner outcome };
+        (inner : Outcome) × F.gives c.answering inner × ClosesBy (c.closes || is_too_long inner) inner outcome };
 
     fn poll(&mut self, cx: &mut Context<'_>) -> Poll<Result<HttpResponse, Cut>> {
         match self.answering.poll(cx) {
-            Poll::Ready(Ok(response)) if self.closes => Poll::Ready(saying_close(response)),
+            Poll::Ready(Ok(response)) if self.closes || is_too_long(&response) => {
+                Poll::Ready(saying_close(response))
+            }
             polled => polled,
         }
     }

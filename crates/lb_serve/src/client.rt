@@ -1,6 +1,7 @@
 //! A client of the console: lines in, lines out.
 
 use crate::fault::Fault;
+use crate::opening::Opening;
 use crate::operator::{Operator, Said};
 use crate::typed::{Typed, Whole};
 use lb_loops::{Outside, Taker};
@@ -44,9 +45,13 @@ pub(crate) struct Client {
     from: usize,
     to: usize,
     typed: Typed,
+    /// How its first line begins, until that has ended.
+    opening: Option<Opening>,
     answer: Vec<u8>,
     /// How many bytes of the answer are written.
     written: usize,
+    /// Whether it is closed once the answer is written.
+    is_last: bool,
 }
 
 impl Client {
@@ -58,8 +63,10 @@ impl Client {
             from: 0,
             to: 0,
             typed: Typed::new(alloc),
+            opening: Some(Opening::new()),
             answer: Vec::new(alloc),
             written: 0,
+            is_last: false,
         })
     }
 
@@ -77,6 +84,9 @@ impl Client {
     ) -> Result<Progress, Fault> {
         if self.written < self.answer.len() {
             return Ok(self.write());
+        }
+        if self.is_last {
+            return Ok(Progress::Ended);
         }
         if self.from < self.to {
             return self.look(rt, operator);
@@ -120,6 +130,9 @@ impl Client {
         let rest = self.chunk.get(self.from..self.to).unwrap_or_default();
         let end = rest.iter().position(|byte| *byte == b'\n');
         let (piece, _) = rest.split_at(end.unwrap_or(rest.len()));
+        if let Some(opening) = &mut self.opening {
+            opening.take(piece);
+        }
         if self.typed.take(piece).is_err() {
             return Ok(Progress::Ended);
         }
@@ -135,12 +148,16 @@ impl Client {
         }
     }
 
-    /// Answers the line that has ended.
+    /// Answers the line that has ended. After a first one that is a request of HTTP the client is closed, and
+    /// no further line of it is carried out.
     fn end_line<R: Wait + Clock, T: Taker, O: Outside>(
         &mut self,
         rt: &R,
         operator: &mut Operator<T, O>,
     ) -> Result<Progress, Fault> {
+        if let Some(opening) = self.opening.take() {
+            self.is_last = opening.is_request();
+        }
         let said = match self.typed.whole() {
             Whole::Text(text) => operator.answer(rt, text),
             Whole::TooLong => operator.too_long(),

@@ -27,8 +27,11 @@ const CLIENT: Token = Token(2);
 /// The most events that one look gives.
 const EVENTS: usize = 8;
 
-/// How long a client that ends no line that reads is served if another one waits, in milliseconds.
-const PATIENCE: u64 = 60_000;
+/// How long a client that types no line is served if another one waits, in milliseconds.
+const PATIENCE: u64 = 5_000;
+
+/// How long a client is served of which no line reads if another one waits, in milliseconds.
+const FAULTS: u64 = 60_000;
 
 /// How long to wait before a client is asked for again that could not be taken in, in milliseconds.
 const AGAIN: u64 = 100;
@@ -44,8 +47,12 @@ pub(crate) struct Console<'a, R: Wait + Clock, T: Taker, O: Outside> {
     spare: Option<Registry>,
     listeners: Vec<TcpListener>,
     client: Option<Client>,
+    /// The client that comes after it, if it was taken in already.
+    next: Option<TcpStream>,
     /// When the client last ended a line that reads, or came.
     since: Option<Instant>,
+    /// When the client last ended a line, or came.
+    typed: Option<Instant>,
     /// Whether another client may wait.
     has_others: bool,
     operator: Operator<T, O>,
@@ -76,7 +83,9 @@ impl<'a, R: Wait + Clock, T: Taker, O: Outside> Console<'a, R, T, O> {
             events: Events::with_capacity(alloc, EVENTS)?,
             listeners,
             client: None,
+            next: None,
             since: None,
+            typed: None,
             has_others: true,
             operator,
             halt,
@@ -132,7 +141,7 @@ impl<'a, R: Wait + Clock, T: Taker, O: Outside> Console<'a, R, T, O> {
         };
         match client.step(self.rt, &mut self.operator)? {
             Progress::Went => Ok(()),
-            Progress::Answered => self.note_time(),
+            Progress::Answered => self.note_answer(),
             Progress::Faulted => self.look_round(),
             Progress::Blocked => self.wait_for_client(),
             Progress::Ended => {
@@ -148,6 +157,9 @@ impl<'a, R: Wait + Clock, T: Taker, O: Outside> Console<'a, R, T, O> {
 
     /// Takes in a client that waits, or waits for one.
     fn take_in(&mut self) -> Result<(), Fault> {
+        if let Some(stream) = self.next.take() {
+            return self.welcome(stream);
+        }
         match self.admitted() {
             Ok(stream) => self.welcome(stream),
             Err(error) if error.kind() == ErrorKind::WouldBlock => {
@@ -169,7 +181,7 @@ impl<'a, R: Wait + Clock, T: Taker, O: Outside> Console<'a, R, T, O> {
         accepted(self.listeners.as_slice())
     }
 
-    /// Serves a client from now on. Where the system or memory is wanting for it, it is closed.
+    /// Serves a client from now on. If the system or memory is lacking for it, it is closed.
     fn welcome(&mut self, stream: TcpStream) -> Result<(), Fault> {
         let _ = stream.set_nodelay(true);
         if watch(&self.poll, &stream, CLIENT).is_ok() {
@@ -178,21 +190,36 @@ impl<'a, R: Wait + Clock, T: Taker, O: Outside> Console<'a, R, T, O> {
         if self.client.is_none() {
             self.dismiss();
         }
-        self.note_time()
+        self.look_for_next();
+        self.note_answer()
     }
 
-    /// Notes that the client was served now.
-    fn note_time(&mut self) -> Result<(), Fault> {
-        self.since = Some(Instant::now(self.rt)?);
+    /// Looks whether another client waits, and takes it in to be served next: the arrival of the one that is
+    /// served says nothing of others.
+    fn look_for_next(&mut self) {
+        match accepted(self.listeners.as_slice()) {
+            Ok(stream) => {
+                self.next = Some(stream);
+                self.has_others = true;
+            }
+            Err(error) => self.has_others = error.kind() != ErrorKind::WouldBlock,
+        }
+    }
+
+    /// Notes that the client ended a line that reads now, or came.
+    fn note_answer(&mut self) -> Result<(), Fault> {
+        let now = Instant::now(self.rt)?;
+        self.since = Some(now);
+        self.typed = Some(now);
         Ok(())
     }
 
-    /// Waits for the client. If another one waits, it is closed once it ended no line that reads for a minute.
+    /// Waits for the client. If another one waits, it is closed once it has typed no line for five seconds.
     fn wait_for_client(&mut self) -> Result<(), Fault> {
         if !self.has_others {
             return self.wait(None);
         }
-        let left = self.left()?;
+        let left = self.left(self.typed, PATIENCE)?;
         if left.is_zero() {
             self.dismiss();
             return Ok(());
@@ -200,20 +227,21 @@ impl<'a, R: Wait + Clock, T: Taker, O: Outside> Console<'a, R, T, O> {
         self.wait(Some(left))
     }
 
-    /// Looks whether another client waits, for which this one is closed if its time is over: one whose lines
-    /// do not read may always have a next one to be answered.
+    /// Looks whether another client waits, for which this one is closed if no line of it has read for a
+    /// minute: one whose lines do not read may always have a next one to be answered.
     fn look_round(&mut self) -> Result<(), Fault> {
+        self.typed = Some(Instant::now(self.rt)?);
         self.wait(Some(Duration::from_millis(0)))?;
-        if self.has_others && self.left()?.is_zero() {
+        if self.has_others && self.left(self.since, FAULTS)?.is_zero() {
             self.dismiss();
         }
         Ok(())
     }
 
-    /// How long the client is served still if another one waits.
-    fn left(&self) -> Result<Duration, Fault> {
-        let patience = Duration::from_millis(PATIENCE);
-        match &self.since {
+    /// How much is left of so many milliseconds from this moment on.
+    fn left(&self, since: Option<Instant>, patience: u64) -> Result<Duration, Fault> {
+        let patience = Duration::from_millis(patience);
+        match since {
             Some(since) => Ok(patience.saturating_sub(since.elapsed(self.rt)?)),
             None => Ok(Duration::from_millis(0)),
         }

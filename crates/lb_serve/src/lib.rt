@@ -10,6 +10,7 @@ mod fault;
 mod gate;
 mod halt;
 mod listening;
+mod opening;
 mod operator;
 mod parts;
 mod sentences;

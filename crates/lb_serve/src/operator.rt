@@ -116,8 +116,8 @@ impl<T: Taker, O: Outside> Operator<T, O> {
             Ok(answer) => {
                 self.servers.follow(expected, &answer);
                 count_on(&mut self.next, &answer);
-                self.tell_loops(rt, &answer);
                 self.withdraw(rt, announced);
+                self.tell_loops(rt, &answer);
                 Ok(Said::Line(answer_line(self.alloc, &answer)?))
             }
             Err((fault, _)) => {
