@@ -41,7 +41,7 @@ def add_options(parser):
     where = parser.add_mutually_exclusive_group()
     where.add_argument("-c", metavar="ADDR:PORT", type=place_of, help="the address of the console")
     where.add_argument("-f", metavar="FILE", help=f"the setup file that names the console ({SETUP})")
-    parser.add_argument("-t", metavar="SECONDS", type=float, default=5.0, help="how long an answer may take (5)")
+    parser.add_argument("-t", metavar="SECONDS", type=float, default=10.0, help="how long an answer may take (10)")
 
 
 def place_by(parser, words):
