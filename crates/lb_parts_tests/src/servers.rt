@@ -574,3 +574,25 @@ fn no_more_than_eight_pools(rt: HostRuntime) -> Result<(), Fail> {
     }
     Ok(())
 }
+
+/// Whether there is no server, and the default pool alone, with the policy that a pool has at first.
+fn is_new(alloc: Global, park: &Park) -> Result<bool, AllocError> {
+    let servers = park.list(alloc)?;
+    let pools = park.pool_list(alloc)?;
+    let is_default = match pools.first() {
+        Some(pool) => {
+            is_pool(pool, "-")
+                && pool.policy == Policy::LeastOutstanding
+                && pool.turn == 0
+                && pool.cache.is_none()
+        }
+        None => false,
+    };
+    Ok(servers.is_empty() && pools.len() == 1 && is_default)
+}
+
+#[test]
+fn a_new_park_has_the_default_pool_alone(rt: HostRuntime) -> Result<(), Fail> {
+    let park = Park::new(rt.alloc())?;
+    held(0, is_new(rt.alloc(), &park)?)
+}
