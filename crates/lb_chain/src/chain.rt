@@ -98,6 +98,13 @@ impl Chain {
         self.rules.len()
     }
 
+    /// The rules in the order of `law_of_list`, each with its number and its limiters.
+    pub fn rules(&self) -> &[Numbered]
+        ensures { result.now ≡ self.now.rules }
+    {
+        self.rules.as_slice()
+    }
+
     /// The rules in the order of `law_of_list`, with the passes that their limiters hold. The one error is want of memory.
     pub fn list(&self, alloc: Global) -> Result<Vec<Listed>, AllocError>
         ensures list { IfOk result (λ list. list.items ≡ map listed_of self.now.rules) }

@@ -1,6 +1,6 @@
 -- What the lists of a plain state keep true; and the health of a server over a run, which follows from the results given since the
 -- server was added.
-use Rattle.std.specs.Prelude.{◌≡◌, ℕ, ◌+◌, ◌<◌, Bool, true, false, ◌==◌, if◌then◌else◌, List, [], ◌∷◌, ◌++◌, ◌⊎◌, Option, None, Some, option_map}
+use Rattle.std.specs.Prelude.{◌≡◌, ◌+◌, ◌<◌, Bool, true, false, ◌==◌, if◌then◌else◌, List, [], ◌∷◌, ◌++◌, ◌⊎◌, Option, None, Some, option_map}
 use Rattle.std.specs.Int.NonZero.{non_zero_u8_get}
 use Rattle.std.specs.List.{All, AllByRecursion, find, flat_map}
 use Rattle.lb_wire.specs.declared.ids.ServerId.{ServerId}

@@ -49,3 +49,6 @@ pub mod Provenance
 pub mod Runs
 pub mod Snapshot
 pub mod Laws
+pub mod Noted
+pub mod Counts
+pub mod CountsByNumber

@@ -8,6 +8,9 @@ mod balancer;
 mod boxed;
 mod check;
 mod command;
+mod count;
+mod counts;
+mod counts_by_number;
 mod edit;
 mod event;
 mod expiry;
@@ -17,10 +20,12 @@ mod lacking;
 mod laws;
 mod lifetime;
 mod look;
+mod noted;
 mod plain;
 mod query;
 mod reply;
 mod runs;
+mod tally;
 mod timeout;
 mod upstream;
 
@@ -29,12 +34,17 @@ pub use balancer::Balancer;
 pub use boxed::BoxedCommand;
 pub use check::{Check, CheckSpec};
 pub use command::{Command, StatedAction, StatedRule};
+pub use count::Count;
+pub use counts::Counts;
+pub use counts_by_number::{CacheCounts, CountsByNumber, ServerCounts};
 pub use event::Event;
 pub use laws::{
     balancers_cross_threads, cached_answers_are_kept_replies, equal_snapshots_are_of_equal_states,
     equal_snapshots_have_equal_runs, hits_come_from_replies, marks_follow_results,
     one_run_per_marks, refusals_change_nothing, routes_follow, ticks_end_the_due,
 };
+pub use noted::{Noted, Served};
 pub use plain::Plain;
 pub use runs::run;
+pub use tally::Tally;
 pub use timeout::Timeout;

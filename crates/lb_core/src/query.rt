@@ -7,10 +7,11 @@ ghost use Rattle.lb_wire.specs.Octets.{max_message};
 ghost use Rattle.lb_wire.specs.Query.{Reads, IsQuery, view_of};
 ghost use Rattle.lb_wire.specs.declared.query.QueryView.{QueryView};
 ghost use Rattle.lb_wire.specs.declared.query.QueryFault.{QueryFault};
-ghost use Rattle.lb_core.specs.Plain.{plain_of};
+ghost use Rattle.lb_core.specs.Plain.{plain_of, upstreams_of};
 ghost use Rattle.lb_core.specs.Forward.{failure_of};
 ghost use Rattle.lb_core.specs.Query.{is_transfer as is_transfer_of, takes_memory, takes_room, to_pool, walked_of, Decides, MayLack, QuerySteps, RuleDecides, WalkedSteps};
 ghost use Rattle.lb_core.specs.Answer.{marked};
+ghost use Rattle.lb_core.specs.Noted.{asked_by, no_note, pool_asked, query_noted, walk_noted};
 ghost use Rattle.lb_core.specs.declared.answer.Answer.TheVariants.{Local, NoMemory};
 ghost use Rattle.lb_core.specs.declared.answer.LocalReason.TheVariants as locals;
 ghost use Rattle.lb_chain.specs.declared.walked.Verdict.TheVariants.{Allow};
@@ -20,10 +21,11 @@ use crate::asked::{Asked, Routed};
 use crate::forward::refused;
 use crate::lacking::Lacking;
 use crate::look::answer_by_pool;
+use crate::noted::Noted;
 use crate::upstream::Upstream;
 use lb_chain::{Addrs, Chain, Verdict, Walked, first_to_end_decides, seen_walks};
 use lb_wire::{
-    Octets, PoolId, QueryFault, QueryView, Rcode, RecordType, RuleId, answer_in_place,
+    CacheId, Octets, PoolId, QueryFault, QueryView, Rcode, RecordType, RuleId, answer_in_place,
     formerr_in_place, read_query, spoofed, truncated_in_place,
 };
 use std::alloc::Global;
@@ -36,11 +38,14 @@ pub(crate) fn answer_query(
     upstream: &mut Upstream,
     asked: &Asked,
     bytes: Octets,
+    noted: &mut Noted,
 ) -> Answer
-    requires { chain.old.moment ≤ asked.now.moment }
+    requires noted { noted.old ≡ no_note }
+    requires moment { chain.old.moment ≤ asked.now.moment }
     ensures moment { chain.new.moment ≤ asked.now.moment }
     ensures step { (reading : Result QueryView QueryFault) × Reads bytes reading × QuerySteps (marked result) (plain_of asked.now.moment chain.old upstream.old) asked.now bytes reading result (plain_of asked.now.moment chain.new upstream.new) }
     ensures mark { IsTrue (marked result) → (view : QueryView) × MayLack (plain_of asked.now.moment chain.old upstream.old) asked.now bytes view }
+    ensures noted { (reading : Result QueryView QueryFault) × Reads bytes reading × (noted.new ≡ query_noted (marked result) (plain_of asked.now.moment chain.old upstream.old) asked.now reading) }
 {
     let mut bytes = bytes.into_vec();
     let view = match read_query(bytes.as_slice()) {
@@ -55,7 +60,7 @@ pub(crate) fn answer_query(
     if is_transfer(view.qtype) {
         return refused(bytes, &view, Rcode::Refused, LocalReason::Transfer);
     }
-    answer_by_rules(alloc, chain, upstream, asked, bytes, &view)
+    answer_by_rules(alloc, chain, upstream, asked, bytes, &view, noted)
 }
 
 /// Whether a type asks for a zone transfer, whatever the class (RFC 5936, RFC 1995).
@@ -73,13 +78,16 @@ fn answer_by_rules(
     asked: &Asked,
     bytes: Vec<u8>,
     view: &QueryView,
+    noted: &mut Noted,
 ) -> Answer
     requires view { (m : Message) × Lays bytes.items m × IsQuery m × (view.now ≡ view_of m) }
     requires short { vec_len bytes ≤ max_message }
+    requires noted { noted.old ≡ no_note }
     requires moment { chain.old.moment ≤ asked.now.moment }
     ensures moment { chain.new.moment ≤ asked.now.moment }
     ensures step { WalkedSteps (marked result) (plain_of asked.now.moment chain.old upstream.old) asked.now bytes.items view.now (walked_of (plain_of asked.now.moment chain.old upstream.old) asked.now view.now) result (plain_of asked.now.moment chain.new upstream.new) }
     ensures mark { IsTrue (marked result) → takes_memory (walked_of (plain_of asked.now.moment chain.old upstream.old) asked.now view.now) ≡ true }
+    ensures noted { noted.new ≡ walk_noted (marked result) (upstreams_of (plain_of asked.now.moment chain.old upstream.old)) view.now (walked_of (plain_of asked.now.moment chain.old upstream.old) asked.now view.now) }
 {
     // Laws, which do nothing.
     seen_walks();
@@ -89,9 +97,12 @@ fn answer_by_rules(
     if let Err(error) = chain.reserve(&walked, source, now) {
         return no_memory(Lacking::from(error), bytes, view);
     }
-    match decide(alloc, upstream, asked, bytes, view, &walked) {
+    let mut looked = None;
+    match decide(alloc, upstream, asked, bytes, view, &walked, &mut looked) {
         Ok(answer) => {
             chain.pass(&walked, source, now);
+            noted.rule = walked.rule;
+            noted.cache = looked;
             answer
         }
         Err((lacking, bytes)) => no_memory(lacking, bytes, view),
@@ -110,10 +121,13 @@ fn decide(
     bytes: Vec<u8>,
     view: &QueryView,
     walked: &Walked,
+    looked: &mut Option<CacheId>,
 ) -> Result<Answer, (Lacking, Vec<u8>)>
     requires view { (m : Message) × Lays bytes.items m × IsQuery m × (view.now ≡ view_of m) }
     requires short { vec_len bytes ≤ max_message }
     requires allow { walked.now.rule ≡ None → walked.now.verdict ≡ Allow }
+    requires looked { looked.old ≡ None }
+    ensures looked { IfOk result (λ _. looked.new ≡ asked_by upstream.old view.now walked.now (pool_asked walked.now.rule walked.now.verdict)) }
     ensures decides { IfOk result (λ answer. Decides upstream.old asked.now bytes.items view.now walked.now answer upstream.new) }
     ensures back { IfErr result (λ back. back.1.items ≡ bytes.items) }
     ensures takes { IfErr result (λ _. takes_room walked.now.verdict ≡ true) }
@@ -121,16 +135,16 @@ fn decide(
 {
     let Some(rule) = walked.rule else {
         let routed = to_pool(walked, DEFAULT_POOL);
-        return answer_by_pool(alloc, upstream, asked, bytes, view, routed);
+        return answer_by_pool(alloc, upstream, asked, bytes, view, routed, looked);
     };
     match walked.verdict {
         Verdict::Allow => {
             let routed = to_pool(walked, DEFAULT_POOL);
-            answer_by_pool(alloc, upstream, asked, bytes, view, routed)
+            answer_by_pool(alloc, upstream, asked, bytes, view, routed, looked)
         }
         Verdict::Pool(pool) => {
             let routed = to_pool(walked, pool);
-            answer_by_pool(alloc, upstream, asked, bytes, view, routed)
+            answer_by_pool(alloc, upstream, asked, bytes, view, routed, looked)
         }
         Verdict::Drop => Ok(Answer::Dropped(DropReason::Rule(rule))),
         Verdict::Rcode(rcode) => Ok(refused(bytes, view, rcode, LocalReason::Rule(rule))),

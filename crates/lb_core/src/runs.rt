@@ -1,6 +1,8 @@
 //! Runs over lists of events.
 
-ghost use Rattle.std.specs.Prelude.{◌≡◌, [], IfOk, IfErr, OnErr};
+ghost use Rattle.std.specs.Prelude.{◌≡◌, [], IfOk, IfErr, List, OnErr};
+ghost use Rattle.lb_core.specs.declared.noted.Noted.{Noted as NotedValue};
+ghost use Rattle.lb_core.specs.Counts.{times_in, AreRaised, IsNotedRun};
 ghost use Rattle.lb_core.specs.Provenance.{MeetsHits, MeetsProvenance};
 ghost use Rattle.lb_core.specs.Routes.{routes_of};
 ghost use Rattle.lb_core.specs.Runs.{IsRun};
@@ -9,6 +11,8 @@ use crate::answer::Answer;
 use crate::balancer::Balancer;
 use crate::event::Event;
 use crate::laws::{cached_answers_are_kept_replies, hits_come_from_replies};
+use crate::noted::Noted;
+use crate::tally::Tally;
 use std::alloc::{AllocError, Global};
 
 /// Answers the events in order. Room for the answers is taken first: where it is refused, the events come back and
@@ -35,6 +39,33 @@ pub fn run(
     };
     for event in events {
         answers.push(balancer.step(event)).unwrap();
+    }
+    Ok(answers)
+}
+
+/// The same run, which counts its events and answers: each count is the one from before and the number of those that it is named
+/// for.
+pub fn run_counted(
+    alloc: Global,
+    balancer: &mut Balancer,
+    tally: &mut Tally,
+    events: Vec<Event>,
+) -> Result<Vec<Answer>, (AllocError, Vec<Event>)>
+    ensures run { IfOk result (λ answers. (notes : List NotedValue) × IsNotedRun balancer.old events.items answers.items notes balancer.new) }
+    ensures counts { IfOk result (λ answers. AreRaised (times_in events.items answers.items) tally.old.counts.items tally.new.counts.items) }
+    ensures back { IfErr result (λ e. e.1.items ≡ events.items) }
+    ensures unchanged { OnErr result (balancer.new ≡ balancer.old) }
+    ensures uncounted { OnErr result (tally.new ≡ tally.old) }
+{
+    let mut answers = match Vec::with_capacity(alloc, events.len()) {
+        Ok(answers) => answers,
+        Err(error) => return Err((error, events)),
+    };
+    for event in events {
+        let mut noted = Noted::none();
+        answers
+            .push(balancer.step_counted(event, tally, &mut noted))
+            .unwrap();
     }
     Ok(answers)
 }

@@ -6,6 +6,7 @@ use Rattle.std.proofs.sync.ledger.Book.TheSendSync.{the_send as calls_send}
 use Rattle.std.proofs.sync.ledger.Share.TheSendSync.{the_send as share_send}
 use Rattle.std.specs.declared.sync.ledger.Ledger as Ledger
 use Rattle.lb_core.proofs.answer.Answer.TheSendSync.{the_field_send as answer_send}
+use Rattle.lb_core.proofs.tally.Tally.TheSendSync.{the_field_send as tally_send}
 use Rattle.lb_core.specs.contracts.balancer.Balancer as Balancer
 use Rattle.lb_core.specs.contracts.event.Event as Event
 use Rattle.lb_core.specs.contracts.plain.Plain as Plain
@@ -29,7 +30,7 @@ spare_send event_send = search (sendable, crosses) depth 40 fits 10000
 
 module _ (T : RattleType) (n : Naming.Ghosts T.Denot) (l : Ledger.Ghosts T.Denot) where
   book_send : IsSend Balancer.the_row → IsSend (Event.the_field).row → IsSend (Book.the_row T n l)
-  book_send balancer_send event_send = search (entry_send, spare_send, calls_send, sendable, crosses) depth 40 fits 10000
+  book_send balancer_send event_send = search (entry_send, spare_send, calls_send, tally_send, sendable, crosses) depth 40 fits 10000
 
   pub desk_sync : IsSend Balancer.the_row → IsSend (Event.the_field).row → IsSync Plain.the_row → IsSync (Desk.the_row T n l)
   desk_sync balancer_send event_send plain_sync = search (book_send, sendable, crosses) depth 40 fits 10000

@@ -1,16 +1,19 @@
 -- One call more, at the end of a log.
-use Rattle.std.proofs.Common.{All, ℕ, List, [], ap, rules, arith, refl, subst, sym, ◌++◌, ◌+◌, ◌<◌, ◌∙◌, ◌∷◌, ◌≡◌, ◌≤◌}
-use Rattle.std.proofs.lemmas.List.{map-append}
+use Rattle.std.proofs.Common.{All, ℕ, List, [], length, ◌-◌, ◌^◌, ap, rules, arith, max, min, refl, subst, sym, ◌++◌, ◌+◌, ◌<◌, ◌∙◌, ◌∷◌, ◌≡◌, ◌≤◌}
+use Rattle.std.proofs.lemmas.List.{length-append, map-append}
 use Rattle.std.proofs.lemmas.List.Elements.{All-append}
 use Rattle.lb_core.specs.declared.answer.Answer.{Answer}
 use Rattle.lb_core.specs.declared.event.Event.{Event}
+use Rattle.lb_core.specs.Counts.{AreRaised, count_at, raised, times, times_in}
 use Rattle.lb_core.specs.Plain.{Plain}
 use Rattle.lb_core.specs.Runs.{CachedAnswersAreKeptReplies, HitsComeFromReplies, IsRun}
 use Rattle.lb_core.specs.Snapshot.{IsShown, Snapshot, snapshot_of}
 use Rattle.lb_core.specs.Step.{Answers}
 use Rattle.lb_desk.specs.declared.entry.Entry.{Entry}
 use Rattle.lb_desk.specs.declared.entry.SeatId.{SeatId}
-use Rattle.lb_desk.specs.Book.{Keeps}
+use Rattle.lb_desk.specs.declared.fault.CloseFault.{CloseFault}
+use Rattle.lb_desk.specs.declared.fault.CloseFault.TheVariants.{Differs, MissingSeat}
+use Rattle.lb_desk.specs.Book.{Counted, Keeps}
 use Rattle.lb_desk.specs.Entry.{Tells, TellsCaches, TellsHits, answers_of, entry, events_of}
 
 -- one event more
@@ -19,6 +22,43 @@ run_grown old mid new [] [] e a is step = (new, subst (λ m. Answers m e a new) 
 run_grown old mid new (x ∷ es) (y ∷ answers) e a run step = (run.0, run.1, run_grown run.0 mid new es answers e a run.2 step)
 run_grown old mid new [] (y ∷ answers) e a none step = absurd none
 run_grown old mid new (x ∷ es) [] e a none step = absurd none
+
+most_twice : (n a b m : ℕ) → max (max n (min (n + a) m)) (min (max n (min (n + a) m) + b) m) ≡ max n (min (n + (a + b)) m)
+most_twice n a b m = omega arith
+
+four : (a b c : ℕ) → a + (b + c) ≡ a + b + c
+four a b c = omega arith
+
+-- how often a count is raised by one event more
+times_grown : (old new : Plain) (es : List Event) (answers : List Answer) (e : Event) (a : Answer) (c : ℕ) → IsRun old es answers new →
+    times_in (es ++ e ∷ []) (answers ++ a ∷ []) c ≡ times_in es answers c + times e a c
+times_grown old new [] [] e a c run = omega arith
+times_grown old new (x ∷ es) (y ∷ answers) e a c run =
+    ap (λ (n : ℕ). times x y c + n) (times_grown run.0 new es answers e a c run.2) ∙ four (times x y c) (times_in es answers c) (times e a c)
+times_grown old new [] (y ∷ answers) e a c none = absurd none
+times_grown old new (x ∷ es) [] e a c none = absurd none
+
+-- a call more is counted
+pub counted_grown : (opening : Snapshot) (count : ℕ) (old new : Plain) (counts fuller : List ℕ) (event : Event) (answer : Answer) → Answers old event answer new → AreRaised (times event answer) counts fuller →
+    Counted opening count old counts → Counted opening (count + 1) new fuller
+counted_grown opening count old new counts fuller event answer step one so_far = record {
+  start = so_far.start;
+  shown = so_far.shown;
+  opens = so_far.opens;
+  events = so_far.events ++ event ∷ [];
+  answers = so_far.answers ++ answer ∷ [];
+  many = length-append so_far.events (event ∷ []) ∙ ap (λ (n : ℕ). n + 1) so_far.many;
+  run = run_grown so_far.start old new so_far.events so_far.answers event answer so_far.run step;
+  counted = λ c.
+      one c ∙ ap (λ (n : ℕ). raised (times event answer c) n) (so_far.counted c)
+      ∙ most_twice 0 (times_in so_far.events so_far.answers c) (times event answer c) (2 ^ 64 - 1)
+      ∙ ap (λ (n : ℕ). raised n 0) (sym (times_grown so_far.start old so_far.events so_far.answers event answer c so_far.run));
+}
+
+-- no call is counted
+pub counted_new : (opening : Snapshot) (balancer : Plain) (counts : List ℕ) → IsShown balancer → opening ≡ snapshot_of balancer → ((c : ℕ) → count_at c counts ≡ 0) → ∥ Counted opening 0 balancer counts ∥₁
+counted_new opening balancer counts shown opens none =
+    ∣ record { start = balancer; shown = shown; opens = sym opens; events = []; answers = []; many = refl; run = refl; counted = λ c. none c } ∣₁
 
 -- a log with one entry more tells of the run with one event more
 tells_grown : (opening : Snapshot) (log : List Entry) (mid new : Plain) (seat : SeatId) (event : Event) (answer : Answer) → Tells opening log mid → Answers mid event answer new
@@ -83,3 +123,11 @@ hits_told law opening limit count log balancer keeps =
       opens = tells.opens;
       hits = law tells.start keeps.end (events_of log) (answers_of log) tells.run;
     }
+
+-- which fault a closing has
+abbrev is_differs : CloseFault → Type 0
+is_differs Differs = Unit {0}
+is_differs MissingSeat = ⊥
+
+pub differs : Differs ≡ MissingSeat → ⊥
+differs is = subst is_differs is tt

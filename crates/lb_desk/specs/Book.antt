@@ -1,15 +1,24 @@
 -- What lies under the lock of a desk.
-use Rattle.std.specs.Prelude.{◌≡◌, ℕ, ◌-◌, ◌^◌, ◌≤◌, ◌<◌, List, Option, Some}
+use Rattle.std.specs.Prelude.{◌≡◌, ℕ, ◌-◌, ◌^◌, ◌≤◌, ◌<◌, false, List, length, Option, Some}
+use Rattle.lb_core.specs.declared.answer.Answer.{Answer}
 use Rattle.lb_core.specs.declared.event.Event.{Event}
+use Rattle.lb_core.specs.declared.noted.Noted.{Noted}
+use Rattle.lb_core.specs.declared.tally.Tally.{Tally}
+use Rattle.lb_core.specs.Counts.{count_at, raised, times, times_in, AreRaised}
+use Rattle.lb_core.specs.CountsByNumber.{AreCounted}
+use Rattle.lb_core.specs.Noted.{IsNoted}
 use Rattle.lb_core.specs.Plain.{Plain}
-use Rattle.lb_core.specs.Snapshot.{Snapshot}
+use Rattle.lb_core.specs.Runs.{IsRun}
+use Rattle.lb_core.specs.Snapshot.{IsShown, Snapshot, snapshot_of}
 use Rattle.lb_desk.specs.Entry.{Tells}
 use Rattle.lb_desk.specs.declared.book.ticket.Ticket.{Ticket}
 use Rattle.lb_desk.specs.declared.entry.Entry.{Entry}
 
--- the balancer; how many calls it has answered; how many the log has at most; the log; and the event for whose entry room is taken
+-- the balancer; what was counted of it; how many calls it has answered; how many the log has at most; the log; and the event for
+-- whose entry room is taken
 pub record Booked : Type 0 where
   pub balancer : Plain
+  pub tally : Tally
   pub count : ℕ
   pub limit : ℕ
   pub log : List Entry
@@ -20,6 +29,23 @@ pub record Keeps (opening : Snapshot) (limit count : ℕ) (log : List Entry) (ba
   pub end : Plain
   pub tells : Tells opening log end
   pub current : count ≤ limit → balancer ≡ end
+
+-- the counts of a balancer that has answered so many calls: those of a run of so many events from a snapshot to it, also past the
+-- log's limit; at 2^64-1 a count stays
+pub record Counted (opening : Snapshot) (count : ℕ) (balancer : Plain) (counts : List ℕ) : Type 0 where
+  pub start : Plain
+  pub shown : IsShown start
+  pub opens : snapshot_of start ≡ opening
+  pub events : List Event
+  pub answers : List Answer
+  pub many : length events ≡ count
+  pub run : IsRun start events answers balancer
+  pub counted : (place : ℕ) → count_at place counts ≡ raised (times_in events answers place) 0
+
+-- what a call counts: its event and its answer; and, unless memory for a count was refused, what its step notes, by number
+pub record Counts (balancer : Plain) (event : Event) (answer : Answer) (old new : Tally) : Type 0 where
+  pub raised : AreRaised (times event answer) old.counts.items new.counts.items
+  pub numbers : (noted : Noted) × IsNoted balancer event answer noted × (new.by_number.lacked ≡ false → AreCounted answer noted old.by_number new.by_number)
 
 -- a book is ready for a call of this event: it can be counted, and where the log takes one more, room for its entry is there
 abbrev pub IsReadyFor : Event → Booked → Type 0

@@ -1,4 +1,6 @@
 pub use Rattle.lb_core.specs.Answer
+pub use Rattle.lb_core.specs.Counts
+pub use Rattle.lb_core.specs.Noted
 pub use Rattle.lb_core.specs.Plain
 pub use Rattle.lb_core.specs.Provenance
 pub use Rattle.lb_core.specs.Reading
@@ -10,3 +12,4 @@ pub mod Fault
 pub mod Entry
 pub mod Seat
 pub mod Book
+pub mod Desk

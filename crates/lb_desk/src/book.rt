@@ -1,10 +1,12 @@
 //! What lies under the lock of a desk: the balancer, and a log of which each moment shows that it is true.
 
-ghost use Rattle.std.specs.Prelude.{All, IfErr, IfOk, IsErrAnd, IsOk, IsSome, IsTrue, None, OnErr, OnOk, Some, min, vec_capacity, vec_len, ◌++◌, ◌+◌, ◌-◌, ◌<◌, ◌^◌, ◌↔◌, ◌∷◌, ◌≡◌, ◌≢◌, ◌≤◌, []};
+ghost use Rattle.std.specs.Prelude.{All, IfErr, IfOk, IsErrAnd, IsOk, IsSome, IsTrue, None, OnErr, OnOk, Some, min, vec_capacity, vec_len, ◌++◌, ◌+◌, ◌-◌, ◌<◌, ◌^◌, ◌↔◌, ◌∷◌, ◌≡◌, ◌≢◌, ◌≤◌, ℕ, []};
 ghost use Rattle.std.specs.Option.{ForSome};
+ghost use Rattle.lb_core.specs.Counts.{count_at};
+ghost use Rattle.lb_core.specs.CountsByNumber.{AreNone};
 ghost use Rattle.lb_core.specs.Snapshot.{IsShown, snapshot_of};
 ghost use Rattle.lb_core.specs.Step.{Answers};
-ghost use Rattle.lb_desk.specs.Book.{Booked, IsReadyFor, Keeps, ticket_of};
+ghost use Rattle.lb_desk.specs.Book.{Booked, Counted, Counts, IsReadyFor, Keeps, ticket_of};
 ghost use Rattle.lb_desk.specs.Entry.{entry};
 ghost use Rattle.lb_desk.specs.declared.fault.DeskFault.TheVariants.{CountFull, NoMemory};
 
@@ -15,7 +17,7 @@ use crate::entry::{Entry, SeatId};
 use crate::fault::DeskFault;
 use crate::naming::Naming;
 use crate::spare::{Room, Spare};
-use lb_core::{Answer, Balancer, Event};
+use lb_core::{Answer, Balancer, Event, Noted, Tally};
 use std::alloc::{AllocError, Global};
 use std::marker::Model;
 use std::sync::ledger;
@@ -23,11 +25,12 @@ use std::sync::ledger::Share;
 pub use ticket::{Answered, Receipts, Ticket};
 
 /// What lies under the lock of a desk: its balancer, and the log of the first calls. A contract sees how many calls were answered and
-/// how many the log has at most, the log, and for which event room is taken.
+/// how many the log has at most, what was counted, the log, and for which event room is taken.
 #[derive(Drop)]
 pub struct Book<J: Naming> {
     alloc: Global,
     balancer: Balancer,
+    tally: Tally,
     limit: u64,
     count: u64,
     log: Vec<Entry>,
@@ -39,6 +42,7 @@ pub struct Book<J: Naming> {
     ghost seated: { All (λ e. e.seat.0 < J.seats) log.items },
     ghost roomy: { ForSome spare (λ _. vec_len log < vec_capacity log) },
     ghost told: { ∥ Keeps J.opening limit count log.items balancer ∥₁ },
+    ghost tallied: { ∥ Counted J.opening count balancer tally.counts.items ∥₁ },
 }
 
 impl<J: Naming> Model for Book<J> {
@@ -52,7 +56,7 @@ impl<J: Naming> Model for Book<J> {
 
     ghost coded = { Prim.hlevel (codes, contract.the_row.coded) };
 
-    ghost view = { λ b. record { balancer = b.balancer; count = b.count; limit = b.limit; log = b.log.items; ready = option_map (λ s. s.event) b.spare } };
+    ghost view = { λ b. record { balancer = b.balancer; tally = b.tally; count = b.count; limit = b.limit; log = b.log.items; ready = option_map (λ s. s.event) b.spare } };
 }
 
 impl<J: Naming> Book<J> {
@@ -67,14 +71,19 @@ impl<J: Naming> Book<J> {
         requires limit { J.limit ≡ limit }
         requires opening { J.opening ≡ snapshot_of balancer }
         requires shown { IsShown balancer }
-        ensures { result ≡ record { balancer = balancer; count = 0; limit = limit; log = []; ready = None } }
+        ensures book { result ≡ record { balancer = balancer; tally = result.tally; count = 0; limit = limit; log = []; ready = None } }
+        ensures counts { (place : ℕ) → count_at place result.tally.counts.items ≡ 0 }
+        ensures none { AreNone result.tally.by_number }
     {
+        let tally = Tally::new(alloc);
+        let log = Vec::new(alloc);
         Book {
             alloc,
             balancer,
+            tally,
             limit,
             count: 0,
-            log: Vec::new(alloc),
+            log,
             spare: None,
             calls,
         }
@@ -98,6 +107,7 @@ impl<J: Naming> Book<J> {
         requires part { 0 < share.old.parts }
         requires seat { seat.0 < J.seats }
         ensures step { IfOk result (λ r. Answers self.old.balancer event r.answer self.new.balancer) }
+        ensures counts { IfOk result (λ r. Counts self.old.balancer event r.answer self.old.tally self.new.tally) }
         ensures logged { IfOk result (λ r. self.old.count < self.old.limit → (r.ticket ≡ Some (ticket_of self.old.count event)) × (self.new.log ≡ self.old.log ++ entry seat event r.answer ∷ []) × (self.new.ready ≡ None)) }
         ensures unlogged { IfOk result (λ r. self.old.limit ≤ self.old.count → (r.ticket ≡ None) × (self.new.log ≡ self.old.log) × (self.new.ready ≡ self.old.ready)) }
         ensures count { OnOk result (self.new.count ≡ self.old.count + 1) }
@@ -152,6 +162,7 @@ impl<J: Naming> Book<J> {
         requires seat { seat.0 < J.seats }
         requires ready { IsReadyFor event self.old }
         ensures step { Answers self.old.balancer event result.0 self.new.balancer }
+        ensures counts { Counts self.old.balancer event result.0 self.old.tally self.new.tally }
         ensures place { result.1 ≡ self.old.count }
         ensures count { self.new.count ≡ self.old.count + 1 }
         ensures log { self.old.count < self.old.limit → self.new.log ≡ self.old.log ++ entry seat event result.0 ∷ [] }
@@ -196,6 +207,7 @@ impl<J: Naming> Book<J> {
         requires logs { self.old.count < self.old.limit }
         requires ready { self.old.ready ≡ Some event }
         ensures step { Answers self.old.balancer event result self.new.balancer }
+        ensures counts { Counts self.old.balancer event result self.old.tally self.new.tally }
         ensures count { self.new.count ≡ self.old.count + 1 }
         ensures log { self.new.log ≡ self.old.log ++ entry seat event result ∷ [] }
         ensures spent { self.new.ready ≡ None }
@@ -206,6 +218,7 @@ impl<J: Naming> Book<J> {
         let Book {
             alloc,
             balancer,
+            tally,
             count,
             log,
             spare,
@@ -215,7 +228,8 @@ impl<J: Naming> Book<J> {
         let Some(Spare { event: copy, room }) = spare.take() else {
             unreachable!()
         };
-        let answer = balancer.step(event);
+        let mut noted = Noted::none();
+        let answer = balancer.step_counted(event, tally, &mut noted);
         count_call(count, calls, share);
         log.push_reserved(Entry {
             seat,
@@ -232,6 +246,7 @@ impl<J: Naming> Book<J> {
         requires past { self.old.limit ≤ self.old.count }
         requires room { self.old.count < 2 ^ 64 - 1 }
         ensures step { Answers self.old.balancer event result self.new.balancer }
+        ensures counts { Counts self.old.balancer event result self.old.tally self.new.tally }
         ensures count { self.new.count ≡ self.old.count + 1 }
         ensures log { self.new.log ≡ self.old.log }
         ensures ready { self.new.ready ≡ self.old.ready }
@@ -241,12 +256,14 @@ impl<J: Naming> Book<J> {
     {
         let Book {
             balancer,
+            tally,
             count,
             calls,
             ..
         } = self;
         count_call(count, calls, share);
-        balancer.step(event)
+        let mut noted = Noted::none();
+        balancer.step_counted(event, tally, &mut noted)
     }
 }
 
@@ -256,6 +273,28 @@ impl<J: Naming> Book<J> {
         ensures { result.now ≡ self.now.log }
     {
         self.log.as_slice()
+    }
+
+    /// The balancer.
+    pub(crate) fn balancer(&self) -> &Balancer
+        ensures { result.now ≡ self.now.balancer }
+    {
+        &self.balancer
+    }
+
+    /// A law: the counts are those of a run from the opening to the balancer, of as many events as there were calls. It does nothing.
+    pub fn law_of_counts(&self)
+        ensures { ∥ Counted J.opening self.now.count self.now.balancer self.now.tally.counts.items ∥₁ }
+    {
+        // Read, so that what the book keeps true is at hand.
+        let _ = self.log.len();
+    }
+
+    /// What was counted of the calls.
+    pub(crate) fn tally(&self) -> &Tally
+        ensures { result.now ≡ self.now.tally }
+    {
+        &self.tally
     }
 
     /// Whether the log has all that its limit allows.

@@ -3,8 +3,9 @@
 ghost use Rattle.std.specs.Prelude.{All, IfErr, IfOk, IfSome, IsErrAnd, IsSome, IsTrue, OnErr, OnOk, length, map, min, sum_by, vec_len, ◌++◌, ◌+◌, ◌-◌, ◌<◌, ◌==◌, ◌^◌, ◌⊎◌, ◌∷◌, ◌≡◌, ◌↔◌, ◌≤◌, ℕ, []};
 ghost use Rattle.std.specs.List.{list_any, range_with_len};
 ghost use Rattle.lb_core.specs.Snapshot.{snapshot_of};
-ghost use Rattle.lb_desk.specs.Book.{Keeps};
+ghost use Rattle.lb_desk.specs.Book.{Booked, Counted, Keeps};
 ghost use Rattle.lb_desk.specs.Entry.{TellsCaches, TellsHits, receipt, receipts_of};
+ghost use Rattle.lb_desk.specs.Desk.{OnceReturnsAtBoth};
 ghost use Rattle.lb_desk.specs.Seat.{AreAll};
 ghost use Rattle.lb_desk.specs.declared.fault.CloseFault.TheVariants.{MissingSeat};
 ghost use Rattle.lb_desk.specs.declared.fault.DeskFault.TheVariants.{CountFull};
@@ -17,7 +18,7 @@ use crate::fault::{CloseFault, DeskFault};
 use crate::naming::{Naming, Parted};
 use crate::seat::Seat;
 use lb_core::{
-    Answer, Balancer, Event, Plain, cached_answers_are_kept_replies, hits_come_from_replies,
+    Answer, Balancer, Event, Plain, Tally, cached_answers_are_kept_replies, hits_come_from_replies,
 };
 use std::alloc::{AllocError, Global};
 use std::sync::atomic::{AtomicBool, Ordering};
@@ -167,6 +168,20 @@ impl<J: Naming> Desk<J> {
     }
 }
 
+impl<J: Naming> Desk<J> {
+    /// What a reader makes of the balancer and of what was counted, under the lock. It is no call and needs no seat. The reader has both
+    /// by reference, so that nothing of them changes.
+    pub fn read<R: Wait, T, F: FnOnce(&Balancer, &Tally) -> T>(&self, rt: &R, reader: F) -> T
+        requires { F.IsAlwaysCallable reader }
+        ensures { (book : Booked) × OnceReturnsAtBoth F.FnOnce reader book.balancer book.tally result × ∥ Counted J.opening book.count book.balancer book.tally.counts.items ∥₁ }
+    {
+        let guard = self.book.lock(rt);
+        let book = &*guard;
+        book.law_of_counts();
+        reader(book.balancer(), book.tally())
+    }
+}
+
 /// Takes room for a receipt before the lock, unless the log is said to be full.
 #[inline(always)]
 fn prepared(receipts: &mut Receipts, alloc: Global, is_full: bool) -> Result<(), AllocError>
@@ -209,6 +224,7 @@ impl<J: Naming> Desk<J> {
         few_receipts(seats.as_slice());
         let book = book.into_inner();
         if !all_agree(book.log(), seats.as_slice()) {
+            drop(book);
             return Err(CloseFault::Differs);
         }
         Ok(book.closed(gathered(seats)))

@@ -53,6 +53,20 @@ impl Health {
         }
     }
 
+    /// So many failures in a row take it down.
+    pub fn fall(&self) -> NonZeroU8
+        ensures { non_zero_u8_get result ≡ self.now.fall }
+    {
+        self.fall
+    }
+
+    /// So many successes in a row bring it up.
+    pub fn rise(&self) -> NonZeroU8
+        ensures { non_zero_u8_get result ≡ self.now.rise }
+    {
+        self.rise
+    }
+
     /// Takes the result of a probe, and gives the change that it makes.
     pub fn result(&mut self, ok: bool) -> Changed
         ensures { (self.new, result) ≡ result_of self.old ok }

@@ -23,6 +23,16 @@ impl<'a, R: Wait, J: Naming> Caller<'a, R, J> {
         Caller { rt, desk, seat }
     }
 
+    /// What it waits and tells the time by.
+    pub fn runtime(&self) -> &'a R {
+        self.rt
+    }
+
+    /// The desk that it calls.
+    pub fn desk(&self) -> &'a Desk<J> {
+        self.desk
+    }
+
     /// The seat, when the loop has ended.
     pub fn into_seat(self) -> Seat<J>
         ensures { result ≡ self.entry.seat }

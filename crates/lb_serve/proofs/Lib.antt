@@ -1,3 +1,4 @@
 mod Crosses
 mod Outputs
 mod Rosters
+mod Heard

@@ -1,5 +1,5 @@
 -- What the console says to an operator's lines.
-use Rattle.std.specs.Prelude.{◌≡◌, ◌⊎◌, ◌==◌, if◌then◌else◌, ℕ, ◌+◌, ◌++◌, List, [], ◌∷◌, length, codes, string_bytes, Option, Some, Result, Ok, Err}
+use Rattle.std.specs.Prelude.{◌≡◌, ◌⊎◌, ◌==◌, if◌then◌else◌, ℕ, ◌+◌, ◌++◌, List, [], ◌∷◌, length, codes, string_bytes, Option, None, Some, Result, Ok, Err, IsErr}
 use Rattle.std.specs.Fmt.{decimal}
 use Rattle.std.specs.Int.NonZero.{non_zero_u16_get}
 use Rattle.lb_command.specs.Answers.{line_of}
@@ -20,8 +20,11 @@ use Rattle.lb_lines.specs.declared.endpoint.Endpoint.{Endpoint}
 use Rattle.lb_lines.specs.Roster.{Rostered, most_servers, others, place_in}
 use Rattle.lb_lines.specs.declared.roster.Place.{Place}
 use Rattle.lb_wire.specs.declared.ids.ServerId.{ServerId}
+use Rattle.lb_words.specs.Word.{console_word}
+use Rattle.lb_words.specs.declared.word.Word.{Word}
+use Rattle.lb_words.specs.declared.word.Word.TheVariants as words
 use Rattle.lb_serve.specs.declared.operator.Said.{Said}
-use Rattle.lb_serve.specs.declared.operator.Said.TheVariants.{Line, Stop}
+use Rattle.lb_serve.specs.declared.operator.Said.TheVariants.{Line, Lines, Quit, Stop}
 
 -- where a server is, as the loops have to know it
 abbrev pub place_of : ServerPlace → Place
@@ -45,7 +48,7 @@ desk_text calling.NoMemory = codes "desk 2 NoMemory"
 -- what was said is this line
 abbrev pub IsLine : Said → List ℕ → Type 0
 IsLine (Line text) line = string_bytes text ≡ line
-IsLine Stop line = ⊥
+IsLine _ line = ⊥
 
 -- the number of a handler's answered calls, its pairs, and the servers
 pub record Told : Type 0 where
@@ -87,15 +90,27 @@ pub record Carries (command : Command) (old new : Told) : Type 0 where
 abbrev pub Took : Command → Said → Told → Told → Type 0
 Took command said old new = Answers command said old new ⊎ (Refuses said old new ⊎ Wants said old new)
 
--- what came of a line by what it is read as
-abbrev pub BySaid : Result Command CommandFault → Said → Told → Told → Type 0
-BySaid (Ok command) said old new = Took command said old new ⊎ Wants said old new
-BySaid (Err fault) said old new = (IsLine said (fault_text fault) × (new ≡ old)) ⊎ Wants said old new
+-- what is said to a line that is no command: it is answered as a word of the console, if it begins with one, or else by its fault;
+-- or it is told a want of memory
+abbrev pub IsHeard : List ℕ → CommandFault → Said → Type 0
+IsHeard line fault (Line text) =
+    ((console_word line ≡ None) × IsLine (Line text) (fault_text fault)) ⊎ ((own : CommandFault) × (own.kind ≡ kinds.NoMemory) × IsLine (Line text) (fault_text own))
+IsHeard line fault (Lines text) = (fault.kind ≡ kinds.NoMemory → ⊥) × (word : Word) × (console_word line ≡ Some word)
+IsHeard line fault Quit = (fault.kind ≡ kinds.NoMemory → ⊥) × (console_word line ≡ Some words.Quit)
+IsHeard line fault Stop = ⊥
 
--- what came of a line: it ends serving, or is answered by what it is read as
+-- what came of a line by what it is read as
+abbrev pub BySaid : List ℕ → Result Command CommandFault → Said → Told → Told → Type 0
+BySaid line (Ok command) said old new = Took command said old new ⊎ Wants said old new
+BySaid line (Err fault) said old new = ((console_word line ≡ None) × IsLine said (fault_text fault) × (new ≡ old)) ⊎ Wants said old new
+
+-- what came of a line: it ends serving, or is answered by what it is read as; a word of the console is no command, and nothing is
+-- done for it
 abbrev pub Says : List ℕ → Said → Told → Told → Type 0
 Says line Stop old new = (line ≡ codes "stop") × (new ≡ old)
-Says line (Line text) old new = BySaid (command_of line) (Line text) old new
+Says line (Lines text) old new = IsErr (command_of line) × ((word : Word) × (console_word line ≡ Some word)) × (new ≡ old)
+Says line Quit old new = IsErr (command_of line) × (console_word line ≡ Some words.Quit) × (new ≡ old)
+Says line (Line text) old new = BySaid line (command_of line) (Line text) old new
 
 -- nothing was done, or a command was carried out
 abbrev pub MayCarry : Command → Told → Told → Type 0

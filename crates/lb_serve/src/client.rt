@@ -1,6 +1,7 @@
 //! A client of the console: lines in, lines out.
 
 use crate::fault::Fault;
+use crate::hears::Hears;
 use crate::opening::Opening;
 use crate::operator::{Operator, Said};
 use crate::typed::{Typed, Whole};
@@ -17,6 +18,12 @@ const CHUNK: usize = 4_096;
 
 /// What the answer to a line begins with that does not read.
 const FAULT: &str = "fault ";
+
+/// What the answer to `show` begins with.
+const SHOWN: &str = "edited rules ";
+
+/// How many bytes of a command a sentence has.
+const LINE_SHOWN: usize = 300;
 
 /// What came of a step with a client.
 #[derive(Debug, Drop)]
@@ -39,6 +46,7 @@ pub(crate) enum Progress {
 /// were answered and written.
 #[derive(Drop)]
 pub(crate) struct Client {
+    alloc: Global,
     stream: TcpStream,
     chunk: Vec<u8>,
     /// The bytes of the chunk that are not looked at yet.
@@ -52,12 +60,15 @@ pub(crate) struct Client {
     written: usize,
     /// Whether it is closed once the answer is written.
     is_last: bool,
+    /// The last command that was carried out or refused, and its answer.
+    edit: Option<String>,
 }
 
 impl Client {
     /// One that has said nothing. The one error is want of memory.
     pub(crate) fn new(alloc: Global, stream: TcpStream) -> Result<Client, AllocError> {
         Ok(Client {
+            alloc,
             stream,
             chunk: Vec::from_elem(alloc, 0u8, CHUNK)?,
             from: 0,
@@ -67,7 +78,13 @@ impl Client {
             answer: Vec::new(alloc),
             written: 0,
             is_last: false,
+            edit: None,
         })
+    }
+
+    /// The last command that was carried out or refused, and its answer, once.
+    pub(crate) fn take_edit(&mut self) -> Option<String> {
+        self.edit.take()
     }
 
     /// The stream, for a last word.
@@ -77,7 +94,7 @@ impl Client {
     }
 
     /// The next thing that can be done: to write, to answer a line, or to read.
-    pub(crate) fn step<R: Wait + Clock, T: Taker, O: Outside>(
+    pub(crate) fn step<R: Wait + Clock, T: Taker + Hears, O: Outside>(
         &mut self,
         rt: &R,
         operator: &mut Operator<T, O>,
@@ -122,7 +139,7 @@ impl Client {
     }
 
     /// Looks at what was read, up to the end of a line. Where memory is wanting for it, the client is to be closed.
-    fn look<R: Wait + Clock, T: Taker, O: Outside>(
+    fn look<R: Wait + Clock, T: Taker + Hears, O: Outside>(
         &mut self,
         rt: &R,
         operator: &mut Operator<T, O>,
@@ -150,7 +167,7 @@ impl Client {
 
     /// Answers the line that has ended. After a first one that is a request of HTTP the client is closed, and
     /// no further line of it is carried out.
-    fn end_line<R: Wait + Clock, T: Taker, O: Outside>(
+    fn end_line<R: Wait + Clock, T: Taker + Hears, O: Outside>(
         &mut self,
         rt: &R,
         operator: &mut Operator<T, O>,
@@ -159,20 +176,28 @@ impl Client {
             self.is_last = opening.is_request();
         }
         let said = match self.typed.whole() {
-            Whole::Text(text) => operator.answer(rt, text),
+            Whole::Text(text) => {
+                let said = operator.answer(rt, text);
+                match edit_of(self.alloc, text, &said) {
+                    Ok(edit) => self.edit = edit,
+                    Err(refused) => self.edit = unsaid(refused),
+                }
+                said
+            }
             Whole::TooLong => operator.too_long(),
             Whole::NotText => return Ok(Progress::Ended),
         };
         self.typed.clear();
         match said {
-            Ok(Said::Line(line)) => Ok(self.say(line)),
+            Ok(Said::Line(text) | Said::Lines(text)) => Ok(self.say(text)),
+            Ok(Said::Quit) => Ok(Progress::Ended),
             Ok(Said::Stop) => Ok(Progress::Stop),
             Err(Fault::NoMemory) => Ok(Progress::Ended),
             Err(fault) => Err(fault),
         }
     }
 
-    /// Has a line written, in one piece with its line feed. If memory is wanting for that, the client is to
+    /// Has a line, or several, written in one piece with the last line feed. If memory is wanting for that, the client is to
     /// be closed.
     fn say(&mut self, line: String) -> Progress {
         let is_fault = line.starts_with(FAULT);
@@ -188,6 +213,27 @@ impl Client {
             Progress::Answered
         }
     }
+}
+
+/// The command in a line that was carried out or refused, and its answer. The one error is want of memory.
+fn edit_of(
+    alloc: Global,
+    line: &str,
+    said: &Result<Said, Fault>,
+) -> Result<Option<String>, AllocError> {
+    let Ok(Said::Line(answer)) = said else {
+        return Ok(None);
+    };
+    if answer.starts_with(FAULT) || answer.starts_with(SHOWN) {
+        return Ok(None);
+    }
+    let shown = line.get(..LINE_SHOWN.min(line.len())).unwrap_or("..");
+    Ok(Some(format!(in alloc; "console: {shown}: {answer}")?))
+}
+
+/// No sentence, as memory for it was refused.
+fn unsaid(_refused: AllocError) -> Option<String> {
+    None
 }
 
 /// What an error of the stream means: there is nothing for now, or the client has ended.

@@ -3,6 +3,8 @@
 use crate::client::{Client, Progress};
 use crate::fault::Fault;
 use crate::halt::Halt;
+use crate::hears::Hears;
+use crate::notices::Notices;
 use crate::operator::Operator;
 use lb_loops::{Outside, Taker};
 use mio::event::Event;
@@ -38,7 +40,7 @@ const AGAIN: u64 = 100;
 
 /// The console's thread: its listeners, the client that is served, and what answers its lines.
 #[derive(Drop)]
-pub(crate) struct Console<'a, R: Wait + Clock, T: Taker, O: Outside> {
+pub(crate) struct Console<'a, R: Wait + Clock, T: Taker + Hears, O: Outside> {
     rt: &'a R,
     alloc: Global,
     poll: Poll,
@@ -56,12 +58,13 @@ pub(crate) struct Console<'a, R: Wait + Clock, T: Taker, O: Outside> {
     /// Whether another client may wait.
     has_others: bool,
     operator: Operator<T, O>,
+    notices: Notices,
     halt: Halt,
     /// What ended it but a client's word or the loops.
     fault: Option<Fault>,
 }
 
-impl<'a, R: Wait + Clock, T: Taker, O: Outside> Console<'a, R, T, O> {
+impl<'a, R: Wait + Clock, T: Taker + Hears, O: Outside> Console<'a, R, T, O> {
     /// One that listens with these. The errors are the system's, and want of memory.
     pub(crate) fn made<N: Net>(
         rt: &'a R,
@@ -88,6 +91,7 @@ impl<'a, R: Wait + Clock, T: Taker, O: Outside> Console<'a, R, T, O> {
             typed: None,
             has_others: true,
             operator,
+            notices: Notices::new(alloc),
             halt,
             fault: None,
         })
@@ -129,6 +133,7 @@ impl<'a, R: Wait + Clock, T: Taker, O: Outside> Console<'a, R, T, O> {
             if self.halt.is_over() {
                 return Ok(());
             }
+            self.notices.look(rt, self.operator.taker())?;
             self.serve_on()?;
         }
         unreachable!()
@@ -141,7 +146,12 @@ impl<'a, R: Wait + Clock, T: Taker, O: Outside> Console<'a, R, T, O> {
         };
         match client.step(self.rt, &mut self.operator)? {
             Progress::Went => Ok(()),
-            Progress::Answered => self.note_answer(),
+            Progress::Answered => {
+                if let Some(words) = client.take_edit() {
+                    self.notices.say(words.as_str());
+                }
+                self.note_answer()
+            }
             Progress::Faulted => self.look_round(),
             Progress::Blocked => self.wait_for_client(),
             Progress::Ended => {
@@ -253,9 +263,14 @@ impl<'a, R: Wait + Clock, T: Taker, O: Outside> Console<'a, R, T, O> {
         self.spare = self.poll.registry().try_clone().ok();
     }
 
-    /// Waits until something comes, or for so long.
+    /// Waits until something comes, or for so long, or until it is time to look what changed.
     fn wait(&mut self, at_most: Option<Duration>) -> Result<(), Fault> {
-        match self.poll.poll(&mut self.events, at_most) {
+        let look = self.notices.left(self.rt)?;
+        let at_most = match at_most {
+            Some(at_most) => at_most.min(look),
+            None => look,
+        };
+        match self.poll.poll(&mut self.events, Some(at_most)) {
             Err(error) if error.kind() != ErrorKind::Interrupted => return Err(Fault::System(
                 error,
             )),

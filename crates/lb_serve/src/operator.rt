@@ -5,9 +5,10 @@ ghost use Rattle.lb_command.specs.Reading.{max_line};
 ghost use Rattle.lb_command.specs.declared.fault.CommandFault.{CommandFault};
 ghost use Rattle.lb_command.specs.declared.fault.FaultKind.TheVariants as kinds;
 ghost use Rattle.lb_serve.specs.Operator as spec;
-ghost use Rattle.lb_serve.specs.Operator.{IsLine, IsRosterOf, Leaves, MayCarry, Puts, Says, Took, desk_text, fault_text};
+ghost use Rattle.lb_serve.specs.Operator.{IsHeard, IsLine, IsRosterOf, Leaves, MayCarry, Puts, Says, Took, desk_text, fault_text};
 
 use crate::fault::Fault;
+use crate::hears::Hears;
 use lb_command::{CommandFault, FaultKind, answer_line, read_command};
 use lb_core::{Answer, BoxedCommand, Command, Event, Note};
 use lb_desk::DeskFault;
@@ -15,6 +16,7 @@ use lb_loops::{Endpoint, Outside, Place, Roster, RosterFull, Taker};
 use lb_program::{Expected, ServerList, ServerPlace};
 use lb_servers::Mode;
 use lb_wire::ServerId;
+use lb_words::{Heard, Words};
 use std::alloc::{AllocError, Global};
 use std::sync::{Arc, Mutex, Wait};
 use std::thread::sleep;
@@ -29,6 +31,10 @@ const AHEAD: u64 = 10;
 pub(crate) enum Said {
     /// It is answered by this line, which has no line feed yet.
     Line(String),
+    /// It is no command, and answered by these lines, the last of which has no line feed yet.
+    Lines(String),
+    /// It is no command, and its client is to be closed.
+    Quit,
     /// Serving is to end.
     Stop,
 }
@@ -36,8 +42,9 @@ pub(crate) enum Said {
 /// What answers an operator's lines: a handler of events, the moments of edits, the servers as the edits leave them, and the roster by
 /// which the loops find them.
 #[derive(Drop)]
-pub(crate) struct Operator<T: Taker, O: Outside> {
+pub(crate) struct Operator<T: Taker + Hears, O: Outside> {
     alloc: Global,
+    words: Words,
     taker: T,
     outside: O,
     servers: ServerList,
@@ -46,10 +53,11 @@ pub(crate) struct Operator<T: Taker, O: Outside> {
     roster: Arc<Mutex<Roster>>,
 }
 
-impl<T: Taker, O: Outside> Operator<T, O> {
+impl<T: Taker + Hears, O: Outside> Operator<T, O> {
     /// One that was told no line. The roster is that of these servers.
     pub(crate) fn new(
         alloc: Global,
+        words: Words,
         taker: T,
         outside: O,
         servers: ServerList,
@@ -60,12 +68,20 @@ impl<T: Taker, O: Outside> Operator<T, O> {
         let next = number_after(servers.as_slice());
         Operator {
             alloc,
+            words,
             taker,
             outside,
             servers,
             next,
             roster,
         }
+    }
+
+    /// The handler of events, which has the desk at hand.
+    pub(crate) fn taker(&self) -> &T
+        ensures { result.now ≡ self.now.taker }
+    {
+        &self.taker
     }
 
     /// The handler of events, when the console has ended.
@@ -76,8 +92,9 @@ impl<T: Taker, O: Outside> Operator<T, O> {
         taker
     }
 
-    /// Answers a line: a command is carried out by the desk, and its answer is told; a line that does not read is told its fault. Where no
-    /// moment is to be had, or no memory for the answer, there is none: then nothing was done, or the command was carried out.
+    /// Answers a line: a command is carried out by the desk, and its answer is reported; a line that is no command is answered as a word
+    /// of the console, or by its fault. If no moment is to be had, or no memory for the answer, there is none: then nothing was done, or
+    /// the command was carried out.
     pub(crate) fn answer<R: Wait + Clock>(&mut self, rt: &R, line: &str) -> Result<Said, Fault>
         ensures said { IfOk result (λ said. Says line.now said (record { answered = T.answered self.old.taker; pairs = T.pairs self.old.taker; servers = self.old.servers }) (record { answered = T.answered self.new.taker; pairs = T.pairs self.new.taker; servers = self.new.servers })) }
         ensures unsaid { IfErr result (λ _. Leaves line.now (record { answered = T.answered self.old.taker; pairs = T.pairs self.old.taker; servers = self.old.servers }) (record { answered = T.answered self.new.taker; pairs = T.pairs self.new.taker; servers = self.new.servers })) }
@@ -87,7 +104,23 @@ impl<T: Taker, O: Outside> Operator<T, O> {
         }
         match read_command(self.alloc, line) {
             Ok(command) => self.edit(rt, line, command),
-            Err(fault) => Ok(Said::Line(fault_line(self.alloc, fault)?)),
+            Err(fault) => self.hear(line, fault),
+        }
+    }
+
+    /// Answers a line that is no command, of which this is the fault.
+    fn hear(&self, line: &str, fault: CommandFault) -> Result<Said, Fault>
+        ensures { IfOk result (λ said. IsHeard line.now fault said) }
+    {
+        if fault.kind == FaultKind::NoMemory {
+            return Ok(Said::Line(fault_line(self.alloc, fault)?));
+        }
+        match self.taker.hear(&self.words, line) {
+            Ok(Heard::Nothing) => Ok(Said::Line(fault_line(self.alloc, fault)?)),
+            Ok(Heard::Lines(text)) => Ok(Said::Lines(text)),
+            Ok(Heard::Fault(own)) => Ok(Said::Lines(fault_line(self.alloc, own)?)),
+            Ok(Heard::Quit) => Ok(Said::Quit),
+            Err(refused) => self.wanting(line, refused),
         }
     }
 

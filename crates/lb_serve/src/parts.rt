@@ -19,6 +19,7 @@ use lb_loops::{
 };
 use lb_program::{ServerList, ServerPlace, Setup};
 use lb_sockets::{ListenSockets, SystemOutside, TcpListeners, TcpSockets, UdpSockets};
+use lb_words::Words;
 use mio::net::TcpListener;
 use std::alloc::Global;
 use std::net::Net;
@@ -163,8 +164,10 @@ pub(crate) fn prepared<'a, J: Naming, R: Wait + Net + Clock + RandomSource>(
         fronts(alloc, setup.listeners())?,
         fronts(alloc, setup.listeners())?,
     );
+    let words = Words::new(rt, alloc, setup.listeners(), setup.log())?;
     let console = (
         consoles,
+        words,
         Caller::new(rt, desk, fourth),
         outside.beside(),
         setup.into_servers(),
@@ -181,9 +184,11 @@ pub(crate) fn prepared<'a, J: Naming, R: Wait + Net + Clock + RandomSource>(
     })
 }
 
-/// What the console has alone: its listeners, its handler of events, its moments and words, and the setup file's servers.
+/// What the console has alone: its listeners, the words that it answers by itself, its handler of events, its moments and random
+/// words, and the setup file's servers.
 type OwnOfConsole<'a, R, J> = (
     Vec<TcpListener>,
+    Words,
     Caller<'a, R, J>,
     SystemOutside<'a, R>,
     ServerList,
@@ -208,9 +213,9 @@ fn console_by<'a, J: Naming, R: Wait + Net + Clock + RandomSource>(
     own: OwnOfConsole<'a, R, J>,
     around: Around,
 ) -> Result<(DeskConsole<'a, R, J>, Over), Fault> {
-    let (listeners, taker, outside, servers) = own;
+    let (listeners, words, taker, outside, servers) = own;
     let (roster, halt) = around;
-    let operator = Operator::new(alloc, taker, outside, servers, roster);
+    let operator = Operator::new(alloc, words, taker, outside, servers, roster);
     let console = Console::made(rt, rt, alloc, listeners, operator, halt)?;
     let waker = console.waker()?;
     Ok((console, Over { waker }))

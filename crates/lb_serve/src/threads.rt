@@ -5,6 +5,7 @@ ghost use Rattle.std.specs.Thread.{IsSend, IsSync};
 use crate::console::Console;
 use crate::gate::OpenGate;
 use crate::halt::Halt;
+use crate::hears::Hears;
 use lb_front::{FrontEnded, FrontFault, FrontParts, run_front};
 use lb_loops::{
     ClockParts, DatagramParts, Datagrams, Ended, LoopFault, Outside, Parts, Posts, StreamParts,
@@ -60,7 +61,7 @@ pub(crate) fn run_beside<
         + Sync,
     D: Datagrams + Send,
     S: Streams + Send,
-    T: Taker + Send,
+    T: Taker + Hears + Send,
     O: Outside + Send,
     P: Posts + Send,
 >(
@@ -108,7 +109,7 @@ fn run_asked<
         + Clock
         + RandomSource
         + Sync,
-    T: Taker + Send,
+    T: Taker + Hears + Send,
     O: Outside + Send,
 >(
     rt: &R,

@@ -108,6 +108,20 @@ impl Park {
         server::list(alloc, self.servers.as_slice())
     }
 
+    /// The servers in the order of `law_of_list`, each with how many queries it has outstanding.
+    pub fn servers(&self) -> &[Loaded]
+        ensures { result.now ≡ self.now.servers }
+    {
+        self.servers.as_slice()
+    }
+
+    /// The pools in the order of `law_of_list`: by number, which is their place.
+    pub fn pools(&self) -> &[Pool]
+        ensures { result.now ≡ self.now.pools }
+    {
+        self.pools.as_slice()
+    }
+
     /// How many pools there are, the default one counted.
     pub fn pool_len(&self) -> usize
         ensures { result ≡ length self.now.pools }

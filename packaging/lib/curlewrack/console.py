@@ -7,6 +7,9 @@ import time
 
 SETUP = "/etc/curlewrack/lb.conf"
 REFUSALS = ("fault ", "refused ", "desk ")
+# What an answer of one line begins with. Any other answer is a list, up to a line that begins with LAST.
+ONE_LINE = (*REFUSALS, "edited ", "closed ")
+LAST = "# end "
 
 
 class NoAnswer(Exception):
@@ -73,11 +76,23 @@ class Console:
             raise NoAnswer(f"{self.name}: {error}") from error
 
     def ask(self, line):
-        """The answer to a line, without its line feed."""
+        """The answer to a line, a list in several lines, without its last line feed."""
         end = time.monotonic() + self.seconds
         try:
             self.stream.settimeout(self.seconds)
             self.stream.sendall(line.encode("utf-8", "surrogateescape") + b"\n")
+        except socket.timeout as error:
+            raise NoAnswer(f"{self.name}: no answer in {self.seconds:g} s") from error
+        except OSError as error:
+            raise NoAnswer(f"{self.name}: {error}") from error
+        lines = [self.line(end)]
+        while not lines[0].startswith(ONE_LINE) and not lines[-1].startswith(LAST):
+            lines.append(self.line(end))
+        return "\n".join(lines)
+
+    def line(self, end):
+        """The next line of an answer, which comes before a moment."""
+        try:
             while b"\n" not in self.rest:
                 self.stream.settimeout(max(0.001, end - time.monotonic()))
                 piece = self.stream.recv(65536)

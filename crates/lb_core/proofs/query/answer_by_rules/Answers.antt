@@ -3,6 +3,9 @@ use Rattle.lb_chain.specs.declared.numbered.Numbered.{Numbered}
 use Rattle.lb_chain.specs.declared.walked.Walked.{Walked}
 use Rattle.lb_chain.specs.Counting.{counted}
 use Rattle.lb_chain.specs.Edits.{Rules}
+use Rattle.lb_core.specs.declared.noted.Noted.{Noted}
+use Rattle.lb_core.specs.Noted.{note}
+use Rattle.lb_core.proofs.Noting.{decided_noted}
 use Rattle.lb_core.proofs.Steps.{counted_step}
 use Rattle.lb_core.proofs.query.answer_by_rules.Goals as goal
 
@@ -17,3 +20,10 @@ returns-in-Ok-clause-step c =
     (c.walk-walked.ensures ∙ sym (c.seen_walks.ensures c.args.asked.now.moment c.args.asked.now.moment c.args.chain.now.rules c.args.view.now c.args.asked.now.origin.source c.args.asked.now.kind (omega arith)))
     (ap (λ (r : Rules). r.next) c.pass.ensures.passes ∙ c.in_default.ensures.next)
     (c.pass.ensures.seen ∙ ap (λ (rules : List Numbered). counted c.walk-walked.result.passes c.args.asked.now.origin.source c.args.asked.now.moment rules) c.in_default.ensures.seen)
+
+pub returns-in-Ok-clause-noted : goal.returns-in-Ok-clause-noted
+returns-in-Ok-clause-noted c =
+    ap (λ (n : Noted). note c.walk-walked.result.rule c.decide.new.looked n.served) c.requires.noted
+    ∙ decided_noted c.args.upstream.now c.decide.new.upstream c.args.asked.now c.args.bytes.items c.args.view.now _ c.walk-walked.result c.in-Ok.answer c.decide.new.looked c.in-Ok.ensures.decides
+    (c.walk-walked.ensures ∙ sym (c.seen_walks.ensures c.args.asked.now.moment c.args.asked.now.moment c.args.chain.now.rules c.args.view.now c.args.asked.now.origin.source c.args.asked.now.kind (omega arith)))
+    c.in-Ok.ensures.looked

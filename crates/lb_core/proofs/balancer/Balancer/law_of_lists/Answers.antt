@@ -1,6 +1,5 @@
 use Rattle.std.proofs.Common.{subst}
 use Rattle.lb_core.specs.Laws.{AreLists}
-use Rattle.lb_core.specs.Plain.{Plain}
 use Rattle.lb_core.proofs.Lists.{are_lists}
 use Rattle.lb_core.proofs.balancer.Balancer.law_of_lists.Goals as goal
 

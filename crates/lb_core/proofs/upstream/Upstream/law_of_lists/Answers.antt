@@ -1,5 +1,5 @@
 use Rattle.std.proofs.Common.{subst, sym, ap, ◌∙◌}
-use Rattle.lb_servers.specs.Park.{AreBackends, Backends}
+use Rattle.lb_servers.specs.Park.{AreBackends}
 use Rattle.lb_core.specs.Upstream.{Upstreams, backends_of}
 use Rattle.lb_core.proofs.Tied.{counted_tied}
 use Rattle.lb_core.proofs.upstream.Upstream.law_of_lists.Goals as goal

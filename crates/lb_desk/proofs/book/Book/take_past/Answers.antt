@@ -1,7 +1,7 @@
 use Rattle.std.proofs.Common.{arith, subst, sym, ◌≤◌}
 use Rattle.std.proofs.Math.Logic.{∥∥₁_map}
-use Rattle.lb_desk.specs.Book.{Keeps}
-use Rattle.lb_desk.proofs.Runs.{keeps_past}
+use Rattle.lb_desk.specs.Book.{Counted, Keeps}
+use Rattle.lb_desk.proofs.Runs.{counted_grown, keeps_past}
 use Rattle.lb_desk.proofs.book.Book.take_past.Goals as goal
 
 pub invariant_of-self-inside : goal.invariant_of-self-inside
@@ -13,9 +13,18 @@ invariant_of-self-inside g c =
     let raised = c.count_call.ensures.count in
     let total = c.count_call.ensures.total in
     let told =
-    subst (λ n. ∥ Keeps g.J.Naming.opening b.limit n b.log.items c.step.new.self ∥₁) (sym raised)
-    (∥∥₁_map b.told (keeps_past g.J.Naming.opening b.limit b.count b.log.items b.balancer c.step.new.self past))
+    subst (λ n. ∥ Keeps g.J.Naming.opening b.limit n b.log.items c.step_counted.new.self ∥₁) (sym raised)
+    (∥∥₁_map b.told (keeps_past g.J.Naming.opening b.limit b.count b.log.items b.balancer c.step_counted.new.self past))
+    in
+    let tallied =
+    subst (λ n. ∥ Counted g.J.Naming.opening n c.step_counted.new.self c.step_counted.new.tally.counts.items ∥₁) (sym raised)
+    (∥∥₁_map b.tallied (counted_grown g.J.Naming.opening b.count b.balancer c.step_counted.new.self b.tally.counts.items c.step_counted.new.tally.counts.items c.args.event c.step_counted.result c.step_counted.ensures.answers c.step_counted.ensures.counts))
     in (
       omega arith,
-      (b.limited, (omega arith, (b.seated, (b.roomy, (told, tt))))),
+      (b.limited, (omega arith, (b.seated, (b.roomy, (told, (tallied, tt)))))),
     )
+
+pub returns-clause-counts : goal.returns-clause-counts
+returns-clause-counts g c =
+    rw (← c.self.view_is)
+    (record { raised = c.step_counted.ensures.counts; numbers = (c.step_counted.new.noted, c.step_counted.ensures.noted, c.step_counted.ensures.numbers) })

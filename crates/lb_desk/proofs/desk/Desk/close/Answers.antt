@@ -1,9 +1,9 @@
-use Rattle.std.proofs.Common.{All, List, arith, length, refl, subst, sum_by, sym, ◌∙◌, ◌≡◌, ◌≤◌}
+use Rattle.std.proofs.Common.{All, List, arith, length, refl, rules, subst, sum_by, sym, ◌∙◌, ◌≡◌, ◌≤◌}
 use Rattle.std.proofs.Math.Logic.{∥∥₁_map}
 use Rattle.lb_desk.specs.declared.entry.Entry.{Entry}
 use Rattle.lb_desk.specs.Entry.{receipts_of}
 use Rattle.lb_desk.specs.Seat.{AreAll, Seated}
-use Rattle.lb_desk.proofs.Runs.{caches_told, hits_told}
+use Rattle.lb_desk.proofs.Runs.{caches_told, differs, hits_told}
 use Rattle.lb_desk.proofs.Whole.{as_many, whole}
 use Rattle.lb_desk.proofs.desk.Desk.close.Goals as goal
 
@@ -65,3 +65,18 @@ returns-clause-whole g c within =
     let amount = c.gathered.ensures.amount in
     let calls : sum_by (λ (s : Seated). s.calls) seats ≡ length log = omega (arith, filled, count, amount, within) in
     whole g.J.Naming.seats log seats all c.closed.ensures.seated kept few calls
+
+pub returns-then-not-all_agree-clause-missing : goal.returns-then-not-all_agree-clause-missing
+returns-then-not-all_agree-clause-missing g c =
+    let all : AreAll g.J.Naming.seats c.args.seats.items =
+    subst (λ n. AreAll n c.args.seats.items) c.args.self.seated (subst (λ (l : List Seated). AreAll c.args.self.seats l) c.as_slice.ensures.value (c.if-not-are_all.ensures.all refl)) in
+    (λ is. absurd (differs is), λ none. absurd (none all))
+
+pub returns-then-not-are_all-clause-missing : goal.returns-then-not-are_all-clause-missing
+returns-then-not-are_all-clause-missing g c = (
+  λ _ all.
+      let few : AreAll c.args.self.seats c.args.seats.items = subst (λ n. AreAll n c.args.seats.items) (sym c.args.self.seated) all in
+      let found = c.if-not-are_all.ensures.found (subst (λ (l : List Seated). AreAll c.args.self.seats l) (sym c.as_slice.ensures.value) few) in
+      search (rules, found),
+  λ _. refl,
+)

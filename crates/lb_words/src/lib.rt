@@ -1,0 +1,18 @@
+//! The words of the console that change nothing: lists of what the balancer has, and what was counted of it. What is listed is looked
+//! at under the desk's lock, and what is taken from there is bounded. Contracts say which lines these
+//! words answer; none speaks of the texts.
+#![tactic(auto)]
+
+mod heard;
+mod lines;
+mod lists;
+mod rules;
+mod setup;
+mod texts;
+mod told;
+mod watch;
+mod word;
+
+pub use heard::{Heard, Words};
+pub use watch::Watch;
+pub use word::{Word, word_of};

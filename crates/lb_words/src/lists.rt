@@ -1,0 +1,302 @@
+//! The lists of rules, servers, pools, caches and counts.
+
+use crate::lines::Lines;
+use crate::rules::{Extent, rule_text};
+use crate::texts::{mode_word, policy_word, pool_named, pool_word, push_addr, push_number};
+use crate::told::{Backend, Counted, Store, Told, look, place_of, rule_at};
+use lb_command::{Listener, Protocol};
+use lb_core::{CacheCounts, Count, ServerCounts};
+use lb_desk::{Desk, Naming};
+use lb_servers::{Mode, Pool};
+use lb_wire::{Addr, RuleId};
+use std::alloc::{AllocError, Global};
+use std::num::NonZeroU16;
+use std::sync::Wait;
+
+/// Rules, one for each time that the lock is held.
+pub(crate) fn rules<R: Wait, J: Naming>(
+    rt: &R,
+    alloc: Global,
+    desk: &Desk<J>,
+) -> Result<String, AllocError> {
+    let told = look(rt, alloc, desk)?;
+    let mut lines = Lines::new(alloc);
+    for place in 0..told.totals.rules {
+        if let Some(counted) = rule_at(rt, alloc, desk, place)? {
+            let line = rule_line(alloc, place, &counted, told.pools.as_slice(), Extent::Short)?;
+            lines.add(line.as_str())?;
+        }
+    }
+    lines.ended()
+}
+
+/// One rule, by its number and whole.
+pub(crate) fn rule<R: Wait, J: Naming>(
+    rt: &R,
+    alloc: Global,
+    desk: &Desk<J>,
+    id: RuleId,
+) -> Result<String, AllocError> {
+    let told = look(rt, alloc, desk)?;
+    let mut lines = Lines::new(alloc);
+    if let Some(place) = place_of(rt, desk, id)
+        && let Some(counted) = rule_at(rt, alloc, desk, place)?
+    {
+        let line = rule_line(alloc, place, &counted, told.pools.as_slice(), Extent::Whole)?;
+        lines.add(line.as_str())?;
+    }
+    lines.ended()
+}
+
+fn rule_line(
+    alloc: Global,
+    place: usize,
+    counted: &Counted,
+    pools: &[Pool],
+    extent: Extent,
+) -> Result<String, AllocError> {
+    let (id, rule, ended) = counted;
+    let number = id.0;
+    let text = rule_text(alloc, rule, pools, extent)?;
+    format!(in alloc; "rule {number} place {place} ended {ended} {text}")
+}
+
+/// Servers.
+pub(crate) fn servers(alloc: Global, told: &Told) -> Result<String, AllocError> {
+    let mut lines = Lines::new(alloc);
+    for backend in &told.servers {
+        let line = server_line(alloc, backend, told.pools.as_slice())?;
+        lines.add(line.as_str())?;
+    }
+    lines.ended()
+}
+
+fn server_line(alloc: Global, backend: &Backend, pools: &[Pool]) -> Result<String, AllocError> {
+    let server = &backend.loaded.server;
+    let number = server.id.0;
+    let name = server.name.as_str();
+    let mut at = String::new(alloc);
+    push_addr(alloc, &mut at, &server.addr)?;
+    let port = server.port.get();
+    let state = if is_up(backend) { "up" } else { "down" };
+    let mode = mode_word(server.mode);
+    let order = server.order;
+    let lanes = server.lanes.get();
+    let pools = pools_of(alloc, backend, pools)?;
+    let outstanding = backend.loaded.outstanding;
+    let ServerCounts {
+        forwarded,
+        replied,
+        expired,
+    } = backend.counts;
+    format!(in alloc;
+        "server {number} {name} {at} {port} {state} mode {mode} order {order} lanes {lanes} pools {pools} outstanding {outstanding} forwarded {forwarded} replied {replied} expired {expired}"
+    )
+}
+
+/// Whether a server is up: by its mode, or in mode auto by its mark.
+pub(crate) fn is_up(backend: &Backend) -> bool {
+    let server = &backend.loaded.server;
+    match server.mode {
+        Mode::Up => true,
+        Mode::Down => false,
+        Mode::Auto => server.marked_up,
+    }
+}
+
+/// The pools that a server stands in, joined by commas.
+fn pools_of(alloc: Global, backend: &Backend, pools: &[Pool]) -> Result<String, AllocError> {
+    let mut text = String::new(alloc);
+    for (place, pool) in backend.loaded.server.pools.as_slice().iter().enumerate() {
+        if place > 0 {
+            text.push_str(",")?;
+        }
+        text.push_str(pool_named(pools, *pool))?;
+    }
+    Ok(text)
+}
+
+/// Pools.
+pub(crate) fn pools(alloc: Global, told: &Told) -> Result<String, AllocError> {
+    let mut lines = Lines::new(alloc);
+    for (place, pool) in told.pools.iter().enumerate() {
+        let line = pool_line(alloc, told, place, pool)?;
+        lines.add(line.as_str())?;
+    }
+    lines.ended()
+}
+
+fn pool_line(alloc: Global, told: &Told, place: usize, pool: &Pool) -> Result<String, AllocError> {
+    let name = pool_word(&pool.name);
+    let policy = policy_word(pool.policy);
+    let (mut all, mut up) = (0usize, 0usize);
+    for backend in &told.servers {
+        if is_in(backend, place) {
+            all = all.saturating_add(1);
+            if is_up(backend) {
+                up = up.saturating_add(1);
+            }
+        }
+    }
+    match pool.cache {
+        Some(cache) => {
+            let cache = cache.0;
+            format!(in alloc; "pool {name} policy {policy} up {up} of {all} cache {cache}")
+        }
+        None => format!(in alloc; "pool {name} policy {policy} up {up} of {all} cache -"),
+    }
+}
+
+/// Whether a server stands in the pool at a place.
+fn is_in(backend: &Backend, place: usize) -> bool {
+    let pools = backend.loaded.server.pools.as_slice();
+    pools.iter().any(|pool| usize::from(pool.0) == place)
+}
+
+/// Caches.
+pub(crate) fn caches(alloc: Global, told: &Told) -> Result<String, AllocError> {
+    let mut lines = Lines::new(alloc);
+    for store in &told.caches {
+        let line = cache_line(alloc, told, store)?;
+        lines.add(line.as_str())?;
+    }
+    lines.ended()
+}
+
+fn cache_line(alloc: Global, told: &Told, store: &Store) -> Result<String, AllocError> {
+    let number = store.id.0;
+    let pool = pool_with(told, store);
+    let kept = store.kept;
+    let max = store.max.get();
+    let shards = store.shards.get();
+    let ttl = store.max_ttl.get();
+    let skips = codes(alloc, store.skips.as_slice())?;
+    let CacheCounts { asked, hit } = store.counts;
+    format!(in alloc;
+        "cache {number} pool {pool} kept {kept} of {max} shards {shards} maxttl {ttl} skip {skips} hits {hit} of {asked}"
+    )
+}
+
+/// The name of the pool that has a cache.
+pub(crate) fn pool_with<'a>(told: &'a Told, store: &Store) -> &'a str {
+    for pool in &told.pools {
+        if pool.cache == Some(store.id) {
+            return pool_word(&pool.name);
+        }
+    }
+    "?"
+}
+
+/// Codes of options, joined by commas; `none` if there are none.
+pub(crate) fn codes(alloc: Global, codes: &[u16]) -> Result<String, AllocError> {
+    if codes.is_empty() {
+        return String::from_str(alloc, "none");
+    }
+    let mut text = String::new(alloc);
+    for (place, code) in codes.iter().enumerate() {
+        if place > 0 {
+            text.push_str(",")?;
+        }
+        push_number(alloc, &mut text, u64::from(*code))?;
+    }
+    Ok(text)
+}
+
+/// The counts of events, by what they are.
+const EVENTS: [(Count, &str); 6] = [
+    (Count::Datagrams, "datagram"),
+    (Count::Streams, "stream"),
+    (Count::Replies, "reply"),
+    (Count::Ticks, "tick"),
+    (Count::HealthResults, "health"),
+    (Count::Edits, "edit"),
+];
+
+/// The counts of answers, by their reasons.
+const ANSWERS: [(Count, &str); 24] = [
+    (Count::Short, "short"),
+    (Count::NotQuery, "notquery"),
+    (Count::RuleDropped, "dropped"),
+    (Count::Malformed, "malformed"),
+    (Count::Transfer, "transfer"),
+    (Count::RuleAnswered, "rule"),
+    (Count::Hit, "hit"),
+    (Count::NoServer, "noserver"),
+    (Count::LaneFull, "lanefull"),
+    (Count::Forwarded, "forward"),
+    (Count::Kept, "kept"),
+    (Count::NotKept, "notkept"),
+    (Count::NoRoom, "noroom"),
+    (Count::NotKeptForMemory, "notkept-nomemory"),
+    (Count::Expired, "expired"),
+    (Count::Quiet, "quiet"),
+    (Count::ShortReply, "reply-short"),
+    (Count::NotReply, "notreply"),
+    (Count::UnknownReply, "unknown"),
+    (Count::Mismatch, "mismatch"),
+    (Count::NoSuchServer, "health-noserver"),
+    (Count::Edited, "edited"),
+    (Count::Refused, "refused"),
+    (Count::LackedMemory, "nomemory"),
+];
+
+/// Counts of events and answers, and of the queries of each listener, with the names of Prometheus' text format.
+pub(crate) fn counters(
+    alloc: Global,
+    told: &Told,
+    listeners: &[Listener],
+) -> Result<String, AllocError> {
+    let mut lines = Lines::new(alloc);
+    for (place, listener) in listeners.iter().enumerate() {
+        if let Ok(front) = u8::try_from(place)
+            && listener.protocol != Protocol::Console
+        {
+            let name = listener_text(alloc, listener)?;
+            let count = told.counts.of_front(front);
+            let line = format!(in alloc; "lb_queries_total{{listen=\"{name}\"}} {count}")?;
+            lines.add(line.as_str())?;
+        }
+    }
+    for (count, name) in EVENTS {
+        let count = told.counts.get(count);
+        let line = format!(in alloc; "lb_events_total{{kind=\"{name}\"}} {count}")?;
+        lines.add(line.as_str())?;
+    }
+    for (count, name) in ANSWERS {
+        let count = told.counts.get(count);
+        let line = format!(in alloc; "lb_answers_total{{why=\"{name}\"}} {count}")?;
+        lines.add(line.as_str())?;
+    }
+    let totals = told.totals;
+    let (rules, outstanding, kept) = (totals.rules, totals.outstanding, totals.kept);
+    let line = format!(in alloc; "lb_rules {rules}")?;
+    lines.add(line.as_str())?;
+    let line = format!(in alloc; "lb_outstanding {outstanding}")?;
+    lines.add(line.as_str())?;
+    let line = format!(in alloc; "lb_cache_entries {kept}")?;
+    lines.add(line.as_str())?;
+    let lacks = if told.lacks { 1u8 } else { 0u8 };
+    let line = format!(in alloc; "lb_counts_lacking {lacks}")?;
+    lines.add(line.as_str())?;
+    lines.ended()
+}
+
+/// A listener as its line of the setup file has it.
+pub(crate) fn listener_text(alloc: Global, listener: &Listener) -> Result<String, AllocError> {
+    let word = match listener.protocol {
+        Protocol::Udp => "udp",
+        Protocol::Tcp => "tcp",
+        Protocol::Doh => "doh",
+        Protocol::Console => "console",
+    };
+    let at = at_text(alloc, &listener.addr, listener.port)?;
+    format!(in alloc; "{word} {at}")
+}
+
+/// An address and a port, as they are typed.
+pub(crate) fn at_text(alloc: Global, addr: &Addr, port: NonZeroU16) -> Result<String, AllocError> {
+    let mut at = String::new(alloc);
+    push_addr(alloc, &mut at, addr)?;
+    let port = port.get();
+    format!(in alloc; "{at} {port}")
+}
