@@ -109,6 +109,10 @@ place_of counts.LackedMemory = 29
 abbrev pub front_place : ℕ → ℕ
 front_place front = 30 + front
 
+-- how many places there are: those of the counts with a name, and of 256 listeners
+abbrev pub places : ℕ
+places = front_place 256
+
 -- a count in a list, by its place
 abbrev pub count_at : ℕ → List ℕ → ℕ
 count_at place items = get_or items place 0

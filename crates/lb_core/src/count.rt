@@ -7,7 +7,7 @@ use crate::answer::{Answer, DropReason, IgnoreReason, LocalReason};
 use crate::event::Event;
 use lb_wire::{Kept, Kind};
 
-/// How many counts have a name. Behind them stand those of the listeners.
+/// How many counts have a name. After them stand those of the listeners.
 pub(crate) const NAMED: usize = 30;
 
 /// What is counted: each event by what it is, a query by its transport; and each answer by its reason.

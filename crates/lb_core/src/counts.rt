@@ -1,7 +1,7 @@
 //! Counts of what was asked and answered, beside the plain state.
 
 ghost use Rattle.std.specs.Prelude.{◌≡◌, ◌<◌, ◌+◌, ◌==◌, ℕ};
-ghost use Rattle.lb_core.specs.Counts.{answer_count, count_at, event_count, front_of, front_place, is_place, one_if, place_of, AreRaised};
+ghost use Rattle.lb_core.specs.Counts.{answer_count, count_at, event_count, front_of, front_place, is_place, one_if, place_of, places, AreRaised};
 
 use crate::answer::Answer;
 use crate::count::{Count, NAMED};
@@ -81,7 +81,7 @@ impl Counts {
     /// Raises the one at a place.
     #[inline(always)]
     fn raise(&mut self, at: usize)
-        requires { at < 286 }
+        requires { at < places }
         ensures { AreRaised (λ place. one_if (at == place)) self.old.items self.new.items }
     {
         self.items[at] = self.items[at].saturating_add(1);

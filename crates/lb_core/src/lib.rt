@@ -45,6 +45,6 @@ pub use laws::{
 };
 pub use noted::{Noted, Served};
 pub use plain::Plain;
-pub use runs::run;
+pub use runs::{run, run_counted};
 pub use tally::Tally;
 pub use timeout::Timeout;

@@ -4,6 +4,7 @@ ghost use Rattle.std.specs.Prelude.{All, IfErr, IfOk, IsErrAnd, IsOk, IsSome, Is
 ghost use Rattle.std.specs.Option.{ForSome};
 ghost use Rattle.lb_core.specs.Counts.{count_at};
 ghost use Rattle.lb_core.specs.CountsByNumber.{AreNone};
+ghost use Rattle.lb_core.specs.Noted.{IsNoted};
 ghost use Rattle.lb_core.specs.Snapshot.{IsShown, snapshot_of};
 ghost use Rattle.lb_core.specs.Step.{Answers};
 ghost use Rattle.lb_desk.specs.Book.{Booked, Counted, Counts, IsReadyFor, Keeps, ticket_of};
@@ -94,7 +95,7 @@ impl<J: Naming> Book<J> {
     /// Answers an event: the whole of what a call does under the lock. One step of the balancer, which the book and the caller's share
     /// count; while the log has room for it by its limit, the log has it under the seat's number, and the answer comes with a ticket
     /// for its receipt. `receipts` are the caller's, which take room for one more where they have none, and `room` says whether that
-    /// was refused before. A refused event comes back, and nothing has changed.
+    /// was refused before. What the step leaves beside the plain state is noted. A refused event comes back, and nothing has changed.
     #[inline(always)]
     pub fn answer(
         &mut self,
@@ -103,10 +104,12 @@ impl<J: Naming> Book<J> {
         event: Event,
         receipts: &mut Receipts,
         room: Result<(), AllocError>,
+        noted: &mut Noted,
     ) -> Result<Answered, (DeskFault, Event)>
         requires part { 0 < share.old.parts }
         requires seat { seat.0 < J.seats }
         ensures step { IfOk result (λ r. Answers self.old.balancer event r.answer self.new.balancer) }
+        ensures noted { IfOk result (λ r. IsNoted self.old.balancer event r.answer noted.new) }
         ensures counts { IfOk result (λ r. Counts self.old.balancer event r.answer self.old.tally self.new.tally) }
         ensures logged { IfOk result (λ r. self.old.count < self.old.limit → (r.ticket ≡ Some (ticket_of self.old.count event)) × (self.new.log ≡ self.old.log ++ entry seat event r.answer ∷ []) × (self.new.ready ≡ None)) }
         ensures unlogged { IfOk result (λ r. self.old.limit ≤ self.old.count → (r.ticket ≡ None) × (self.new.log ≡ self.old.log) × (self.new.ready ≡ self.old.ready)) }
@@ -128,7 +131,7 @@ impl<J: Naming> Book<J> {
         if let Err(fault) = self.ready(&event) {
             return Err((fault, event));
         }
-        let (answer, place) = self.take(share, seat, event);
+        let (answer, place) = self.take(share, seat, event, noted);
         Ok(Answered::new(answer, place, copy))
     }
 
@@ -157,11 +160,18 @@ impl<J: Naming> Book<J> {
     /// under the seat's number, where its limit allows; the room that was taken for it is spent. The place is how many calls there
     /// were before.
     #[inline(always)]
-    pub fn take(&mut self, share: &mut Share<J>, seat: SeatId, event: Event) -> (Answer, u64)
+    pub fn take(
+        &mut self,
+        share: &mut Share<J>,
+        seat: SeatId,
+        event: Event,
+        noted: &mut Noted,
+    ) -> (Answer, u64)
         requires part { 0 < share.old.parts }
         requires seat { seat.0 < J.seats }
         requires ready { IsReadyFor event self.old }
         ensures step { Answers self.old.balancer event result.0 self.new.balancer }
+        ensures noted { IsNoted self.old.balancer event result.0 noted.new }
         ensures counts { Counts self.old.balancer event result.0 self.old.tally self.new.tally }
         ensures place { result.1 ≡ self.old.count }
         ensures count { self.new.count ≡ self.old.count + 1 }
@@ -174,9 +184,9 @@ impl<J: Naming> Book<J> {
     {
         let place = self.count;
         if place >= self.limit {
-            return (self.take_past(share, event), place);
+            return (self.take_past(share, event, noted), place);
         }
-        (self.take_logged(share, seat, event), place)
+        (self.take_logged(share, seat, event, noted), place)
     }
 }
 
@@ -201,12 +211,19 @@ impl<J: Naming> Book<J> {
     }
 
     /// A call that the log has.
-    fn take_logged(&mut self, share: &mut Share<J>, seat: SeatId, event: Event) -> Answer
+    fn take_logged(
+        &mut self,
+        share: &mut Share<J>,
+        seat: SeatId,
+        event: Event,
+        noted: &mut Noted,
+    ) -> Answer
         requires part { 0 < share.old.parts }
         requires seat { seat.0 < J.seats }
         requires logs { self.old.count < self.old.limit }
         requires ready { self.old.ready ≡ Some event }
         ensures step { Answers self.old.balancer event result self.new.balancer }
+        ensures noted { IsNoted self.old.balancer event result noted.new }
         ensures counts { Counts self.old.balancer event result self.old.tally self.new.tally }
         ensures count { self.new.count ≡ self.old.count + 1 }
         ensures log { self.new.log ≡ self.old.log ++ entry seat event result ∷ [] }
@@ -228,8 +245,7 @@ impl<J: Naming> Book<J> {
         let Some(Spare { event: copy, room }) = spare.take() else {
             unreachable!()
         };
-        let mut noted = Noted::none();
-        let answer = balancer.step_counted(event, tally, &mut noted);
+        let answer = balancer.step_counted(event, tally, noted);
         count_call(count, calls, share);
         log.push_reserved(Entry {
             seat,
@@ -241,11 +257,12 @@ impl<J: Naming> Book<J> {
 
     /// A call past the log's limit.
     #[inline(always)]
-    fn take_past(&mut self, share: &mut Share<J>, event: Event) -> Answer
+    fn take_past(&mut self, share: &mut Share<J>, event: Event, noted: &mut Noted) -> Answer
         requires part { 0 < share.old.parts }
         requires past { self.old.limit ≤ self.old.count }
         requires room { self.old.count < 2 ^ 64 - 1 }
         ensures step { Answers self.old.balancer event result self.new.balancer }
+        ensures noted { IsNoted self.old.balancer event result noted.new }
         ensures counts { Counts self.old.balancer event result self.old.tally self.new.tally }
         ensures count { self.new.count ≡ self.old.count + 1 }
         ensures log { self.new.log ≡ self.old.log }
@@ -262,8 +279,7 @@ impl<J: Naming> Book<J> {
             ..
         } = self;
         count_call(count, calls, share);
-        let mut noted = Noted::none();
-        balancer.step_counted(event, tally, &mut noted)
+        balancer.step_counted(event, tally, noted)
     }
 }
 

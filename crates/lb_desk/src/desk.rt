@@ -5,7 +5,7 @@ ghost use Rattle.std.specs.List.{list_any, range_with_len};
 ghost use Rattle.lb_core.specs.Snapshot.{snapshot_of};
 ghost use Rattle.lb_desk.specs.Book.{Booked, Counted, Keeps};
 ghost use Rattle.lb_desk.specs.Entry.{TellsCaches, TellsHits, receipt, receipts_of};
-ghost use Rattle.lb_desk.specs.Desk.{OnceReturnsAtBoth};
+ghost use Rattle.lb_desk.specs.Desk.{IsStep, OnceReturnsAtBoth};
 ghost use Rattle.lb_desk.specs.Seat.{AreAll};
 ghost use Rattle.lb_desk.specs.declared.fault.CloseFault.TheVariants.{MissingSeat};
 ghost use Rattle.lb_desk.specs.declared.fault.DeskFault.TheVariants.{CountFull};
@@ -18,12 +18,19 @@ use crate::fault::{CloseFault, DeskFault};
 use crate::naming::{Naming, Parted};
 use crate::seat::Seat;
 use lb_core::{
-    Answer, Balancer, Event, Plain, Tally, cached_answers_are_kept_replies, hits_come_from_replies,
+    Answer, Balancer, Event, Noted, Plain, Tally, cached_answers_are_kept_replies,
+    hits_come_from_replies,
 };
 use std::alloc::{AllocError, Global};
+use std::hint::spin_loop;
 use std::sync::atomic::{AtomicBool, Ordering};
 use std::sync::ledger::{Blank, Share};
-use std::sync::{Mutex, Wait};
+use std::sync::{Mutex, MutexGuard, Wait};
+
+/// How often a caller tries to take the lock before it sleeps, and how many pauses it makes between two tries.
+const TRIES: u32 = 200;
+
+const PAUSES: u32 = 4;
 
 /// A balancer that many threads call, each by a seat of its own. Each call is one step of the balancer, one after the other.
 #[derive(Drop)]
@@ -105,6 +112,26 @@ impl<J: Naming> Desk<J> {
         self.call_hinted(rt, seat, event, self.is_full.load(Ordering::SeqCst))
     }
 
+    /// The same call. It notes what its step leaves beside the plain state, as of a query that ended its server and when it was sent.
+    #[inline(always)]
+    pub fn call_noted<R: Wait>(
+        &self,
+        rt: &R,
+        seat: &mut Seat<J>,
+        event: Event,
+        noted: &mut Noted,
+    ) -> Result<Answer, (DeskFault, Event)>
+        ensures number { seat.new.number ≡ seat.old.number }
+        ensures calls { OnOk result (seat.new.calls ≡ seat.old.calls + 1) }
+        ensures receipts { IfOk result (λ answer. (seat.new.receipts ≡ seat.old.receipts) ⊎ ((place : ℕ) × (place < J.limit) × (seat.new.receipts ≡ seat.old.receipts ++ receipt place event answer ∷ []))) }
+        ensures noted { IfOk result (λ answer. IsStep event answer noted.new) }
+        ensures full { seat.old.calls ≡ 2 ^ 64 - 1 → IsErrAnd result (λ fault. fault.0 ≡ CountFull) }
+        ensures back { IfErr result (λ fault. fault.1 ≡ event) }
+        ensures same { OnErr result (seat.new ≡ seat.old) }
+    {
+        self.called(rt, seat, event, self.is_full.load(Ordering::SeqCst), noted)
+    }
+
     /// The same call, by the caller's own hint whether the log is full. No answer depends on it: it says alone whether room for the
     /// receipt is taken before the lock, or under it where the log takes the call after all. `call` takes the desk's hint.
     #[inline(always)]
@@ -122,6 +149,28 @@ impl<J: Naming> Desk<J> {
         ensures back { IfErr result (λ fault. fault.1 ≡ event) }
         ensures same { OnErr result (seat.new ≡ seat.old) }
     {
+        let mut noted = Noted::none();
+        self.called(rt, seat, event, is_full, &mut noted)
+    }
+
+    /// A call by a hint, with what its step leaves.
+    #[inline(always)]
+    fn called<R: Wait>(
+        &self,
+        rt: &R,
+        seat: &mut Seat<J>,
+        event: Event,
+        is_full: bool,
+        noted: &mut Noted,
+    ) -> Result<Answer, (DeskFault, Event)>
+        ensures number { seat.new.number ≡ seat.old.number }
+        ensures calls { OnOk result (seat.new.calls ≡ seat.old.calls + 1) }
+        ensures receipts { IfOk result (λ answer. (seat.new.receipts ≡ seat.old.receipts) ⊎ ((place : ℕ) × (place < J.limit) × (seat.new.receipts ≡ seat.old.receipts ++ receipt place event answer ∷ []))) }
+        ensures noted { IfOk result (λ answer. IsStep event answer noted.new) }
+        ensures full { seat.old.calls ≡ 2 ^ 64 - 1 → IsErrAnd result (λ fault. fault.0 ≡ CountFull) }
+        ensures back { IfErr result (λ fault. fault.1 ≡ event) }
+        ensures same { OnErr result (seat.new ≡ seat.old) }
+    {
         let Seat {
             number,
             share,
@@ -132,7 +181,7 @@ impl<J: Naming> Desk<J> {
             return Err((DeskFault::CountFull, event));
         }
         let room = prepared(receipts, self.alloc, is_full);
-        let answered = self.answered(rt, share, *number, event, receipts, room)?;
+        let answered = self.answered(rt, share, *number, event, receipts, room, noted)?;
         *calls += 1;
         Ok(receipts.keep(self.alloc, answered))
     }
@@ -147,9 +196,11 @@ impl<J: Naming> Desk<J> {
         event: Event,
         receipts: &mut Receipts,
         room: Result<(), AllocError>,
+        noted: &mut Noted,
     ) -> Result<Answered, (DeskFault, Event)>
         requires part { 0 < share.old.parts }
         requires seat { number.0 < J.seats }
+        ensures noted { IfOk result (λ r. IsStep event r.answer noted.new) }
         ensures share { OnOk result (share.new.amount ≡ share.old.amount + 1) }
         ensures parts { share.new.parts ≡ share.old.parts }
         ensures ticket { IfOk result (λ r. IfSome r.ticket (λ ticket. (ticket.place < J.limit) × (ticket.event ≡ event))) }
@@ -158,9 +209,9 @@ impl<J: Naming> Desk<J> {
         ensures back { IfErr result (λ fault. fault.1 ≡ event) }
         ensures same { OnErr result (share.new ≡ share.old) }
     {
-        let mut guard = self.book.lock(rt);
+        let mut guard = self.entered(rt);
         let book = &mut *guard;
-        let answered = book.answer(share, number, event, receipts, room)?;
+        let answered = book.answer(share, number, event, receipts, room, noted)?;
         if book.is_full() && answered.is_logged() {
             self.is_full.store(true, Ordering::SeqCst);
         }
@@ -175,10 +226,36 @@ impl<J: Naming> Desk<J> {
         requires { F.IsAlwaysCallable reader }
         ensures { (book : Booked) × OnceReturnsAtBoth F.FnOnce reader book.balancer book.tally result × ∥ Counted J.opening book.count book.balancer book.tally.counts.items ∥₁ }
     {
-        let guard = self.book.lock(rt);
+        let guard = self.entered(rt);
         let book = &*guard;
         book.law_of_counts();
         reader(book.balancer(), book.tally())
+    }
+}
+
+impl<J: Naming> Desk<J> {
+    /// Takes the lock.
+    #[inline(always)]
+    fn entered<R: Wait>(&self, rt: &R) -> MutexGuard<'_, Book<J>> {
+        if let Some(guard) = self.book.try_lock() {
+            return guard;
+        }
+        self.entered_late(rt)
+    }
+
+    /// Takes the lock that another thread has. A call holds it for about a microsecond, so it is tried for a while. A thread that
+    /// has slept for a lock makes its release a call of the system, which wakes the next one: so each call of a row would sleep.
+    #[inline(never)]
+    fn entered_late<R: Wait>(&self, rt: &R) -> MutexGuard<'_, Book<J>> {
+        for _ in 0..TRIES {
+            for _ in 0..PAUSES {
+                spin_loop();
+            }
+            if let Some(guard) = self.book.try_lock() {
+                return guard;
+            }
+        }
+        self.book.lock(rt)
     }
 }
 

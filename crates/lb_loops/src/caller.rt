@@ -1,11 +1,13 @@
 //! The event handler of a loop: a seat at a desk.
 
-ghost use Rattle.std.specs.Prelude.{◌≡◌};
+ghost use Rattle.std.specs.Prelude.{IfErr, IfOk, OnErr, OnOk, ◌++◌, ◌+◌, ◌<◌, ◌∷◌, ◌≡◌, ◌⊎◌, ℕ, []};
+ghost use Rattle.lb_desk.specs.Entry.{receipt};
 
-use lb_core::{Answer, Event};
+use lb_core::{Answer, Event, Noted};
 use lb_desk::{Desk, DeskFault, Naming, Seat};
 use lb_lines::Taker;
-use std::sync::Wait;
+use lb_recent::{Before, Ring};
+use std::sync::{Arc, Wait};
 
 /// Hands the events of a loop to a desk, by a seat of its own. It may wait for other callers.
 #[derive(Drop)]
@@ -13,6 +15,8 @@ pub struct Caller<'a, R: Wait, J: Naming> {
     rt: &'a R,
     desk: &'a Desk<J>,
     seat: Seat<J>,
+    /// Where queries are noted that end by its calls.
+    ring: Option<Arc<Ring>>,
 }
 
 impl<'a, R: Wait, J: Naming> Caller<'a, R, J> {
@@ -20,7 +24,24 @@ impl<'a, R: Wait, J: Naming> Caller<'a, R, J> {
     pub fn new(rt: &'a R, desk: &'a Desk<J>, seat: Seat<J>) -> Caller<'a, R, J>
         ensures { result.seat ≡ seat }
     {
-        Caller { rt, desk, seat }
+        Caller::noting(rt, desk, seat, None)
+    }
+
+    /// The same handler, which notes the queries that end by its calls in a ring, if it has one.
+    pub fn noting(
+        rt: &'a R,
+        desk: &'a Desk<J>,
+        seat: Seat<J>,
+        ring: Option<Arc<Ring>>,
+    ) -> Caller<'a, R, J>
+        ensures { result.seat ≡ seat }
+    {
+        Caller {
+            rt,
+            desk,
+            seat,
+            ring,
+        }
     }
 
     /// What it waits and tells the time by.
@@ -53,6 +74,32 @@ impl<R: Wait, J: Naming> Taker for Caller<'_, R, J> {
     ghost pairs = { λ c. pairs_of c.seat.receipts };
 
     fn take(&mut self, event: Event) -> Result<Answer, (DeskFault, Event)> {
-        self.desk.call(self.rt, &mut self.seat, event)
+        match &self.ring {
+            Some(ring) => take_noting(self.rt, self.desk, &mut self.seat, event, ring),
+            None => self.desk.call(self.rt, &mut self.seat, event),
+        }
     }
+}
+
+/// A call from a seat. If a query ends by it, it is noted in a ring.
+#[inline(never)]
+fn take_noting<R: Wait, J: Naming>(
+    rt: &R,
+    desk: &Desk<J>,
+    seat: &mut Seat<J>,
+    event: Event,
+    ring: &Ring,
+) -> Result<Answer, (DeskFault, Event)>
+    ensures calls { OnOk result (seat.new.calls ≡ seat.old.calls + 1) }
+    ensures receipts { IfOk result (λ answer. (seat.new.receipts ≡ seat.old.receipts) ⊎ ((place : ℕ) × (place < J.limit) × (seat.new.receipts ≡ seat.old.receipts ++ receipt place event answer ∷ []))) }
+    ensures back { IfErr result (λ fault. fault.1 ≡ event) }
+    ensures same { OnErr result (seat.new ≡ seat.old) }
+{
+    let before = Before::of(&event);
+    let mut noted = Noted::none();
+    let answer = desk.call_noted(rt, seat, event, &mut noted)?;
+    if let Some(record) = before.ended(&answer, &noted) {
+        ring.write(rt, record);
+    }
+    Ok(answer)
 }

@@ -8,6 +8,7 @@ ghost use Rattle.lb_serve.specs.Serving.{Closes, Served, closed_text, output_end
 use crate::fault::Fault;
 use crate::listening::Listening;
 use crate::parts::{DeskConsole, DeskFront, Loops, Runners, Seats, prepared};
+use crate::switches::Switches;
 use crate::threads::{FrontEnd, LoopsEnd, Over, run_beside};
 use lb_core::Balancer;
 use lb_desk::{CloseFault, Desk, Naming, Seat};
@@ -31,6 +32,9 @@ use std::{io, net};
 
 /// The seats of the desk: the loops of datagrams, of streams and of the clock, the console, and the front of DNS on HTTP.
 const SEATS: u8 = 5;
+
+/// What a setup file states, what the switches ask for, and the sockets that listen.
+pub(crate) type Given = (Setup, Switches, Listening);
 
 /// What has run at a desk.
 type Ran<'a, R, J> = (
@@ -63,6 +67,7 @@ pub(crate) fn serve_at_desk<
     alloc: Global,
     balancer: Balancer,
     setup: Setup,
+    switches: Switches,
     listening: Listening,
     output: &mut W,
 ) -> Result<(), Fault>
@@ -70,7 +75,8 @@ pub(crate) fn serve_at_desk<
 {
     let limit = u64::from(setup.log());
     let blank = Blank::new(u64::from(SEATS));
-    serve_named::<Brand, R, W>(rt, alloc, blank, balancer, limit, setup, listening, output)
+    let given = (setup, switches, listening);
+    serve_named::<Brand, R, W>(rt, alloc, blank, balancer, limit, given, output)
 }
 
 fn serve_named<
@@ -88,8 +94,7 @@ fn serve_named<
     blank: Blank,
     balancer: Balancer,
     limit: u64,
-    setup: Setup,
-    listening: Listening,
+    given: Given,
     output: &mut W,
 ) -> Result<(), Fault>
     requires name { blank.name ≡ J.name }
@@ -103,7 +108,7 @@ fn serve_named<
     let Some(five) = taken(&mut seats) else {
         return Err(Fault::Closing(CloseFault::MissingSeat));
     };
-    match run_at_desk(rt, alloc, &desk, five, setup, listening, output) {
+    match run_at_desk(rt, alloc, &desk, five, given, output) {
         Ok(left) => close(desk, seats, left, output),
         Err(fault) => Err(fault),
     }
@@ -216,14 +221,13 @@ fn run_at_desk<
     alloc: Global,
     desk: &'a Desk<J>,
     seats: Seats<J>,
-    setup: Setup,
-    listening: Listening,
+    given: Given,
     output: &mut W,
 ) -> Result<Left<J>, Fault>
     ensures ready { OnOk result (Appends (W.contents output.old) (W.contents output.new) ready_text) }
     ensures ended { IfErr result (λ fault. Served J.opening J.limit (W.contents output.old) (W.contents output.new) (Err fault)) }
 {
-    match prepared(rt, alloc, desk, seats, setup, listening) {
+    match prepared(rt, alloc, desk, seats, given) {
         Ok(runners) => {
             let Runners {
                 loops,

@@ -5,6 +5,7 @@ ghost use Rattle.std.specs.IoError.{error_kind};
 ghost use Rattle.lb_program.specs.Faults.{failure_text};
 ghost use Rattle.lb_serve.specs.Fault.{fault_status, fault_text};
 
+use crate::switches::Switch;
 use lb_desk::CloseFault;
 use lb_front::FrontFault;
 use lb_loops::LoopFault;
@@ -22,6 +23,8 @@ const DIFFERS: &str = "audit differs\n";
 /// What ends serving, or keeps it from beginning.
 #[derive(Debug, Drop)]
 pub enum Fault {
+    /// A switch of the environment can't be honoured.
+    Switch(Switch),
     /// The file has no line that listens.
     NoListener,
     /// The listener of this line, from 1, was not bound.
@@ -49,7 +52,8 @@ impl Fault {
     {
         match self {
             Fault::Closing(_) => 4,
-            Fault::NoListener
+            Fault::Switch(_)
+            | Fault::NoListener
             | Fault::Bind(..)
             | Fault::System(_)
             | Fault::Loops(_)
@@ -72,7 +76,8 @@ impl Fault {
             | Fault::Bind(_, BindFault::NoMemory) => MEMORY,
             Fault::System(error) | Fault::Front(FrontFault::System(error)) | Fault::Output(error) =>
                 failure(error),
-            Fault::NoListener
+            Fault::Switch(_)
+            | Fault::NoListener
             | Fault::Bind(_, BindFault::Bind { .. })
             | Fault::Loops(_)
             | Fault::Front(FrontFault::Held)

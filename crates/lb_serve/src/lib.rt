@@ -17,6 +17,7 @@ mod operator;
 mod parts;
 mod sentences;
 mod serving;
+mod switches;
 mod threads;
 mod typed;
 

@@ -5,6 +5,7 @@ ghost use Rattle.lb_serve.specs.Listening.{front_of};
 
 use crate::console::Console;
 use crate::descriptors::{Clients, limit};
+use crate::desk::Given;
 use crate::fault::Fault;
 use crate::gate::OpenGate;
 use crate::halt::Halt;
@@ -17,11 +18,12 @@ use lb_front::{Bound, FrontParts, front_runtime};
 use lb_loops::{
     Caller, ClockParts, DatagramParts, Front, Outbox, Parts, Receiver, Roster, Sender, StreamParts,
 };
-use lb_program::{ServerList, ServerPlace, Setup};
+use lb_program::{ServerList, ServerPlace};
+use lb_recent::Rings;
 use lb_sockets::{ListenSockets, SystemOutside, TcpListeners, TcpSockets, UdpSockets};
 use lb_words::Words;
 use mio::net::TcpListener;
-use std::alloc::Global;
+use std::alloc::{AllocError, Global};
 use std::net::Net;
 use std::random::RandomSource;
 use std::sync::atomic::AtomicBool;
@@ -30,6 +32,9 @@ use std::time::Clock;
 
 /// How many jobs one loop may have for another.
 const JOBS: usize = 4_096;
+
+/// How many threads end queries: those of the three loops, and that of the front.
+const RINGS: usize = 4;
 
 /// The seats that threads call from.
 pub(crate) type Seats<J> = (Seat<J>, Seat<J>, Seat<J>, Seat<J>, Seat<J>);
@@ -136,17 +141,13 @@ pub(crate) fn prepared<'a, J: Naming, R: Wait + Net + Clock + RandomSource>(
     alloc: Global,
     desk: &'a Desk<J>,
     seats: Seats<J>,
-    setup: Setup,
-    listening: Listening,
+    given: Given,
 ) -> Result<Runners<'a, R, J>, Fault>
-    ensures { IfOk result (λ p. (p.loops.streams.fronts.items ≡ map front_of setup.listeners) × (p.loops.clock.fronts.items ≡ map front_of setup.listeners)) }
+    ensures { IfOk result (λ p. (p.loops.streams.fronts.items ≡ map front_of given.0.listeners) × (p.loops.clock.fronts.items ≡ map front_of given.0.listeners)) }
 {
-    let (first, second, third, fourth, fifth) = seats;
-    let takers = (
-        Caller::new(rt, desk, first),
-        Caller::new(rt, desk, second),
-        Caller::new(rt, desk, third),
-    );
+    let (setup, switches, listening) = given;
+    let rings = Rings::made(alloc, RINGS, switches.recent)?;
+    let (takers, of_console, of_front) = callers(rt, desk, seats, &rings)?;
     let Listening {
         datagrams,
         streams,
@@ -158,17 +159,17 @@ pub(crate) fn prepared<'a, J: Naming, R: Wait + Net + Clock + RandomSource>(
     let outside = SystemOutside::new(rt)?;
     let shared = Shared::made(alloc, setup.servers())?;
     let (sender, second_sender, receiver) = Outbox::made(alloc, JOBS)?;
-    let http = (http, Caller::new(rt, desk, fifth), sender, outside.beside());
+    let http = (http, of_front, sender, outside.beside());
     let front = front_of_http(rt, alloc, http, &sockets, &shared, clients)?;
     let fronts = (
         fronts(alloc, setup.listeners())?,
         fronts(alloc, setup.listeners())?,
     );
-    let words = Words::new(rt, alloc, setup.listeners(), setup.log())?;
+    let words = Words::new(rt, alloc, setup.listeners(), setup.log(), rings)?;
     let console = (
         consoles,
         words,
-        Caller::new(rt, desk, fourth),
+        of_console,
         outside.beside(),
         setup.into_servers(),
     );
@@ -182,6 +183,37 @@ pub(crate) fn prepared<'a, J: Naming, R: Wait + Net + Clock + RandomSource>(
         over,
         front,
     })
+}
+
+/// The handlers of events of the loops, of the console and of the front, each by a seat of its own. The console's ends no query.
+fn callers<'a, J: Naming, R: Wait>(
+    rt: &'a R,
+    desk: &'a Desk<J>,
+    seats: Seats<J>,
+    rings: &Rings,
+) -> Result<(Callers<'a, R, J>, Caller<'a, R, J>, Caller<'a, R, J>), AllocError> {
+    let (first, second, third, fourth, fifth) = seats;
+    let takers = (
+        noting(rt, desk, first, rings, 0)?,
+        noting(rt, desk, second, rings, 1)?,
+        noting(rt, desk, third, rings, 2)?,
+    );
+    let of_front = noting(rt, desk, fifth, rings, 3)?;
+    Ok((takers, Caller::new(rt, desk, fourth), of_front))
+}
+
+/// The handler that calls a desk from a seat, and notes the queries that end by its calls in the ring at a place, where any are noted.
+fn noting<'a, J: Naming, R: Wait>(
+    rt: &'a R,
+    desk: &'a Desk<J>,
+    seat: Seat<J>,
+    rings: &Rings,
+    place: usize,
+) -> Result<Caller<'a, R, J>, AllocError> {
+    if rings.room() == 0 {
+        return Ok(Caller::new(rt, desk, seat));
+    }
+    Ok(Caller::noting(rt, desk, seat, rings.ring(place)?))
 }
 
 /// What the console has alone: its listeners, the words that it answers by itself, its handler of events, its moments and random

@@ -6,13 +6,18 @@ ghost use Rattle.lb_serve.specs.Sentences.{are_sentences};
 use crate::descriptors::{Clients, limit, wanted};
 use crate::fault::Fault;
 use crate::listening::line_of;
+use crate::switches::{Switch, Unknown};
 use lb_command::Protocol;
 use lb_program::Setup;
 use lb_sockets::BindFault;
 use lb_wire::Addr;
 use std::alloc::{AllocError, Global};
+use std::env::Env;
 use std::fmt::Write;
 use std::io;
+
+/// The most unknown words of the environment that are reported.
+const MOST_WORDS: u32 = 16;
 
 /// Sentences that are still to be told.
 #[derive(Debug, Drop)]
@@ -74,9 +79,31 @@ impl Sentences {
         Ok(())
     }
 
+    /// The words of the environment that begin as a switch does and are none.
+    pub(crate) fn warn_of_words<R: Env>(
+        &mut self,
+        alloc: Global,
+        rt: &R,
+    ) -> Result<(), AllocError> {
+        let mut place = 0usize;
+        for _ in 0..MOST_WORDS {
+            let Some((unknown, next)) = Unknown::from(rt, place) else {
+                return Ok(());
+            };
+            if let Some(name) = unknown.name() {
+                self.add(alloc, format!(in alloc; "{name} is no switch")?)?;
+            }
+            place = next;
+        }
+        Ok(())
+    }
+
     /// What an operator should know of a fault.
     pub(crate) fn explain(&mut self, alloc: Global, fault: &Fault) -> Result<(), AllocError> {
         let words = match fault {
+            Fault::Switch(Switch::Recent) => {
+                String::from_str(alloc, "LB_RECENT is no number from 0 to 100,000")?
+            }
             Fault::NoListener => String::from_str(alloc, "no line of the file listens")?,
             Fault::Bind(line, BindFault::Bind { at, error, .. }) => {
                 format!(in alloc; "line {line}: cannot listen at {at}: {error}")?

@@ -10,11 +10,13 @@ ghost use Rattle.lb_serve.specs.Serving.{EndsServe, Says, Served, TellsBehind, s
 
 use crate::desk::serve_at_desk;
 use crate::fault::Fault;
-use crate::listening::listen;
+use crate::listening::{Listening, listen};
 use crate::sentences::Sentences;
+use crate::switches::Switches;
 use lb_core::Balancer;
 use lb_program::{Ended, Setup, Stop, read_setup, write_line};
 use std::alloc::Global;
+use std::env::Env;
 use std::io;
 use std::io::Write;
 use std::net::{Net, TcpListener, TcpStream};
@@ -34,6 +36,7 @@ pub fn serve<
         + Clock
         + RandomSource
         + AllocGlobal
+        + Env
         + Sync,
     W: Write,
     F: Write,
@@ -50,6 +53,7 @@ pub fn serve_told<
         + Net<Listener = TcpListener, Stream = TcpStream>
         + Clock
         + RandomSource
+        + Env
         + Sync,
     W: Write,
     F: Write,
@@ -60,7 +64,7 @@ pub fn serve_told<
         Ok(read) => read,
         Err(stop) => return Ended::tell(Err(stop), faults),
     };
-    warn(alloc, text, &setup, faults);
+    warn(rt, alloc, text, &setup, faults);
     let end = serve_by(rt, alloc, text, setup, balancer, output);
     tell(alloc, end, faults)
 }
@@ -72,6 +76,7 @@ fn serve_by<
         + Net<Listener = TcpListener, Stream = TcpStream>
         + Clock
         + RandomSource
+        + Env
         + Sync,
     W: Write,
 >(
@@ -84,18 +89,32 @@ fn serve_by<
 ) -> Result<(), Fault>
     ensures { Served (snapshot_of balancer) setup.log (W.contents output.old) (W.contents output.new) result }
 {
-    match listen(rt, alloc, text, setup.listeners()) {
-        Ok(listening) => serve_at_desk(rt, alloc, balancer, setup, listening, output),
+    match given(rt, alloc, text, &setup) {
+        Ok((switches, listening)) => {
+            serve_at_desk(rt, alloc, balancer, setup, switches, listening, output)
+        }
         Err(fault) => Err(fault),
     }
 }
 
+/// What the switches ask for, and the addresses of a setup file's text, which are bound then.
+fn given<R: Net<Listener = TcpListener, Stream = TcpStream> + Env>(
+    rt: &R,
+    alloc: Global,
+    text: &str,
+    setup: &Setup,
+) -> Result<(Switches, Listening), Fault> {
+    let switches = Switches::read(rt).map_err(Fault::Switch)?;
+    Ok((switches, listen(rt, alloc, text, setup.listeners())?))
+}
+
 /// Tells what an operator should know before the program serves. Where that can't be told, it is not.
-fn warn<F: Write>(alloc: Global, text: &str, setup: &Setup, faults: &mut F)
+fn warn<R: Env, F: Write>(rt: &R, alloc: Global, text: &str, setup: &Setup, faults: &mut F)
     ensures { Says (F.contents faults.old) (F.contents faults.new) }
 {
     let mut sentences = Sentences::none(alloc);
     let _ = sentences.warn(alloc, text, setup);
+    let _ = sentences.warn_of_words(alloc, rt);
     let _ = write_line(faults, sentences.as_bytes());
 }
 

@@ -11,6 +11,7 @@ use lb_loops::{
     ClockParts, DatagramParts, Datagrams, Ended, LoopFault, Outside, Parts, Posts, StreamParts,
     Streams, Taker, Waker, run_loops,
 };
+use lb_recent::rings_cross_threads;
 use lb_sockets::{PollWaker, wakers_are_shared};
 use mio;
 use std::alloc::Global;
@@ -72,8 +73,9 @@ pub(crate) fn run_beside<
     console: Console<'a, R, T, O>,
     front: Fronting<T, O>,
 ) -> (LoopsEnd<T>, (Console<'a, R, T, O>, FrontEnd<T>)) {
-    // A law, which does nothing.
+    // Laws, which do nothing.
     wakers_are_shared();
+    rings_cross_threads();
     join(
         rt,
         move ||
@@ -117,8 +119,9 @@ fn run_asked<
     console: Console<'a, R, T, O>,
     front: Fronting<T, O>,
 ) -> (Console<'a, R, T, O>, FrontEnd<T>) {
-    // A law, which does nothing.
+    // Laws, which do nothing.
     wakers_are_shared();
+    rings_cross_threads();
     join(
         rt,
         move || console.run(),

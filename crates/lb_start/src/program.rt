@@ -12,6 +12,7 @@ ghost use Rattle.lb_start.specs.declared.program.Mode.{Mode};
 use lb_program::{Ended, Stop, check_input, replay_told, write_line};
 use lb_serve::{serve_told, tell_unreadable};
 use std::alloc::Global;
+use std::env::Env;
 use std::fs::File;
 use std::io;
 use std::io::{ErrorKind, Read, Write};
@@ -61,6 +62,7 @@ pub fn start<
         + Clock
         + RandomSource
         + AllocGlobal
+        + Env
         + Sync,
     R: Read + Drop,
     W: Write,
@@ -96,6 +98,7 @@ fn run<
         + Clock
         + RandomSource
         + AllocGlobal
+        + Env
         + Sync,
     R: Read + Drop,
     W: Write,
@@ -146,6 +149,7 @@ fn serve_file<
         + Clock
         + RandomSource
         + AllocGlobal
+        + Env
         + Sync,
     W: Write,
     F: Write,

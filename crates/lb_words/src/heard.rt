@@ -1,23 +1,26 @@
 //! The words of the console, read from a line that is no command.
 
-ghost use Rattle.std.specs.Prelude.{◌≡◌, IfOk};
-ghost use Rattle.lb_words.specs.Heard.{IsHeard, IsSaid};
-ghost use Rattle.lb_words.specs.declared.heard.Heard.TheVariants.{Fault as Unread};
+ghost use Rattle.std.specs.Prelude.{IfOk};
+ghost use Rattle.lb_words.specs.Heard.{IsHeard, IsListed, IsSaid};
 
 use crate::lines::Lines;
 use crate::lists;
+use crate::recent::{Wanted, fault, recent};
 use crate::setup::setup;
 use crate::told::look;
+use crate::top::{By, top};
+use crate::typed::{next_word, number_of};
 use crate::word::{Word, word_of};
 use lb_command::{CommandFault, FaultKind, Listener};
 use lb_desk::{Desk, Naming};
+use lb_recent::Rings;
 use lb_wire::RuleId;
 use std::alloc::{AllocError, Global};
 use std::sync::Wait;
 use std::time::{Clock, Instant};
 
 /// What `help` says, a line each.
-const HELP: [&str; 32] = [
+const HELP: [&str; 36] = [
     "help                                 these lines",
     "version                              the program, and for how many seconds it has run",
     "quit                                 closes this connection",
@@ -29,6 +32,8 @@ const HELP: [&str; 32] = [
     "caches                               each cache: what it keeps of what it may keep, its hits",
     "counters                             counts of events and answers",
     "setup                                what stands now, as lines of a setup file",
+    "recent [N] [FILTER]                  the last N queries that ended (10), the newest last",
+    "top sources|names|rules [N] [FILTER] what the last queries have most often, and its share",
     "show                                 how much there is of each part",
     "rule add [at PLACE] TERM ACTION      adds a rule, at the end or at a place from 0 on",
     "rule remove ID                       removes the rule with this number",
@@ -44,6 +49,8 @@ const HELP: [&str; 32] = [
     "expunge POOL suffix NAME             removes those for a name and for all names below it",
     "expunge POOL all                     removes all",
     "timeout MS                           how long a query waits for its reply, from now on",
+    "FILTER is dropped, rule ID, server NAME, from ADDR/BITS or under NAME; LB_RECENT=N in the",
+    "  environment says how many queries are noted, and without it none is",
     "TERM is all, suffix(NAME,..), masks(ADDR/BITS,..), qtype(TYPE), maxqps(QPS[,V4BITS,V6BITS]),",
     "  and(TERM,..), or(TERM,..) or not(TERM)",
     "ACTION is allow, drop, rcode(RCODE), pool(POOL), tc, spoof(ADDR,..), none, norecurse or skipcache",
@@ -65,13 +72,15 @@ pub enum Heard {
     Quit,
 }
 
-/// What the words of the console need beside the desk: what the setup file states of listeners and the log, and when serving began.
+/// What the words of the console need beside the desk: what the setup file states of listeners and the log, when serving began, and the
+/// last queries that ended.
 #[derive(Drop)]
 pub struct Words {
     alloc: Global,
     listeners: Vec<Listener>,
     log: u32,
     began: Option<Instant>,
+    rings: Rings,
 }
 
 impl Words {
@@ -81,12 +90,14 @@ impl Words {
         alloc: Global,
         listeners: &[Listener],
         log: u32,
+        rings: Rings,
     ) -> Result<Words, AllocError> {
         Ok(Words {
             alloc,
             listeners: Vec::from_slice(alloc, listeners)?,
             log,
             began: Instant::now(rt).ok(),
+            rings,
         })
     }
 
@@ -103,30 +114,92 @@ impl Words {
         let Some(word) = word_of(bytes) else {
             return Ok(Heard::Nothing);
         };
-        let (_, behind) = next_word(bytes, 0);
-        let (second, end) = next_word(bytes, behind);
+        let (_, first_end) = next_word(bytes, 0);
+        let (second, end) = next_word(bytes, first_end);
         if second == end {
-            return self.say(rt, desk, word);
+            return self.say(rt, desk, word, end);
         }
-        if word != Word::Rules {
-            return Ok(fault_at(second, FaultKind::Extra));
+        match word {
+            Word::Rules => self.one_rule(rt, desk, line, second),
+            Word::Recent => self.recent(rt, desk, line, second),
+            Word::Top => self.top(rt, desk, line, second),
+            _ => Ok(Heard::Fault(fault(second, FaultKind::Extra))),
         }
-        let Some(id) = number_of(bytes.get(second..end).unwrap_or_default()) else {
-            return Ok(fault_at(second, FaultKind::BadNumber));
+    }
+
+    /// What `rules` says of the rule with the number that stands at a place.
+    fn one_rule<R: Wait, J: Naming>(
+        &self,
+        rt: &R,
+        desk: &Desk<J>,
+        line: &str,
+        from: usize,
+    ) -> Result<Heard, AllocError>
+        ensures { IfOk result (λ heard. IsListed heard) }
+    {
+        let bytes = line.as_bytes();
+        let (begin, end) = next_word(bytes, from);
+        let Some(id) = number_of(bytes.get(begin..end).unwrap_or_default()) else {
+            return Ok(Heard::Fault(fault(begin, FaultKind::BadNumber)));
         };
-        let (third, last) = next_word(bytes, end);
-        if third != last {
-            return Ok(fault_at(third, FaultKind::Extra));
+        let (next, last) = next_word(bytes, end);
+        if next != last {
+            return Ok(Heard::Fault(fault(next, FaultKind::Extra)));
         }
         Ok(Heard::Lines(lists::rule(rt, self.alloc, desk, RuleId(id))?))
     }
 
-    /// What a word alone says.
+    /// What `recent` says by what stands from a place on.
+    fn recent<R: Wait + Clock, J: Naming>(
+        &self,
+        rt: &R,
+        desk: &Desk<J>,
+        line: &str,
+        from: usize,
+    ) -> Result<Heard, AllocError>
+        ensures { IfOk result (λ heard. IsListed heard) }
+    {
+        let alloc = self.alloc;
+        let told = look(rt, alloc, desk)?;
+        let wanted = match Wanted::read(line, from, &told) {
+            Ok(wanted) => wanted,
+            Err(fault) => return Ok(Heard::Fault(fault)),
+        };
+        let listeners = self.listeners.as_slice();
+        let now = self.ran(rt);
+        Ok(Heard::Lines(recent(rt, alloc, &self.rings, &wanted, &told, listeners, now)?))
+    }
+
+    /// What `top` says by what stands from a place on.
+    fn top<R: Wait, J: Naming>(
+        &self,
+        rt: &R,
+        desk: &Desk<J>,
+        line: &str,
+        from: usize,
+    ) -> Result<Heard, AllocError>
+        ensures { IfOk result (λ heard. IsListed heard) }
+    {
+        let alloc = self.alloc;
+        let (begin, end) = next_word(line.as_bytes(), from);
+        let Some(by) = By::named(line.get(begin..end).unwrap_or_default()) else {
+            return Ok(Heard::Fault(fault(begin, FaultKind::UnknownWord)));
+        };
+        let told = look(rt, alloc, desk)?;
+        let wanted = match Wanted::read(line, end, &told) {
+            Ok(wanted) => wanted,
+            Err(fault) => return Ok(Heard::Fault(fault)),
+        };
+        Ok(Heard::Lines(top(rt, alloc, &self.rings, by, wanted.most, &wanted.filter)?))
+    }
+
+    /// What a word alone says, with which the line ends at a place.
     fn say<R: Wait + Clock, J: Naming>(
         &self,
         rt: &R,
         desk: &Desk<J>,
         word: Word,
+        end: usize,
     ) -> Result<Heard, AllocError>
         ensures { IfOk result (λ heard. IsSaid word heard) }
     {
@@ -142,17 +215,38 @@ impl Words {
             Word::Caches => lists::caches(alloc, &look(rt, alloc, desk)?)?,
             Word::Counters => lists::counters(alloc, &look(rt, alloc, desk)?, listeners)?,
             Word::Setup => setup(rt, alloc, desk, listeners, self.log)?,
+            Word::Recent => {
+                let now = self.ran(rt);
+                recent(
+                    rt,
+                    alloc,
+                    &self.rings,
+                    &Wanted::usual(),
+                    &look(rt, alloc, desk)?,
+                    listeners,
+                    now,
+                )?
+            }
+            Word::Top => return Ok(Heard::Fault(fault(end, FaultKind::Missing))),
         }))
+    }
+
+    /// For how many milliseconds it has run.
+    fn ran<R: Clock>(&self, rt: &R) -> u64 {
+        match &self.began {
+            Some(began) => began
+                .elapsed(rt)
+                .map(|ran| u64::try_from(ran.as_millis()).unwrap_or(u64::MAX))
+                .unwrap_or(0),
+            None => 0,
+        }
     }
 
     fn version<R: Clock>(&self, rt: &R) -> Result<String, AllocError> {
         let alloc = self.alloc;
         let mut lines = Lines::new(alloc);
         lines.add("curlewrack, not released yet")?;
-        let ran = match &self.began {
-            Some(began) => began.elapsed(rt).map(|ran| ran.as_secs()).unwrap_or(0),
-            None => 0,
-        };
+        let ran = self.ran(rt) / 1_000;
         let line = format!(in alloc; "running for {ran} seconds")?;
         lines.add(line.as_str())?;
         lines.ended()
@@ -165,41 +259,4 @@ fn help(alloc: Global) -> Result<String, AllocError> {
         lines.add(line)?;
     }
     lines.ended()
-}
-
-fn fault_at(place: usize, kind: FaultKind) -> Heard
-    ensures { result ≡ Unread (record { place = place; kind = kind }) }
-{
-    Heard::Fault(CommandFault { place, kind })
-}
-
-/// Where the next word at or after a place begins and ends. If there is none, both are the line's length.
-fn next_word(bytes: &[u8], from: usize) -> (usize, usize) {
-    let rest = bytes.get(from..).unwrap_or_default();
-    let begin = match rest.iter().position(|byte| *byte != b' ') {
-        Some(spaces) => from.saturating_add(spaces),
-        None => return (bytes.len(), bytes.len()),
-    };
-    let rest = bytes.get(begin..).unwrap_or_default();
-    match rest.iter().position(|byte| *byte == b' ') {
-        Some(len) => (begin, begin.saturating_add(len)),
-        None => (begin, bytes.len()),
-    }
-}
-
-/// A number of at most 2^64-1 in decimal digits.
-fn number_of(digits: &[u8]) -> Option<u64> {
-    if digits.is_empty() {
-        return None;
-    }
-    let mut number = 0u64;
-    for digit in digits {
-        if !digit.is_ascii_digit() {
-            return None;
-        }
-        number = number
-            .checked_mul(10)?
-            .checked_add(u64::from(digit - b'0'))?;
-    }
-    Some(number)
 }

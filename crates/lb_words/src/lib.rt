@@ -6,10 +6,13 @@
 mod heard;
 mod lines;
 mod lists;
+mod recent;
 mod rules;
 mod setup;
 mod texts;
 mod told;
+mod top;
+mod typed;
 mod watch;
 mod word;
 

@@ -213,7 +213,7 @@ const EVENTS: [(Count, &str); 6] = [
 ];
 
 /// The counts of answers, by their reasons.
-const ANSWERS: [(Count, &str); 24] = [
+pub(crate) const ANSWERS: [(Count, &str); 24] = [
     (Count::Short, "short"),
     (Count::NotQuery, "notquery"),
     (Count::RuleDropped, "dropped"),
@@ -283,14 +283,19 @@ pub(crate) fn counters(
 
 /// A listener as its line of the setup file has it.
 pub(crate) fn listener_text(alloc: Global, listener: &Listener) -> Result<String, AllocError> {
-    let word = match listener.protocol {
+    let word = protocol_word(listener.protocol);
+    let at = at_text(alloc, &listener.addr, listener.port)?;
+    format!(in alloc; "{word} {at}")
+}
+
+/// The word of a protocol in a line that listens.
+pub(crate) fn protocol_word(protocol: Protocol) -> &'static str {
+    match protocol {
         Protocol::Udp => "udp",
         Protocol::Tcp => "tcp",
         Protocol::Doh => "doh",
         Protocol::Console => "console",
-    };
-    let at = at_text(alloc, &listener.addr, listener.port)?;
-    format!(in alloc; "{word} {at}")
+    }
 }
 
 /// An address and a port, as they are typed.

@@ -34,7 +34,7 @@ impl Extent {
     }
 }
 
-/// The term and the action of a rule, as they are typed behind `rule add`.
+/// The term and the action of a rule, as they are typed after `rule add`.
 pub(crate) fn rule_text(
     alloc: Global,
     rule: &Rule,
@@ -48,7 +48,7 @@ pub(crate) fn rule_text(
     Ok(text)
 }
 
-/// Puts a term behind a text.
+/// Puts a term after a text.
 #[cycle(push_term)]
 fn push_term(
     alloc: Global,
@@ -76,7 +76,7 @@ fn push_term(
     }
 }
 
-/// Puts terms behind a text, after their word and a parenthesis.
+/// Puts terms after a text, after their word and a parenthesis.
 #[cycle(push_term)]
 fn push_terms(
     alloc: Global,
@@ -95,7 +95,7 @@ fn push_terms(
     text.push_str(")")
 }
 
-/// Puts a set of names behind a text.
+/// Puts a set of names after a text.
 fn push_names(
     alloc: Global,
     text: &mut String,
@@ -116,7 +116,7 @@ fn push_names(
     text.push_str(")")
 }
 
-/// Puts a group of masks behind a text.
+/// Puts a group of masks after a text.
 fn push_masks(
     alloc: Global,
     text: &mut String,
@@ -138,7 +138,7 @@ fn push_masks(
     text.push_str(")")
 }
 
-/// Puts how many members are left out behind a text.
+/// Puts how many members are left out after a text.
 fn push_more(
     alloc: Global,
     text: &mut String,
@@ -153,7 +153,7 @@ fn push_more(
     text.push_str(words.as_str())
 }
 
-/// Puts a mask behind a text. The length of a whole address is left out.
+/// Puts a mask after a text. The length of a whole address is left out.
 fn push_mask(alloc: Global, text: &mut String, mask: &Mask) -> Result<(), AllocError> {
     let network = mask.network();
     push_addr(alloc, text, &network)?;
@@ -168,7 +168,7 @@ fn push_mask(alloc: Global, text: &mut String, mask: &Mask) -> Result<(), AllocE
     push_number(alloc, text, u64::from(mask.length()))
 }
 
-/// Puts a rate behind a text. Lengths that hold anyway are left out.
+/// Puts a rate after a text. Lengths that hold anyway are left out.
 fn push_max_qps(
     alloc: Global,
     text: &mut String,
@@ -184,7 +184,7 @@ fn push_max_qps(
     text.push_str(words.as_str())
 }
 
-/// Puts an action behind a text.
+/// Puts an action after a text.
 fn push_action(
     alloc: Global,
     text: &mut String,

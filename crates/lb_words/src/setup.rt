@@ -122,7 +122,7 @@ fn server_line(alloc: Global, backend: &Backend, pools: &[Pool]) -> Result<Strin
     Ok(line)
 }
 
-/// Puts an option and its number behind a line.
+/// Puts an option and its number after a line.
 fn push_option(
     alloc: Global,
     line: &mut String,
@@ -133,7 +133,7 @@ fn push_option(
     line.push_str(words.as_str())
 }
 
-/// Puts the pools of a server behind a line, unless it stands in the default pool alone.
+/// Puts the pools of a server after a line, unless it stands in the default pool alone.
 fn push_pools(line: &mut String, backend: &Backend, pools: &[Pool]) -> Result<(), AllocError> {
     let own = backend.loaded.server.pools.as_slice();
     if own.len() == 1 && own.iter().all(|pool| pool.0 == 0) {

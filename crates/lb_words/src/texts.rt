@@ -15,7 +15,7 @@ const RCODES: [&str; 6] = [
     "NOERROR", "FORMERR", "SERVFAIL", "NXDOMAIN", "NOTIMP", "REFUSED",
 ];
 
-/// Puts a type behind a text: its name, or its number.
+/// Puts a type after a text: its name, or its number.
 pub(crate) fn push_type(
     alloc: Global,
     text: &mut String,
@@ -29,7 +29,7 @@ pub(crate) fn push_type(
     push_number(alloc, text, u64::from(qtype.0))
 }
 
-/// Puts an RCODE behind a text.
+/// Puts an RCODE after a text.
 pub(crate) fn push_rcode(text: &mut String, rcode: Rcode) -> Result<(), AllocError> {
     for name in RCODES {
         if Rcode::from_name(name.as_bytes()) == Some(rcode) {
@@ -39,13 +39,13 @@ pub(crate) fn push_rcode(text: &mut String, rcode: Rcode) -> Result<(), AllocErr
     text.push_str("?")
 }
 
-/// Puts a number behind a text.
+/// Puts a number after a text.
 pub(crate) fn push_number(alloc: Global, text: &mut String, number: u64) -> Result<(), AllocError> {
     let digits = format!(in alloc; "{number}")?;
     text.push_str(digits.as_str())
 }
 
-/// Puts a name behind a text, without the dot at its end. The root is a dot.
+/// Puts a name after a text, without the dot at its end. The root is a dot.
 pub(crate) fn push_name(text: &mut String, name: &Name) -> Result<(), AllocError> {
     let Some(written) = name.write_text() else {
         return text.push_str("?");
@@ -57,7 +57,7 @@ pub(crate) fn push_name(text: &mut String, name: &Name) -> Result<(), AllocError
     text.push_str(written.strip_suffix(".").unwrap_or(written))
 }
 
-/// Puts an address behind a text, as short as it can be. An IPv6 address has its longest run of groups of zeros, of several the first,
+/// Puts an address after a text, as short as it can be. An IPv6 address has its longest run of groups of zeros, of several the first,
 /// as `::`, even if it is one group, and no part of it is written in decimal.
 pub(crate) fn push_addr(alloc: Global, text: &mut String, addr: &Addr) -> Result<(), AllocError> {
     match addr {

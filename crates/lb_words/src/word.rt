@@ -16,6 +16,8 @@ pub enum Word {
     Caches,
     Counters,
     Setup,
+    Recent,
+    Top,
 }
 
 /// The word of the console that a line begins with.
@@ -101,6 +103,10 @@ fn word_named(text: &[u8]) -> Option<Word>
         Word::Counters
     } else if text == "setup".as_bytes() {
         Word::Setup
+    } else if text == "recent".as_bytes() {
+        Word::Recent
+    } else if text == "top".as_bytes() {
+        Word::Top
     } else {
         return None;
     })

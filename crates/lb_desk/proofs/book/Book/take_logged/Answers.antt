@@ -40,3 +40,6 @@ pub returns-clause-counts : goal.returns-clause-counts
 returns-clause-counts g c =
     rw (← c.self.view_is)
     (record { raised = c.step_counted-answer.ensures.counts; numbers = (c.step_counted-answer.new.noted, c.step_counted-answer.ensures.noted, c.step_counted-answer.ensures.numbers) })
+
+pub returns-clause-noted : goal.returns-clause-noted
+returns-clause-noted g c = rw (← c.self.view_is) c.step_counted-answer.ensures.noted
