@@ -166,7 +166,8 @@ impl Balancer {
     }
 
     /// The same step. It counts the event and its answer, and notes what it leaves beside the plain state. If memory for a count
-    /// is refused, the counts by number say so from then on.
+    /// is refused, the counts by number say so from then on. It is made in line, as an answer is then looked at where it stands.
+    #[inline(always)]
     pub fn step_counted(&mut self, event: Event, tally: &mut Tally, noted: &mut Noted) -> Answer
         ensures answers { Answers self.old event result self.new }
         ensures noted { IsNoted self.old event result noted.new }
@@ -182,7 +183,6 @@ impl Balancer {
     }
 
     /// The same step. It notes what it leaves beside the plain state.
-    #[inline(always)]
     pub fn step_noted(&mut self, event: Event, noted: &mut Noted) -> Answer
         ensures answers { Answers self.old event result self.new }
         ensures noted { IsNoted self.old event result noted.new }

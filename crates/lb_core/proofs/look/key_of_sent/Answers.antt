@@ -1,4 +1,5 @@
-use Rattle.lb_core.proofs.KeysToSend.{key_sent, named_sent, viewed}
+use Rattle.lb_cache.specs.Caches.{skips_of}
+use Rattle.lb_core.proofs.KeysToSend.{key_by, key_sent, named_sent, viewed}
 use Rattle.lb_core.proofs.look.key_of_sent.Goals as goal
 
 pub key_of-key-requires-clause-view : goal.key_of-key-requires-clause-view
@@ -6,8 +7,9 @@ key_of-key-requires-clause-view c = viewed c.cleared_is_laid.ensures c.args.no_r
 
 pub returns-clause-key : goal.returns-clause-key
 returns-clause-key c =
-    key_sent c.cleared_is_laid.ensures c.args.skips.now c.args.kind c.args.no_recurse c.args.bytes.now c.clear_if.new.bytes c.key_of-key.result c.clear_if.ensures c.key_of-key.ensures
+    key_by c.codes_for-skips.result.now (skips_of c.args.cache c.args.upstream.now.caches) c.args.kind c.args.no_recurse c.args.bytes.now c.args.view.now c.key_of-key.result c.codes_for-skips.ensures
+    (key_sent c.cleared_is_laid.ensures c.codes_for-skips.result.now c.args.kind c.args.no_recurse c.args.bytes.now c.clear_if.new.bytes c.key_of-key.result c.clear_if.ensures c.key_of-key.ensures)
 
 pub returns-clause-name : goal.returns-clause-name
 returns-clause-name c =
-    named_sent c.key_has_name.ensures c.cleared_is_laid.ensures c.args.skips.now c.args.kind c.args.no_recurse c.args.bytes.now c.clear_if.new.bytes c.args.view.now c.key_of-key.result c.requires.view c.clear_if.ensures c.key_of-key.ensures
+    named_sent c.key_has_name.ensures c.cleared_is_laid.ensures c.codes_for-skips.result.now c.args.kind c.args.no_recurse c.args.bytes.now c.clear_if.new.bytes c.args.view.now c.key_of-key.result c.requires.view c.clear_if.ensures c.key_of-key.ensures
