@@ -7,6 +7,7 @@ ghost use Rattle.lb_serve.specs.Serving.{Closes, Served, closed_text, output_end
 
 use crate::fault::Fault;
 use crate::listening::Listening;
+use crate::log::{LogFile, keep};
 use crate::parts::{DeskConsole, DeskFront, Loops, Runners, Seats, prepared};
 use crate::switches::Switches;
 use crate::threads::{FrontEnd, LoopsEnd, Over, run_beside};
@@ -36,6 +37,16 @@ const SEATS: u8 = 5;
 /// What a setup file states, what the switches ask for, and the sockets that listen.
 pub(crate) type Given = (Setup, Switches, Listening);
 
+/// What a setup file states, what the switches ask for, the sockets that listen, and the file to which the log is written once it
+/// was found true.
+#[derive(Drop)]
+pub(crate) struct Ready<L> {
+    pub(crate) setup: Setup,
+    pub(crate) switches: Switches,
+    pub(crate) listening: Listening,
+    pub(crate) log: Option<LogFile<L>>,
+}
+
 /// What has run at a desk.
 type Ran<'a, R, J> = (
     LoopsEnd<Caller<'a, R, J>>,
@@ -62,21 +73,13 @@ pub(crate) fn serve_at_desk<
         + RandomSource
         + Sync,
     W: Write,
->(
-    rt: &R,
-    alloc: Global,
-    balancer: Balancer,
-    setup: Setup,
-    switches: Switches,
-    listening: Listening,
-    output: &mut W,
-) -> Result<(), Fault>
-    ensures { Served (snapshot_of balancer) setup.log (W.contents output.old) (W.contents output.new) result }
+    L: Write + Drop,
+>(rt: &R, alloc: Global, balancer: Balancer, ready: Ready<L>, output: &mut W) -> Result<(), Fault>
+    ensures { Served (snapshot_of balancer) ready.setup.log (W.contents output.old) (W.contents output.new) result }
 {
-    let limit = u64::from(setup.log());
+    let limit = u64::from(ready.setup.log());
     let blank = Blank::new(u64::from(SEATS));
-    let given = (setup, switches, listening);
-    serve_named::<Brand, R, W>(rt, alloc, blank, balancer, limit, given, output)
+    serve_named::<Brand, R, W, L>(rt, alloc, blank, balancer, limit, ready, output)
 }
 
 fn serve_named<
@@ -88,13 +91,14 @@ fn serve_named<
         + RandomSource
         + Sync,
     W: Write,
+    L: Write + Drop,
 >(
     rt: &R,
     alloc: Global,
     blank: Blank,
     balancer: Balancer,
     limit: u64,
-    given: Given,
+    ready: Ready<L>,
     output: &mut W,
 ) -> Result<(), Fault>
     requires name { blank.name ≡ J.name }
@@ -108,8 +112,15 @@ fn serve_named<
     let Some(five) = taken(&mut seats) else {
         return Err(Fault::Closing(CloseFault::MissingSeat));
     };
+    let Ready {
+        setup,
+        switches,
+        listening,
+        log,
+    } = ready;
+    let given = (setup, switches, listening);
     match run_at_desk(rt, alloc, &desk, five, given, output) {
-        Ok(left) => close(desk, seats, left, output),
+        Ok(left) => close(alloc, desk, seats, left, log, output),
         Err(fault) => Err(fault),
     }
 }
@@ -154,11 +165,14 @@ fn gathered<J: Naming>(
     Ok(seats)
 }
 
-/// Closes the desk, and reports how many calls it had: on the output, and to the client that said stop.
-fn close<J: Naming, W: Write>(
+/// Closes the desk, leaves its log in the file that is asked for, and reports how many calls it had: on the output, and to the client that
+/// said stop.
+fn close<J: Naming, W: Write, L: Write + Drop>(
+    alloc: Global,
     desk: Desk<J>,
     seats: Vec<Seat<J>>,
     left: Left<J>,
+    log: Option<LogFile<L>>,
     output: &mut W,
 ) -> Result<(), Fault>
     ensures { (old : Option (List ℕ)) → Appends old (W.contents output.old) ready_text → Served J.opening J.limit old (W.contents output.new) result }
@@ -168,18 +182,26 @@ fn close<J: Naming, W: Write>(
         client,
     } = left;
     let seats = gathered(seats, five)?;
-    match counted(desk, seats) {
+    match counted(alloc, desk, seats, log) {
         Ok(count) => tell_closed(count, client, output),
         Err(fault) => Err(fault),
     }
 }
 
-/// How many calls a desk had that is closed with these seats.
-fn counted<J: Naming>(desk: Desk<J>, seats: Vec<Seat<J>>) -> Result<u64, Fault>
+/// How many calls a desk had that is closed with these seats. Its log is written to the file.
+fn counted<J: Naming, L: Write + Drop>(
+    alloc: Global,
+    desk: Desk<J>,
+    seats: Vec<Seat<J>>,
+    log: Option<LogFile<L>>,
+) -> Result<u64, Fault>
     ensures closes { IfOk result (λ count. Closes J.opening J.limit count) }
 {
     match desk.close(seats) {
-        Ok(audit) => Ok(audit.count),
+        Ok(audit) => {
+            keep(alloc, log, audit.log.as_slice());
+            Ok(audit.count)
+        }
         Err(fault) => Err(Fault::Closing(fault)),
     }
 }

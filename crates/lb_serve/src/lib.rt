@@ -11,6 +11,7 @@ mod gate;
 mod halt;
 mod hears;
 mod listening;
+mod log;
 mod notices;
 mod opening;
 mod operator;

@@ -113,6 +113,11 @@ impl Notices {
     }
 }
 
+/// Says a sentence when nothing is served any more, if standard error takes it and there is memory for it.
+pub(crate) fn say_last(alloc: Global, words: &str) {
+    Notices::new(alloc).say(words);
+}
+
 /// Whether standard error takes a sentence now.
 fn takes() -> bool {
     let mut asked = [pollfd {

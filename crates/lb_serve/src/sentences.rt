@@ -104,6 +104,15 @@ impl Sentences {
             Fault::Switch(Switch::Recent) => {
                 String::from_str(alloc, "LB_RECENT is no number from 0 to 100,000")?
             }
+            Fault::Switch(Switch::LogName) => {
+                String::from_str(alloc, "LB_LOG is no name of a file")?
+            }
+            Fault::Switch(Switch::Log(kind)) => {
+                format!(in alloc; "LB_LOG: the file cannot be made: {kind}")?
+            }
+            Fault::Switch(Switch::LogAnswers) => {
+                String::from_str(alloc, "LB_LOG_ANSWERS is neither 0 nor 1")?
+            }
             Fault::NoListener => String::from_str(alloc, "no line of the file listens")?,
             Fault::Bind(line, BindFault::Bind { at, error, .. }) => {
                 format!(in alloc; "line {line}: cannot listen at {at}: {error}")?

@@ -1,6 +1,6 @@
 //! `lb serve`.
 
-ghost use Rattle.std.specs.Prelude.{List, Option, Result, ◌≡◌, ℕ};
+ghost use Rattle.std.specs.Prelude.{IfOk, List, Option, Result, ◌≡◌, ℕ};
 ghost use Rattle.std.specs.declared.io.Error.{Error};
 ghost use Rattle.lb_core.specs.Snapshot.{snapshot_of};
 ghost use Rattle.lb_program.specs.Faults.{Tells, stop_text};
@@ -8,15 +8,17 @@ ghost use Rattle.lb_program.specs.declared.faults.Stop.TheVariants.{Input};
 ghost use Rattle.lb_serve.specs.Fault.{fault_status, fault_text};
 ghost use Rattle.lb_serve.specs.Serving.{EndsServe, Says, Served, TellsBehind, serve_status, serve_text};
 
-use crate::desk::serve_at_desk;
+use crate::desk::{Ready, serve_at_desk};
 use crate::fault::Fault;
-use crate::listening::{Listening, listen};
+use crate::listening::listen;
+use crate::log;
 use crate::sentences::Sentences;
 use crate::switches::Switches;
 use lb_core::Balancer;
 use lb_program::{Ended, Setup, Stop, read_setup, write_line};
 use std::alloc::Global;
 use std::env::Env;
+use std::fs::Files;
 use std::io;
 use std::io::Write;
 use std::net::{Net, TcpListener, TcpStream};
@@ -30,7 +32,8 @@ use std::time::Clock;
 /// a line that does not read, or whose edit is refused; 3 where the system does not give what is needed, or memory is wanting; 4 where the
 /// calls' log differs from what the callers kept. What ended it early is told in one line on `faults`, behind sentences that begin with `lb: `.
 pub fn serve<
-    R: Threads
+    R: Files
+        + Threads
         + Wait
         + Net<Listener = TcpListener, Stream = TcpStream>
         + Clock
@@ -48,7 +51,8 @@ pub fn serve<
 
 /// The same, and whether what ended it early was told.
 pub fn serve_told<
-    R: Threads
+    R: Files
+        + Threads
         + Wait
         + Net<Listener = TcpListener, Stream = TcpStream>
         + Clock
@@ -71,7 +75,8 @@ pub fn serve_told<
 
 /// Binds the addresses of a setup file's text, and serves by what it states.
 fn serve_by<
-    R: Threads
+    R: Files
+        + Threads
         + Wait
         + Net<Listener = TcpListener, Stream = TcpStream>
         + Clock
@@ -89,23 +94,30 @@ fn serve_by<
 ) -> Result<(), Fault>
     ensures { Served (snapshot_of balancer) setup.log (W.contents output.old) (W.contents output.new) result }
 {
-    match given(rt, alloc, text, &setup) {
-        Ok((switches, listening)) => {
-            serve_at_desk(rt, alloc, balancer, setup, switches, listening, output)
-        }
+    match ready(rt, alloc, text, setup) {
+        Ok(ready) => serve_at_desk(rt, alloc, balancer, ready, output),
         Err(fault) => Err(fault),
     }
 }
 
-/// What the switches ask for, and the addresses of a setup file's text, which are bound then.
-fn given<R: Net<Listener = TcpListener, Stream = TcpStream> + Env>(
+/// What is there before a setup file is served: what the switches ask for, and the addresses of its text, which are bound then.
+fn ready<R: Net<Listener = TcpListener, Stream = TcpStream> + Env + Files>(
     rt: &R,
     alloc: Global,
     text: &str,
-    setup: &Setup,
-) -> Result<(Switches, Listening), Fault> {
-    let switches = Switches::read(rt).map_err(Fault::Switch)?;
-    Ok((switches, listen(rt, alloc, text, setup.listeners())?))
+    setup: Setup,
+) -> Result<Ready<R::File>, Fault>
+    ensures { IfOk result (λ ready. ready.setup ≡ setup) }
+{
+    let switches = Switches::read(rt, alloc)?;
+    let listening = listen(rt, alloc, text, setup.listeners())?;
+    let log = log::made(rt, alloc, text, &switches)?;
+    Ok(Ready {
+        setup,
+        switches,
+        listening,
+        log,
+    })
 }
 
 /// Tells what an operator should know before the program serves. Where that can't be told, it is not.

@@ -1,12 +1,27 @@
 //! Switches: words of the environment that begin with `LB_`, read once before the program serves.
 
+use crate::fault::Fault;
+use std::alloc::Global;
 use std::env::{Env, FillError};
+use std::io::ErrorKind;
 
 /// What the name of a switch begins with.
 const BEGIN: &[u8] = b"LB_";
 
 /// How many of the last queries are noted.
 const RECENT: &str = "LB_RECENT";
+
+/// The file in which the calls of the log are left.
+const LOG: &str = "LB_LOG";
+
+/// Whether their answers are left there too.
+const ANSWERS: &str = "LB_LOG_ANSWERS";
+
+/// The names of all switches.
+const NAMES: [&str; 3] = [RECENT, LOG, ANSWERS];
+
+/// The most bytes of a file's name.
+const NAME: usize = 4_096;
 
 /// The most queries that are noted.
 const MOST_RECENT: u32 = 100_000;
@@ -21,10 +36,14 @@ const ENTRY: usize = 256;
 const ENTRIES: usize = 65_536;
 
 /// What the switches ask for.
-#[derive(Clone, Copy, Debug, PartialEq, Eq)]
+#[derive(Debug, Drop)]
 pub(crate) struct Switches {
     /// How many of the last queries are noted; none if it is 0.
     pub(crate) recent: u32,
+    /// The name of the file in which the calls of the log are left.
+    pub(crate) log: Option<String>,
+    /// Whether their answers are left there too.
+    pub(crate) has_answers: bool,
 }
 
 /// A switch that asks for what can't be.
@@ -32,21 +51,54 @@ pub(crate) struct Switches {
 pub enum Switch {
     /// `LB_RECENT` is no number from 0 to 100,000.
     Recent,
+    /// `LB_LOG` is no name of a file.
+    LogName,
+    /// The file of `LB_LOG` can't be made.
+    Log(ErrorKind),
+    /// `LB_LOG_ANSWERS` is neither 0 nor 1.
+    LogAnswers,
 }
 
 impl Switches {
     /// Those of the environment.
-    pub(crate) fn read<R: Env>(rt: &R) -> Result<Switches, Switch> {
-        let mut digits = [0u8; DIGITS];
-        let recent = match rt.var(RECENT, &mut digits) {
-            Ok(len) => match number_of(digits.get(..len).unwrap_or_default()) {
-                Some(number) if number <= MOST_RECENT => number,
-                _ => return Err(Switch::Recent),
-            },
-            Err(FillError::NotPresent) => 0,
-            Err(FillError::TooLong) => return Err(Switch::Recent),
+    pub(crate) fn read<R: Env>(rt: &R, alloc: Global) -> Result<Switches, Fault> {
+        let Some(recent) = number_in(rt, RECENT, MOST_RECENT) else {
+            return Err(Fault::Switch(Switch::Recent));
         };
-        Ok(Switches { recent })
+        let Some(answers) = number_in(rt, ANSWERS, 1) else {
+            return Err(Fault::Switch(Switch::LogAnswers));
+        };
+        Ok(Switches {
+            recent,
+            log: log_name(rt, alloc)?,
+            has_answers: answers == 1,
+        })
+    }
+}
+
+/// The number of a switch, which is at most so great; 0 if it is not set.
+fn number_in<R: Env>(rt: &R, name: &str, most: u32) -> Option<u32> {
+    let mut digits = [0u8; DIGITS];
+    match rt.var(name, &mut digits) {
+        Ok(len) => {
+            let number = number_of(digits.get(..len).unwrap_or_default())?;
+            if number <= most { Some(number) } else { None }
+        }
+        Err(FillError::NotPresent) => Some(0),
+        Err(FillError::TooLong) => None,
+    }
+}
+
+/// The name of the file in which the calls of the log are left, if there is to be one.
+fn log_name<R: Env>(rt: &R, alloc: Global) -> Result<Option<String>, Fault> {
+    let mut bytes = [0u8; NAME];
+    match rt.var(LOG, &mut bytes) {
+        Ok(len) => match str::from_utf8(bytes.get(..len).unwrap_or_default()) {
+            Ok(name) if !name.is_empty() => Ok(Some(String::from_str(alloc, name)?)),
+            _ => Err(Fault::Switch(Switch::LogName)),
+        },
+        Err(FillError::NotPresent) => Ok(None),
+        Err(FillError::TooLong) => Err(Fault::Switch(Switch::LogName)),
     }
 }
 
@@ -82,7 +134,7 @@ impl Unknown {
             match rt.var_at(at, &mut entry) {
                 Ok(len) => {
                     let name = name_of(entry.get(..len).unwrap_or_default());
-                    if name.starts_with(BEGIN) && name != RECENT.as_bytes() {
+                    if name.starts_with(BEGIN) && !is_switch(name) {
                         let len = name.len();
                         return Some((Unknown { entry, len }, at.saturating_add(1)));
                     }
@@ -98,6 +150,11 @@ impl Unknown {
     pub(crate) fn name(&self) -> Option<&str> {
         str::from_utf8(self.entry.get(..self.len)?).ok()
     }
+}
+
+/// Whether a switch has this name.
+fn is_switch(name: &[u8]) -> bool {
+    NAMES.iter().any(|switch| switch.as_bytes() == name)
 }
 
 /// The name of a word of the environment: what stands before its first `=`.

@@ -3,6 +3,8 @@
 //! words answer; none speaks of the texts.
 #![tactic(auto)]
 
+mod command;
+mod event;
 mod heard;
 mod lines;
 mod lists;
@@ -16,6 +18,7 @@ mod typed;
 mod watch;
 mod word;
 
+pub use event::{event_line, has_lacked};
 pub use heard::{Heard, Words};
 pub use watch::Watch;
 pub use word::{Word, word_of};

@@ -1,11 +1,14 @@
 //! Rules, as an operator types them.
 
-use crate::texts::{pool_named, push_addr, push_name, push_number, push_rcode, push_type};
+use crate::texts::{
+    pool_named, pool_word, push_addr, push_name, push_number, push_rcode, push_type,
+};
 use lb_chain::{Action, Rule};
+use lb_core::{StatedAction, StatedRule};
 use lb_masks::{Group, Mask};
 use lb_servers::Pool;
 use lb_terms::{Names, Term};
-use lb_wire::Addr;
+use lb_wire::{Addr, Rcode};
 use std::alloc::{AllocError, Global};
 
 /// How many members of a set a short text has.
@@ -194,29 +197,56 @@ fn push_action(
     match action {
         Action::Allow => text.push_str("allow"),
         Action::Drop => text.push_str("drop"),
-        Action::Rcode(rcode) => {
-            text.push_str("rcode(")?;
-            push_rcode(text, *rcode)?;
-            text.push_str(")")
-        }
-        Action::Pool(pool) => {
-            text.push_str("pool(")?;
-            text.push_str(pool_named(pools, *pool))?;
-            text.push_str(")")
-        }
+        Action::Rcode(rcode) => push_rcode_action(text, *rcode),
+        Action::Pool(pool) => push_pool_action(text, pool_named(pools, *pool)),
         Action::Tc => text.push_str("tc"),
-        Action::Spoof(addrs) => {
-            text.push_str("spoof(")?;
-            for (place, addr) in addrs.as_slice().iter().enumerate() {
-                if place > 0 {
-                    text.push_str(",")?;
-                }
-                push_addr(alloc, text, addr)?;
-            }
-            text.push_str(")")
-        }
+        Action::Spoof(addrs) => push_spoof(alloc, text, addrs.as_slice()),
         Action::None => text.push_str("none"),
         Action::NoRecurse => text.push_str("norecurse"),
         Action::SkipCache => text.push_str("skipcache"),
     }
+}
+
+/// Puts a rule after a text as a command states it: its pool by name.
+pub(crate) fn push_stated(
+    alloc: Global,
+    text: &mut String,
+    rule: &StatedRule,
+) -> Result<(), AllocError> {
+    push_term(alloc, text, rule.term.as_term(), Extent::Whole)?;
+    text.push_str(" ")?;
+    match &rule.action {
+        StatedAction::Allow => text.push_str("allow"),
+        StatedAction::Drop => text.push_str("drop"),
+        StatedAction::Rcode(rcode) => push_rcode_action(text, *rcode),
+        StatedAction::Pool(name) => push_pool_action(text, pool_word(name)),
+        StatedAction::Tc => text.push_str("tc"),
+        StatedAction::Spoof(addrs) => push_spoof(alloc, text, addrs.as_slice()),
+        StatedAction::None => text.push_str("none"),
+        StatedAction::NoRecurse => text.push_str("norecurse"),
+        StatedAction::SkipCache => text.push_str("skipcache"),
+    }
+}
+
+fn push_rcode_action(text: &mut String, rcode: Rcode) -> Result<(), AllocError> {
+    text.push_str("rcode(")?;
+    push_rcode(text, rcode)?;
+    text.push_str(")")
+}
+
+fn push_pool_action(text: &mut String, name: &str) -> Result<(), AllocError> {
+    text.push_str("pool(")?;
+    text.push_str(name)?;
+    text.push_str(")")
+}
+
+fn push_spoof(alloc: Global, text: &mut String, addrs: &[Addr]) -> Result<(), AllocError> {
+    text.push_str("spoof(")?;
+    for (place, addr) in addrs.iter().enumerate() {
+        if place > 0 {
+            text.push_str(",")?;
+        }
+        push_addr(alloc, text, addr)?;
+    }
+    text.push_str(")")
 }

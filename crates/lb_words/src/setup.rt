@@ -123,7 +123,7 @@ fn server_line(alloc: Global, backend: &Backend, pools: &[Pool]) -> Result<Strin
 }
 
 /// Puts an option and its number after a line.
-fn push_option(
+pub(crate) fn push_option(
     alloc: Global,
     line: &mut String,
     option: &str,
