@@ -15,8 +15,8 @@ dnssec_ok = 2 ^ 15
 abbrev pub payload_size : ℕ
 payload_size = 1232
 
--- a record of type 41 is an OPT. This goes further than RFC 6891 section 6.1.1, which has it among the additional
--- records and with the root as its owner: here it counts in any section and whatever its owner
+-- a record of type 41 is an OPT. RFC 6891 has it among the additional records (section 6.1.1), and
+-- with the root as its owner (section 6.1.2). Here it counts in any section and whatever its owner
 abbrev pub is_opt : Record → Bool
 is_opt r = r.rtype == opt_type
 

@@ -105,7 +105,7 @@ fn data_to_shed(bytes: &[u8], view: &QueryView, skips: &[u16]) -> Option<usize>
 {
     // a law: the call does nothing
     one_message();
-    if view.opt.is_none() || skips.is_empty() {
+    if skips.is_empty() || view.opt.is_none() {
         return None;
     }
     listed_data(bytes, view, skips)

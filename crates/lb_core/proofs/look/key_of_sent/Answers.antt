@@ -1,15 +1,14 @@
 use Rattle.lb_cache.specs.Caches.{skips_of}
-use Rattle.lb_core.proofs.KeysToSend.{key_by, key_sent, named_sent, viewed}
+use Rattle.lb_core.proofs.KeysToSend.{key_sent, named_sent, viewed}
 use Rattle.lb_core.proofs.look.key_of_sent.Goals as goal
 
-pub key_of-key-requires-clause-view : goal.key_of-key-requires-clause-view
-key_of-key-requires-clause-view c = viewed c.cleared_is_laid.ensures c.args.no_recurse c.args.bytes.now c.clear_if.new.bytes c.args.view.now c.requires.view c.clear_if.ensures
+pub key_by_list-key-requires-clause-view : goal.key_by_list-key-requires-clause-view
+key_by_list-key-requires-clause-view c = viewed c.cleared_is_laid.ensures c.args.no_recurse c.args.bytes.now c.clear_if.new.bytes c.args.view.now c.requires.view c.clear_if.ensures
 
 pub returns-clause-key : goal.returns-clause-key
 returns-clause-key c =
-    key_by c.codes_for-skips.result.now (skips_of c.args.cache c.args.upstream.now.caches) c.args.kind c.args.no_recurse c.args.bytes.now c.args.view.now c.key_of-key.result c.codes_for-skips.ensures
-    (key_sent c.cleared_is_laid.ensures c.codes_for-skips.result.now c.args.kind c.args.no_recurse c.args.bytes.now c.clear_if.new.bytes c.key_of-key.result c.clear_if.ensures c.key_of-key.ensures)
+    (key_sent c.cleared_is_laid.ensures (skips_of c.args.cache c.args.upstream.now.caches) c.args.kind c.args.no_recurse c.args.bytes.now c.clear_if.new.bytes c.key_by_list-key.result c.clear_if.ensures c.key_by_list-key.ensures)
 
 pub returns-clause-name : goal.returns-clause-name
 returns-clause-name c =
-    named_sent c.key_has_name.ensures c.cleared_is_laid.ensures c.codes_for-skips.result.now c.args.kind c.args.no_recurse c.args.bytes.now c.clear_if.new.bytes c.args.view.now c.key_of-key.result c.requires.view c.clear_if.ensures c.key_of-key.ensures
+    named_sent c.key_has_name.ensures c.cleared_is_laid.ensures (skips_of c.args.cache c.args.upstream.now.caches) c.args.kind c.args.no_recurse c.args.bytes.now c.clear_if.new.bytes c.args.view.now c.key_by_list-key.result c.requires.view c.clear_if.ensures c.key_by_list-key.ensures
