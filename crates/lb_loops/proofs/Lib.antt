@@ -1,2 +1,3 @@
 mod Continuing
 mod Crosses
+mod GoingOn

@@ -23,7 +23,7 @@ pub(crate) struct Around<G, W: Waker> {
     pub(crate) gate: G,
     pub(crate) stop: Arc<AtomicBool>,
     pub(crate) sent: LastSent,
-    pub(crate) datagrams: W,
+    pub(crate) datagrams: Vec<W>,
     pub(crate) streams: W,
     pub(crate) clock: W,
 }
@@ -37,7 +37,9 @@ impl<G, W: Waker> Around<G, W> {
     /// Ends all loops: the flag first, and then each that waits is woken.
     pub(crate) fn end(&self) {
         self.stop.store(true, Ordering::SeqCst);
-        self.datagrams.wake();
+        for waker in self.datagrams.iter() {
+            waker.wake();
+        }
         self.streams.wake();
         self.clock.wake();
     }

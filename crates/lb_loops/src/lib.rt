@@ -9,6 +9,7 @@ mod fault;
 mod last_sent;
 mod laws;
 mod parts;
+mod row;
 mod running;
 mod threads;
 

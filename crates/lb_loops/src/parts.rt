@@ -5,7 +5,7 @@ use lb_outbox::{Receiver, Sender};
 use std::sync::atomic::AtomicBool;
 use std::sync::{Arc, Mutex};
 
-/// What the loop of datagrams is made of.
+/// What a loop of datagrams is made of.
 #[derive(Drop)]
 pub struct DatagramParts<S, T, O> {
     /// Its listeners, and a socket for each server.
@@ -50,11 +50,11 @@ pub struct ClockParts<S, T, O, P> {
     pub outside: O,
 }
 
-/// What the three loops are made of, each in a thread of its own.
+/// What the loops are made of, each in a thread of its own.
 #[derive(Drop)]
 pub struct Parts<D, S, C, G, W> {
-    /// The loop of datagrams.
-    pub datagrams: D,
+    /// The loops of datagrams.
+    pub datagrams: Vec<D>,
     /// The loop of streams.
     pub streams: S,
     /// The loop of the clock.
@@ -65,18 +65,20 @@ pub struct Parts<D, S, C, G, W> {
     pub gate: G,
     /// Set, it ends the loops. Whoever sets it wakes them.
     pub stop: Arc<AtomicBool>,
-    /// Wakes the loop of datagrams.
-    pub datagrams_waker: W,
+    /// Each wakes a loop of datagrams.
+    pub datagrams_wakers: Vec<W>,
     /// Wakes the loop of streams.
     pub streams_waker: W,
     /// Wakes the loop of the clock.
     pub clock_waker: W,
 }
 
-/// What loops leave that were told to end: their event handlers, the sender of the clock's loop, and the receiver.
+/// What loops leave that were told to end: their event handlers, the sender of the clock's loop,
+/// and the receiver.
 #[derive(Drop)]
 pub struct Ended<T, U, V> {
-    pub datagrams: T,
+    /// Those of the loops of datagrams, in their order.
+    pub datagrams: Vec<T>,
     pub streams: U,
     pub clock: V,
     pub sender: Sender,

@@ -17,7 +17,8 @@ use lb_streams::{StreamLoop, stream_turn};
 use std::alloc::Global;
 use std::sync::Wait;
 
-/// How long the loop of datagrams waits at most, in milliseconds: so often idle sockets of servers are looked at.
+/// How long a loop of datagrams waits at most, in milliseconds: so often idle sockets of servers
+/// are looked at.
 const LONG_WAIT: u64 = 1_000;
 
 /// How long the loop of streams waits at most, in milliseconds: so often connections are looked at whose time is over, and a client that

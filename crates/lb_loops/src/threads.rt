@@ -1,14 +1,15 @@
-//! The three loops, in threads of their own.
+//! The loops, in threads of their own.
 
-ghost use Rattle.std.specs.Prelude.{IfOk, ◌≤◌};
+ghost use Rattle.std.specs.Prelude.{IfOk, map, ◌≤◌};
 ghost use Rattle.std.specs.Thread.{IsSend, IsSync};
-ghost use Rattle.lb_loops.specs.Running.{ReceivesOn, SendsOn};
+ghost use Rattle.lb_loops.specs.Running.{HaveGoneOn, ReceivesOn, SendsOn};
 
 use crate::around::Around;
 use crate::fault::LoopFault;
 use crate::last_sent::LastSent;
 use crate::parts::{ClockParts, DatagramParts, Ended, Parts, StreamParts};
-use crate::running::{run_clock, run_datagrams, run_streams};
+use crate::row::run_row;
+use crate::running::{run_clock, run_streams};
 use lb_lines::{Datagrams, Gate, Outside, Posts, Streams, Taker, Waker};
 use lb_outbox::{Receiver, Sender};
 use std::alloc::Global;
@@ -21,9 +22,10 @@ type Others<U, V> = (
     Result<(V, Sender), LoopFault>,
 );
 
-/// Runs the loops of datagrams, of streams and of the clock, each in a thread of its own, until the flag of `parts` is set. Each loop owns its
-/// part. No lock is held during a turn. A loop that has a fault sets the flag and wakes the others; the fault that is given is the
-/// first in the order datagrams, streams, clock, and then the parts are dropped.
+/// Runs the loops of datagrams, the loop of streams and that of the clock, each in a thread of its
+/// own, until the flag of `parts` is set. Each loop owns its part. No lock is held during a turn. A
+/// loop that has a fault sets the flag and wakes the others; the fault that is given is the first
+/// in the order datagrams, streams, clock, and then the parts are dropped.
 pub fn run_loops<
     R: Threads + Wait + Sync,
     D: Datagrams + Send,
@@ -45,7 +47,7 @@ pub fn run_loops<
     parts: Parts<DatagramParts<D, T, O>, StreamParts<S, U, N, P>, ClockParts<C, V, M, Q>, G, W>,
 ) -> Result<Ended<T, U, V>, LoopFault>
     // No handler's count of answered calls has fallen.
-    ensures datagrams { IfOk result (λ e. T.answered parts.datagrams.taker ≤ T.answered e.datagrams) }
+    ensures datagrams { IfOk result (λ e. HaveGoneOn T.answered (map (λ part. part.taker) parts.datagrams.items) e.datagrams.items) }
     ensures streams { IfOk result (λ e. U.answered parts.streams.taker ≤ U.answered e.streams) }
     ensures clock { IfOk result (λ e. V.answered parts.clock.taker ≤ V.answered e.clock) }
     // The sender and the receiver are those that they were, and have gone on.
@@ -59,7 +61,7 @@ pub fn run_loops<
         roster,
         gate,
         stop,
-        datagrams_waker,
+        datagrams_wakers,
         streams_waker,
         clock_waker,
     } = parts;
@@ -68,7 +70,7 @@ pub fn run_loops<
         gate,
         stop,
         sent: LastSent::none(),
-        datagrams: datagrams_waker,
+        datagrams: datagrams_wakers,
         streams: streams_waker,
         clock: clock_waker,
     };
@@ -85,7 +87,7 @@ pub fn run_loops<
     })
 }
 
-/// One thread for the loop of datagrams, and one for each of the others.
+/// One thread for each loop of datagrams, and one for each of the others.
 fn run_all<
     R: Threads + Wait + Sync,
     D: Datagrams + Send,
@@ -105,17 +107,17 @@ fn run_all<
     rt: &R,
     alloc: Global,
     around: &Around<G, W>,
-    datagrams: DatagramParts<D, T, O>,
+    datagrams: Vec<DatagramParts<D, T, O>>,
     streams: StreamParts<S, U, N, P>,
     clock: ClockParts<C, V, M, Q>,
-) -> (Result<T, LoopFault>, Others<U, V>)
-    ensures datagrams { IfOk result.0 (λ t. T.answered datagrams.taker ≤ T.answered t) }
+) -> (Result<Vec<T>, LoopFault>, Others<U, V>)
+    ensures datagrams { IfOk result.0 (λ all. HaveGoneOn T.answered (map (λ part. part.taker) datagrams.items) all.items) }
     ensures streams { IfOk result.1.0 (λ r. (U.answered streams.taker ≤ U.answered r.0) × ReceivesOn streams.receiver r.1) }
     ensures clock { IfOk result.1.1 (λ r. (V.answered clock.taker ≤ V.answered r.0) × SendsOn clock.sender r.1) }
 {
     join(
         rt,
-        move || run_datagrams(rt, alloc, around, datagrams),
+        move || run_row(rt, alloc, around, datagrams),
         move ||
             requires streams { IsSend S.row × IsSend U.row × IsSend N.row × IsSend P.row }
             requires clock { IsSend C.row × IsSend V.row × IsSend M.row × IsSend Q.row }

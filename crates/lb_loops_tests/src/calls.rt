@@ -167,18 +167,19 @@ fn four_threads_share_a_desk(rt: HostRuntime) -> Result<(), Fail> {
     Ok(())
 }
 
+/// Queries of two loops of datagrams and of the loop of streams are at their gates at once.
 #[test]
-fn queries_of_two_loops_wait_for_one_another(rt: HostRuntime) -> Result<(), Fail> {
-    let left = go_round(&rt, rt.alloc(), 3, 10, &[Round::Loops(true)])?;
+fn queries_of_loops_wait_for_one_another(rt: HostRuntime) -> Result<(), Fail> {
+    let left = go_round(&rt, rt.alloc(), 4, 10, &[Round::Loops(true)])?;
     let audit = audit(left)?;
-    assert!(rt; audit.count >= 4, "{} calls", audit.count);
+    assert!(rt; audit.count >= 5, "{} calls", audit.count);
     Ok(())
 }
 
 /// The gate holds the first event: the loops end, and their seats with them.
 #[test]
 fn a_gate_that_holds_ends_the_loops(rt: HostRuntime) -> Result<(), Fail> {
-    let left = go_round(&rt, rt.alloc(), 3, 10, &[Round::Loops(false)])?;
+    let left = go_round(&rt, rt.alloc(), 4, 10, &[Round::Loops(false)])?;
     assert_eq!(rt; fault(left), Some(CloseFault::MissingSeat));
     Ok(())
 }

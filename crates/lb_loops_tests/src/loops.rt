@@ -1,4 +1,5 @@
-//! The three loops in threads of their own, over sockets in memory and a desk.
+//! Four loops in threads of their own, over sockets in memory and a desk: two of datagrams, that of
+//! streams, and the clock.
 
 use crate::callers::{has_ruled, is_raised};
 use lb_core::{Answer, Event, StatedAction};
@@ -19,7 +20,7 @@ use std::sync::{Arc, Mutex, Wait};
 use std::thread::Threads;
 use std::time::Clock;
 
-/// Where the client of datagrams is, and that of streams.
+/// Where the client of datagrams of both loops is, and that of streams.
 const CLIENT: Endpoint = Endpoint {
     addr: Addr::V4([192, 0, 2, 1]),
     port: 4000,
@@ -38,14 +39,18 @@ const BOTH: &[u8] =
 const BOTH_REFUSED: &[u8] =
     b"\x00\x1d\xbb\xbb\x81\x85\x00\x01\x00\x00\x00\x00\x00\x00\x07example\x03com\x00\x00\x01\x00\x01\x00\x1d\xcc\xcc\x81\x85\x00\x01\x00\x00\x00\x00\x00\x00\x07example\x03com\x00\x00\x01\x00\x01";
 
-/// What the three queries wait for, and what ends the loops.
+/// What the four queries wait for, and what ends the loops.
 #[derive(Drop)]
 struct Order {
-    /// The query by a datagram is at its gate.
+    /// How many queries by datagrams are at their gates.
+    datagrams: AtomicU64,
+    /// Both are, each in its loop.
     is_asked: AtomicBool,
     /// The second query by the stream is.
     is_second: AtomicBool,
-    /// The query by a datagram was answered.
+    /// How many queries by datagrams were answered.
+    told: AtomicU64,
+    /// Both were.
     is_answered: AtomicBool,
     /// How many queries by the stream were at their gate.
     streams: AtomicU64,
@@ -71,8 +76,11 @@ impl<R: Wait + Clock> Gate for InTurn<'_, R> {
                 kind: Kind::Datagram,
                 ..
             } => {
-                self.order.is_asked.store(true, Ordering::SeqCst);
-                is_raised(self.rt, &self.order.is_second)
+                if self.order.datagrams.fetch_add(1, Ordering::SeqCst) == 1 {
+                    self.order.is_asked.store(true, Ordering::SeqCst);
+                }
+                is_raised(self.rt, &self.order.is_asked)
+                    && is_raised(self.rt, &self.order.is_second)
             }
             Event::Query { .. } if self.order.streams.fetch_add(1, Ordering::SeqCst) == 0 => {
                 is_raised(self.rt, &self.order.is_asked)
@@ -86,7 +94,7 @@ impl<R: Wait + Clock> Gate for InTurn<'_, R> {
     }
 }
 
-/// Hands events to the desk, and tells how many queries were answered. The third one ends the loops.
+/// Hands events to the desk, and tells how many queries were answered. The fourth one ends the loops.
 #[derive(Drop)]
 struct Answering<'a, R: Wait, J: Naming> {
     rt: &'a R,
@@ -101,10 +109,10 @@ impl<'a, R: Wait, J: Naming> Answering<'a, R, J> {
         let Some(kind) = kind else {
             return;
         };
-        if kind == Kind::Datagram {
+        if kind == Kind::Datagram && self.order.told.fetch_add(1, Ordering::SeqCst) == 1 {
             self.order.is_answered.store(true, Ordering::SeqCst);
         }
-        if self.order.answers.fetch_add(1, Ordering::SeqCst) == 2 {
+        if self.order.answers.fetch_add(1, Ordering::SeqCst) == 3 {
             self.stop.store(true, Ordering::SeqCst);
         }
     }
@@ -150,7 +158,9 @@ impl Waker for NoWaker {
 /// What the loops and the test share.
 #[derive(Drop)]
 struct Shared {
+    /// The datagrams of the first loop, and those of the second.
     packets: Arc<Mutex<Packets>>,
+    beside: Arc<Mutex<Packets>>,
     wires: Arc<Mutex<Wires>>,
     moments: Arc<Mutex<Moments>>,
     order: Arc<Order>,
@@ -158,17 +168,20 @@ struct Shared {
 }
 
 impl Shared {
-    /// A query by a datagram, and two by a stream.
+    /// A query by a datagram to each of two loops, and two by a stream.
     fn new<R: Wait>(rt: &R, alloc: Global) -> Result<Shared, AllocError> {
         let shared = Shared {
             packets: Arc::new(alloc, Mutex::new(Packets::new(alloc)))?,
+            beside: Arc::new(alloc, Mutex::new(Packets::new(alloc)))?,
             wires: Arc::new(alloc, Mutex::new(Wires::new(alloc)))?,
             moments: Arc::new(alloc, Mutex::new(Moments::new(1, 0, 16, 0)))?,
             order: Arc::new(
                 alloc,
                 Order {
+                    datagrams: AtomicU64::new(0),
                     is_asked: AtomicBool::new(false),
                     is_second: AtomicBool::new(false),
+                    told: AtomicU64::new(0),
                     is_answered: AtomicBool::new(false),
                     streams: AtomicU64::new(0),
                     answers: AtomicU64::new(0),
@@ -181,12 +194,8 @@ impl Shared {
     }
 
     fn come<R: Wait>(&self, rt: &R, alloc: Global) -> Result<(), AllocError> {
-        let bytes = Octets::from_vec(Vec::from_slice(alloc, FIRST)?);
-        self.packets.lock(rt).coming.push_back(Datagram {
-            socket: Socket::Listener(0),
-            peer: CLIENT,
-            bytes,
-        })?;
+        first_comes(rt, alloc, &self.packets)?;
+        first_comes(rt, alloc, &self.beside)?;
         let piece = Octets::from_vec(Vec::from_slice(alloc, BOTH)?);
         let mut wires = self.wires.lock(rt);
         wires.come(1, CLIENT)?;
@@ -212,19 +221,38 @@ impl Shared {
         Ok(MemoryOutside::new(rt, Arc::try_clone(&self.moments)?))
     }
 
-    /// Whether the three answers went out, each once and the stream's in their order.
+    /// Whether the four answers went out, each once, by the loop that took its query, and the stream's in
+    /// their order.
     fn are_answered<R: Wait>(&self, rt: &R) -> bool {
-        let packets = self.packets.lock(rt);
-        let [datagram] = packets.taken.as_slice() else {
-            return false;
-        };
-        let is_told = datagram.peer.is(CLIENT) && datagram.bytes.as_slice() == FIRST_REFUSED;
-        is_told && self.wires.lock(rt).taken(1) == BOTH_REFUSED
+        is_first_told(rt, &self.packets)
+            && is_first_told(rt, &self.beside)
+            && self.wires.lock(rt).taken(1) == BOTH_REFUSED
     }
 }
 
-/// Whether the loops do what they have to, from three seats of a desk that answers each query Refused: answer three queries that wait for
-/// one another at their gates, and end; or end because their gate holds the first event.
+/// A query comes by a datagram.
+fn first_comes<R: Wait>(rt: &R, alloc: Global, packets: &Mutex<Packets>) -> Result<(), AllocError> {
+    let bytes = Octets::from_vec(Vec::from_slice(alloc, FIRST)?);
+    packets.lock(rt).coming.push_back(Datagram {
+        socket: Socket::Listener(0),
+        peer: CLIENT,
+        bytes,
+    })?;
+    Ok(())
+}
+
+/// Whether its answer went out, once.
+fn is_first_told<R: Wait>(rt: &R, packets: &Mutex<Packets>) -> bool {
+    let packets = packets.lock(rt);
+    let [datagram] = packets.taken.as_slice() else {
+        return false;
+    };
+    datagram.peer.is(CLIENT) && datagram.bytes.as_slice() == FIRST_REFUSED
+}
+
+/// Whether the loops do what they have to, from four seats of a desk that answers each query Refused:
+/// answer four queries that wait for one another at their gates, and end; or end because their gate holds
+/// the first event.
 pub(crate) fn are_loops_done<J: Naming + Send + Sync, R: Threads + Wait + Clock + Sync>(
     rt: &R,
     alloc: Global,
@@ -232,8 +260,12 @@ pub(crate) fn are_loops_done<J: Naming + Send + Sync, R: Threads + Wait + Clock 
     seats: &mut Vec<Seat<J>>,
     is_open: bool,
 ) -> Result<bool, AllocError> {
-    let (Some(mut first), Some(second), Some(third)) = (seats.pop(), seats.pop(), seats.pop())
-    else {
+    let (Some(mut first), Some(beside), Some(second), Some(third)) = (
+        seats.pop(),
+        seats.pop(),
+        seats.pop(),
+        seats.pop(),
+    ) else {
         return Ok(false);
     };
     if !has_ruled(
@@ -247,37 +279,58 @@ pub(crate) fn are_loops_done<J: Naming + Send + Sync, R: Threads + Wait + Clock 
         return Ok(false);
     }
     let shared = Shared::new(rt, alloc)?;
-    let ended = run_at_desk(rt, alloc, desk, &shared, (first, second, third), is_open)?;
+    let mut row = Vec::with_capacity(alloc, 2)?;
+    row.push(first)?;
+    row.push(beside)?;
+    let ended = run_at_desk(rt, alloc, desk, &shared, (row, second, third), is_open)?;
     match ended {
-        Ok((first, second, third)) => {
+        Ok((row, second, third)) => {
+            let is_whole = row.len() == 2;
             seats.push(third)?;
             seats.push(second)?;
-            seats.push(first)?;
-            Ok(is_open && shared.are_answered(rt))
+            for taker in row {
+                seats.push(taker.into_seat())?;
+            }
+            Ok(is_open && is_whole && shared.are_answered(rt))
         }
         Err(fault) => Ok(!is_open && fault == LoopFault::Held),
     }
 }
 
-/// The seats of the three loops.
-type Seats<J> = (Seat<J>, Seat<J>, Seat<J>);
+/// The seats of the loops: those of datagrams, that of streams, and that of the clock.
+type Seats<J> = (Vec<Seat<J>>, Seat<J>, Seat<J>);
 
-/// Runs the loops, and gives their seats back.
-fn run_at_desk<J: Naming + Send + Sync, R: Threads + Wait + Clock + Sync>(
-    rt: &R,
+/// What loops leave: the handlers of those of datagrams, and the seats of the others.
+type Left<'a, R, J> = (Vec<Answering<'a, R, J>>, Seat<J>, Seat<J>);
+
+/// Runs the loops, and gives what they leave.
+fn run_at_desk<'a, J: Naming + Send + Sync, R: Threads + Wait + Clock + Sync>(
+    rt: &'a R,
     alloc: Global,
-    desk: &Desk<J>,
+    desk: &'a Desk<J>,
     shared: &Shared,
-    (first, second, third): Seats<J>,
+    (row, second, third): Seats<J>,
     is_open: bool,
-) -> Result<Result<Seats<J>, LoopFault>, AllocError> {
+) -> Result<Result<Left<'a, R, J>, LoopFault>, AllocError> {
     let (sender, second_sender, receiver) = Outbox::made(alloc, 4)?;
     drop(sender);
-    let datagrams = DatagramParts {
-        sockets: sockets(rt, alloc, &shared.packets)?,
-        taker: shared.answering(rt, desk, first)?,
-        outside: shared.outside(rt)?,
-    };
+    let mut datagrams = Vec::with_capacity(alloc, row.len())?;
+    let mut wakers = Vec::with_capacity(alloc, row.len())?;
+    for (place, seat) in row.into_iter().enumerate() {
+        let packets = if place == 0 {
+            &shared.packets
+        } else {
+            &shared.beside
+        };
+        datagrams
+            .push(DatagramParts {
+                sockets: sockets(rt, alloc, packets)?,
+                taker: shared.answering(rt, desk, seat)?,
+                outside: shared.outside(rt)?,
+            })
+            .map_err(AllocError::from)?;
+        wakers.push(NoWaker).map_err(AllocError::from)?;
+    }
     let streams = StreamParts {
         sockets: MemoryStreams::new(
             rt,
@@ -311,14 +364,14 @@ fn run_at_desk<J: Naming + Send + Sync, R: Threads + Wait + Clock + Sync>(
             is_open,
         },
         stop: Arc::try_clone(&shared.stop)?,
-        datagrams_waker: NoWaker,
+        datagrams_wakers: wakers,
         streams_waker: NoWaker,
         clock_waker: NoWaker,
     };
     Ok(run(rt, alloc, parts))
 }
 
-/// The loop of datagrams of a test.
+/// A loop of datagrams of a test.
 type Datagramming<'a, R, J> = DatagramParts<
     MemoryDatagrams<'a, R>,
     Answering<'a, R, J>,
@@ -352,30 +405,26 @@ fn run<'a, J: Naming + Send + Sync, R: Threads + Wait + Clock + Sync>(
         InTurn<'a, R>,
         NoWaker,
     >,
-) -> Result<Seats<J>, LoopFault> {
+) -> Result<Left<'a, R, J>, LoopFault> {
     // A law, which does nothing.
     desks_cross_threads::<J>();
     match run_loops(rt, alloc, parts) {
-        Ok(ended) => Ok(seats_of(ended)),
+        Ok(ended) => Ok(left_by(ended)),
         Err(fault) => Err(fault),
     }
 }
 
-/// The seats that loops leave.
-fn seats_of<R: Wait, J: Naming>(
-    ended: Ended<Answering<'_, R, J>, Answering<'_, R, J>, Answering<'_, R, J>>,
-) -> Seats<J> {
+/// What loops leave.
+fn left_by<'a, R: Wait, J: Naming>(
+    ended: Ended<Answering<'a, R, J>, Answering<'a, R, J>, Answering<'a, R, J>>,
+) -> Left<'a, R, J> {
     let Ended {
         datagrams,
         streams,
         clock,
         ..
     } = ended;
-    (
-        datagrams.into_seat(),
-        streams.into_seat(),
-        clock.into_seat(),
-    )
+    (datagrams, streams.into_seat(), clock.into_seat())
 }
 
 fn sockets<'a, R: Wait>(

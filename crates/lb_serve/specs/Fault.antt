@@ -7,7 +7,7 @@ use Rattle.lb_loops.specs.declared.fault.LoopFault.{LoopFault}
 use Rattle.lb_loops.specs.declared.fault.LoopFault.TheVariants as loops
 use Rattle.lb_program.specs.Faults.{device_text, failure_text, memory_text}
 use Rattle.lb_serve.specs.declared.fault.Fault.{Fault}
-use Rattle.lb_serve.specs.declared.fault.Fault.TheVariants.{Switch, NoListener, Bind, System, Loops, Front, Console, Output, Closing, NoMemory}
+use Rattle.lb_serve.specs.declared.fault.Fault.TheVariants.{Switch, NoThreads, NoListener, Bind, System, Loops, Front, Console, Output, Closing, NoMemory}
 use Rattle.lb_sockets.specs.declared.listening.BindFault.{BindFault}
 use Rattle.lb_sockets.specs.declared.listening.BindFault.TheVariants as binding
 
@@ -35,6 +35,7 @@ front_text fronts.Held = device_text
 -- the text of the status
 abbrev pub fault_text : Fault → List ℕ
 fault_text (Switch switch) = device_text
+fault_text (NoThreads count) = device_text
 fault_text NoListener = device_text
 fault_text (Bind line fault) = bind_text fault
 fault_text (System error) = failure_text (error_kind error)

@@ -42,8 +42,8 @@ pub(crate) enum Progress {
     Stop,
 }
 
-/// A client: what it typed of a line, what was read beyond it, and what it is to be answered. A line is taken only once all before it
-/// were answered and written.
+/// A client: what it typed of a line, what was read beyond it, and what it is to be answered. A
+/// line is taken only once all before it were answered and written.
 #[derive(Drop)]
 pub(crate) struct Client {
     alloc: Global,
@@ -138,7 +138,8 @@ impl Client {
         }
     }
 
-    /// Looks at what was read, up to the end of a line. Where memory is wanting for it, the client is to be closed.
+    /// Looks at what was read, up to the end of a line. Where memory is wanting for it, the client
+    /// is to be closed.
     fn look<R: Wait + Clock, T: Taker + Hears, O: Outside>(
         &mut self,
         rt: &R,
@@ -165,8 +166,8 @@ impl Client {
         }
     }
 
-    /// Answers the line that has ended. After a first one that is a request of HTTP the client is closed, and
-    /// no further line of it is carried out.
+    /// Answers the line that has ended. After a first one that is a request of HTTP the client is
+    /// closed, and no further line of it is carried out.
     fn end_line<R: Wait + Clock, T: Taker + Hears, O: Outside>(
         &mut self,
         rt: &R,
@@ -197,8 +198,8 @@ impl Client {
         }
     }
 
-    /// Has a line, or several, written in one piece with the last line feed. If memory is wanting for that, the client is to
-    /// be closed.
+    /// Has a line, or several, written in one piece with the last line feed. If memory is wanting
+    /// for that, the client is to be closed.
     fn say(&mut self, line: String) -> Progress {
         let is_fault = line.starts_with(FAULT);
         let mut bytes = line.into_bytes();
@@ -215,7 +216,8 @@ impl Client {
     }
 }
 
-/// The command in a line that was carried out or refused, and its answer. The one error is want of memory.
+/// The command in a line that was carried out or refused, and its answer. The one error is want of
+/// memory.
 fn edit_of(
     alloc: Global,
     line: &str,

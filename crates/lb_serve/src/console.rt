@@ -45,7 +45,8 @@ pub(crate) struct Console<'a, R: Wait + Clock, T: Taker + Hears, O: Outside> {
     alloc: Global,
     poll: Poll,
     events: Events,
-    /// A descriptor that is kept back, so that a client can be taken in where no other is to be had.
+    /// A descriptor that is kept back, so that a client can be taken in where no other is to be
+    /// had.
     spare: Option<Registry>,
     listeners: Vec<TcpListener>,
     client: Option<Client>,
@@ -117,7 +118,8 @@ impl<'a, R: Wait + Clock, T: Taker + Hears, O: Outside> Console<'a, R, T, O> {
         )
     }
 
-    /// Serves clients until one says stop or the loops have ended; the loops end too. It gives itself back.
+    /// Serves clients until one says stop or the loops have ended; the loops end too. It gives
+    /// itself back.
     pub(crate) fn run(mut self) -> Console<'a, R, T, O> {
         if let Err(fault) = self.serve() {
             self.fault = Some(fault);
@@ -176,12 +178,14 @@ impl<'a, R: Wait + Clock, T: Taker + Hears, O: Outside> Console<'a, R, T, O> {
                 self.has_others = false;
                 self.wait(None)
             }
-            // The client left while it waited, or no descriptor is to be had: no further edge tells of it.
+            // The client left while it waited, or no descriptor is to be had: no further edge tells
+            // of it.
             Err(_) => self.wait(Some(Duration::from_millis(AGAIN))),
         }
     }
 
-    /// A client that waits. Where one could not be taken in, the descriptor that is kept back is given up for it.
+    /// A client that waits. Where one could not be taken in, the descriptor that is kept back is
+    /// given up for it.
     fn admitted(&mut self) -> io::Result<TcpStream> {
         let first = accepted(self.listeners.as_slice());
         if !is_refused(&first) {
@@ -204,8 +208,8 @@ impl<'a, R: Wait + Clock, T: Taker + Hears, O: Outside> Console<'a, R, T, O> {
         self.note_answer()
     }
 
-    /// Looks whether another client waits, and takes it in to be served next: the arrival of the one that is
-    /// served says nothing of others.
+    /// Looks whether another client waits, and takes it in to be served next: the arrival of the
+    /// one that is served says nothing of others.
     fn look_for_next(&mut self) {
         match accepted(self.listeners.as_slice()) {
             Ok(stream) => {
@@ -224,7 +228,8 @@ impl<'a, R: Wait + Clock, T: Taker + Hears, O: Outside> Console<'a, R, T, O> {
         Ok(())
     }
 
-    /// Waits for the client. If another one waits, it is closed once it has typed no line for five seconds.
+    /// Waits for the client. If another one waits, it is closed once it has typed no line for five
+    /// seconds.
     fn wait_for_client(&mut self) -> Result<(), Fault> {
         if !self.has_others {
             return self.wait(None);
@@ -237,8 +242,8 @@ impl<'a, R: Wait + Clock, T: Taker + Hears, O: Outside> Console<'a, R, T, O> {
         self.wait(Some(left))
     }
 
-    /// Looks whether another client waits, for which this one is closed if no line of it has read for a
-    /// minute: one whose lines do not read may always have a next one to be answered.
+    /// Looks whether another client waits, for which this one is closed if no line of it has read
+    /// for a minute: one whose lines do not read may always have a next one to be answered.
     fn look_round(&mut self) -> Result<(), Fault> {
         self.typed = Some(Instant::now(self.rt)?);
         self.wait(Some(Duration::from_millis(0)))?;
@@ -281,7 +286,8 @@ impl<'a, R: Wait + Clock, T: Taker + Hears, O: Outside> Console<'a, R, T, O> {
     }
 }
 
-/// A client that waits at one of these. With none, the error is the first but `WouldBlock`, or that.
+/// A client that waits at one of these. With none, the error is the first but `WouldBlock`, or
+/// that.
 fn accepted(listeners: &[TcpListener]) -> io::Result<TcpStream> {
     let mut none = io::Error::from(ErrorKind::WouldBlock);
     for listener in listeners {

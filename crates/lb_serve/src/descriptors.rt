@@ -5,8 +5,8 @@ use lb_program::ServerPlace;
 use libc;
 use libc::types::rlimit;
 
-/// As many as 1,024 clients of streams, 1,024 by HTTP, 256 servers with a lane of each transport, and what
-/// is listened with need.
+/// As many as 1,024 clients of streams, 1,024 by HTTP, 256 servers with a lane of each transport,
+/// and what is listened with need.
 const ENOUGH: u64 = 3_200;
 
 /// The most clients of a kind, however many descriptors there are.
@@ -20,8 +20,12 @@ const OWN: u64 = 48;
 /// What the probes of a server take: a socket, and another one while it is made anew.
 const OF_PROBES: u64 = 2;
 
-/// What a lane takes of a server that has it of each transport: a socket of datagrams and a connection.
-const OF_LANE: u64 = 2;
+/// What a loop of datagrams after the first takes besides its sockets: its queue of events, and
+/// what wakes its thread.
+const OF_LOOP: u64 = 2;
+
+/// How many servers there can be.
+const SERVERS: u64 = 256;
 
 /// The clients of a kind for which there is room in any case, if a line listens for them.
 const LEAST: u64 = 4;
@@ -47,16 +51,17 @@ pub(crate) struct Clients {
 
 impl Clients {
     /// As many as descriptors are left of this limit for each kind that is listened for, once the
-    /// listeners and these servers have theirs; 1,024 at most.
+    /// listeners, the loops of datagrams and these servers have theirs; 1,024 at most.
     pub(crate) fn under(
         limit: Option<u64>,
         lines: &[Listener],
         servers: &[ServerPlace],
+        loops: u8,
     ) -> Clients {
         let kinds = u64::from(listens(lines, Protocol::Tcp))
             + u64::from(listens(lines, Protocol::Doh));
         let each = match limit {
-            Some(limit) => left_of(limit, lines.len(), servers) / kinds.max(1),
+            Some(limit) => left_of(limit, lines, servers, loops) / kinds.max(1),
             None => MOST,
         };
         let each = each.clamp(LEAST, MOST);
@@ -76,8 +81,8 @@ impl Clients {
 }
 
 impl Clients {
-    /// How many clients of streams the sockets take in at a time. If that is no less than the loop of
-    /// streams takes, the sockets set no bound, as the loop turns further clients away.
+    /// How many clients of streams the sockets take in at a time. If that is no less than the loop
+    /// of streams takes, the sockets set no bound, as the loop turns further clients away.
     pub(crate) fn room(self) -> usize {
         if self.streams < MOST {
             self.streams as usize
@@ -87,26 +92,47 @@ impl Clients {
     }
 }
 
-/// How many descriptors 1,024 clients of each kind, 256 servers and the further lanes of these servers need.
-pub(crate) fn wanted(servers: &[ServerPlace]) -> u64 {
-    servers.iter().fold(ENOUGH, |sum, server| {
-        sum.saturating_add(of_lanes(server).saturating_sub(OF_LANE))
-    })
+/// How many descriptors 1,024 clients of each kind, 256 servers, the further lanes of these servers
+/// and so many loops of datagrams need.
+pub(crate) fn wanted(servers: &[ServerPlace], loops: u8) -> u64 {
+    let further = u64::from(loops.saturating_sub(1)).saturating_mul(SERVERS + OF_LOOP);
+    servers
+        .iter()
+        .fold(ENOUGH.saturating_add(further), |sum, server| {
+            sum.saturating_add(of_lanes(server, loops).saturating_sub(of_lane(loops)))
+        })
 }
 
 /// How many descriptors are left for clients.
-fn left_of(limit: u64, lines: usize, servers: &[ServerPlace]) -> u64 {
-    let kept = OWN.saturating_add(lines as u64);
+fn left_of(limit: u64, lines: &[Listener], servers: &[ServerPlace], loops: u8) -> u64 {
+    let kept = OWN
+        .saturating_add(lines.len() as u64)
+        .saturating_add(of_further(lines, loops));
     let kept = servers.iter().fold(kept, |sum, server| {
         sum.saturating_add(OF_PROBES)
-            .saturating_add(of_lanes(server))
+            .saturating_add(of_lanes(server, loops))
     });
     limit.saturating_sub(kept)
 }
 
+/// How many descriptors the loops of datagrams after the first take besides their servers' sockets.
+fn of_further(lines: &[Listener], loops: u8) -> u64 {
+    let listeners = lines
+        .iter()
+        .filter(|line| line.protocol == Protocol::Udp)
+        .count() as u64;
+    u64::from(loops.saturating_sub(1)).saturating_mul(listeners.saturating_add(OF_LOOP))
+}
+
 /// How many descriptors the lanes of a server take.
-fn of_lanes(server: &ServerPlace) -> u64 {
-    u64::from(server.lanes.get()).saturating_mul(OF_LANE)
+fn of_lanes(server: &ServerPlace, loops: u8) -> u64 {
+    u64::from(server.lanes.get()).saturating_mul(of_lane(loops))
+}
+
+/// What a lane takes of a server that has it of each transport: a connection, and a socket of
+/// datagrams in each loop of them.
+fn of_lane(loops: u8) -> u64 {
+    u64::from(loops).saturating_add(1)
 }
 
 /// Whether a line listens by a protocol.

@@ -8,8 +8,8 @@ ghost use Rattle.lb_serve.specs.Serving.{Closes, Served, closed_text, output_end
 use crate::fault::Fault;
 use crate::listening::Listening;
 use crate::log::{LogFile, keep};
-use crate::parts::{DeskConsole, DeskFront, Loops, Runners, Seats, prepared};
-use crate::switches::Switches;
+use crate::parts::{DeskConsole, DeskFront, Loops, OtherSeats, Runners, prepared};
+use crate::switches::{MOST_LOOPS, Switches};
 use crate::threads::{FrontEnd, LoopsEnd, Over, run_beside};
 use lb_core::Balancer;
 use lb_desk::{CloseFault, Desk, Naming, Seat};
@@ -31,14 +31,15 @@ use std::thread::Threads;
 use std::time::Clock;
 use std::{io, net};
 
-/// The seats of the desk: the loops of datagrams, of streams and of the clock, the console, and the front of DNS on HTTP.
-const SEATS: u8 = 5;
+/// The seats of the desk besides those of the loops of datagrams: of the loop of streams, of the
+/// clock, of the console, and of the front of DNS on HTTP.
+const OTHERS: u8 = 4;
 
 /// What a setup file states, what the switches ask for, and the sockets that listen.
 pub(crate) type Given = (Setup, Switches, Listening);
 
-/// What a setup file states, what the switches ask for, the sockets that listen, and the file to which the log is written once it
-/// was found true.
+/// What a setup file states, what the switches ask for, the sockets that listen, and the file to
+/// which the log is written once it was found true.
 #[derive(Drop)]
 pub(crate) struct Ready<L> {
     pub(crate) setup: Setup,
@@ -53,18 +54,16 @@ type Ran<'a, R, J> = (
     (DeskConsole<'a, R, J>, FrontEnd<Caller<'a, R, J>>),
 );
 
-/// The seats of the three loops.
-type LoopSeats<J> = (Seat<J>, Seat<J>, Seat<J>);
-
-/// What threads leave: their seats, and the console's client that said stop.
+/// What threads leave besides the seats of the loops of datagrams: the others, and the console's
+/// client that said stop.
 #[derive(Drop)]
 struct Left<J: Naming> {
-    seats: Seats<J>,
+    others: OtherSeats<J>,
     client: Option<TcpStream>,
 }
 
-/// Serves by a balancer and what its setup file states, with sockets that listen, until the console says stop: `ready` is written first, and last
-/// how many calls the desk had.
+/// Serves by a balancer and what its setup file states, with sockets that listen, until the console
+/// says stop: `ready` is written first, and last how many calls the desk had.
 pub(crate) fn serve_at_desk<
     R: Threads
         + Wait
@@ -78,8 +77,16 @@ pub(crate) fn serve_at_desk<
     ensures { Served (snapshot_of balancer) ready.setup.log (W.contents output.old) (W.contents output.new) result }
 {
     let limit = u64::from(ready.setup.log());
-    let blank = Blank::new(u64::from(SEATS));
-    serve_named::<Brand, R, W, L>(rt, alloc, blank, balancer, limit, ready, output)
+    let seats = seats_of(ready.switches.loops);
+    let blank = Blank::new(u64::from(seats));
+    serve_named::<Brand, R, W, L>(rt, alloc, blank, balancer, limit, seats, ready, output)
+}
+
+/// How many seats there are with so many loops of datagrams: at most as many as a desk has.
+fn seats_of(loops: u8) -> u8
+    ensures { (1 ≤ result) × (result ≤ 64) }
+{
+    OTHERS + loops.min(MOST_LOOPS)
 }
 
 fn serve_named<
@@ -98,18 +105,20 @@ fn serve_named<
     blank: Blank,
     balancer: Balancer,
     limit: u64,
+    count: u8,
     ready: Ready<L>,
     output: &mut W,
 ) -> Result<(), Fault>
     requires name { blank.name ≡ J.name }
     requires parts { (blank.parts ≡ J.parts) × (J.parts ≡ J.seats) }
-    requires seats { J.seats ≡ 5 }
+    requires seats { J.seats ≡ count }
+    requires some { (1 ≤ count) × (count ≤ 64) }
     requires limit { J.limit ≡ limit }
     requires opening { J.opening ≡ snapshot_of balancer }
     ensures { Served J.opening J.limit (W.contents output.old) (W.contents output.new) result }
 {
-    let (desk, mut seats) = Desk::<J>::made(alloc, blank, balancer, limit, SEATS)?;
-    let Some(five) = taken(&mut seats) else {
+    let (desk, mut seats) = Desk::<J>::made(alloc, blank, balancer, limit, count)?;
+    let Some(others) = taken(&mut seats) else {
         return Err(Fault::Closing(CloseFault::MissingSeat));
     };
     let Ready {
@@ -119,54 +128,38 @@ fn serve_named<
         log,
     } = ready;
     let given = (setup, switches, listening);
-    match run_at_desk(rt, alloc, &desk, five, given, output) {
+    match run_at_desk(rt, alloc, &desk, &mut seats, others, given, output) {
         Ok(left) => close(alloc, desk, seats, left, log, output),
         Err(fault) => Err(fault),
     }
 }
 
-/// Five seats out of these, where there are so many.
-fn taken<J: Naming>(seats: &mut Vec<Seat<J>>) -> Option<Seats<J>> {
-    if seats.len() < usize::from(SEATS) {
-        return None;
-    }
-    Some((
-        popped(seats),
-        popped(seats),
-        popped(seats),
-        popped(seats),
-        popped(seats),
-    ))
+/// The seats besides those of the loops of datagrams, out of these.
+fn taken<J: Naming>(seats: &mut Vec<Seat<J>>) -> Option<OtherSeats<J>> {
+    Some(OtherSeats {
+        streams: seats.pop()?,
+        clock: seats.pop()?,
+        console: seats.pop()?,
+        front: seats.pop()?,
+    })
 }
 
-/// The last of some seats.
-fn popped<J: Naming>(seats: &mut Vec<Seat<J>>) -> Seat<J>
-    requires { 0 < vec_len seats.old }
-    ensures { vec_len seats.new + 1 ≡ vec_len seats.old }
-{
-    match seats.pop() {
-        Some(seat) => seat,
-        None => unreachable!(),
-    }
-}
-
-/// These seats and five more. The one error is want of memory.
+/// These seats and the others. The list that the others were taken out of has room for them. The
+/// one error is want of memory.
 fn gathered<J: Naming>(
     mut seats: Vec<Seat<J>>,
-    five: Seats<J>,
+    others: OtherSeats<J>,
 ) -> Result<Vec<Seat<J>>, AllocError> {
-    seats.reserve(usize::from(SEATS))?;
-    let (first, second, third, fourth, fifth) = five;
-    seats.push_reserved(first);
-    seats.push_reserved(second);
-    seats.push_reserved(third);
-    seats.push_reserved(fourth);
-    seats.push_reserved(fifth);
+    seats.reserve(usize::from(OTHERS))?;
+    seats.push_reserved(others.streams);
+    seats.push_reserved(others.clock);
+    seats.push_reserved(others.console);
+    seats.push_reserved(others.front);
     Ok(seats)
 }
 
-/// Closes the desk, leaves its log in the file that is asked for, and reports how many calls it had: on the output, and to the client that
-/// said stop.
+/// Closes the desk, leaves its log in the file that is asked for, and reports how many calls it
+/// had: on the output, and to the client that said stop.
 fn close<J: Naming, W: Write, L: Write + Drop>(
     alloc: Global,
     desk: Desk<J>,
@@ -177,11 +170,8 @@ fn close<J: Naming, W: Write, L: Write + Drop>(
 ) -> Result<(), Fault>
     ensures { (old : Option (List ℕ)) → Appends old (W.contents output.old) ready_text → Served J.opening J.limit old (W.contents output.new) result }
 {
-    let Left {
-        seats: five,
-        client,
-    } = left;
-    let seats = gathered(seats, five)?;
+    let Left { others, client } = left;
+    let seats = gathered(seats, others)?;
     match counted(alloc, desk, seats, log) {
         Ok(count) => tell_closed(count, client, output),
         Err(fault) => Err(fault),
@@ -206,7 +196,8 @@ fn counted<J: Naming, L: Write + Drop>(
     }
 }
 
-/// Reports how many calls there were. It takes no memory, so that it is reported however little there is.
+/// Reports how many calls there were. It takes no memory, so that it is reported however little
+/// there is.
 fn tell_closed<W: Write>(count: u64, client: Option<TcpStream>, output: &mut W) -> Result<(), Fault>
     ensures { (old : Option (List ℕ)) (opening : Snapshot) (limit : ℕ) → Closes opening limit count → Appends old (W.contents output.old) ready_text → Served opening limit old (W.contents output.new) result }
 {
@@ -227,7 +218,8 @@ fn told(written: io::Result<()>) -> Result<(), Fault>
     }
 }
 
-/// Runs the loops, the console and the front from five seats of a desk until serving ends.
+/// Runs the loops, the console and the front until serving ends. The seats of the loops of
+/// datagrams are taken out of their list, and come back into it.
 fn run_at_desk<
     'a,
     J: Naming + Send + Sync,
@@ -242,14 +234,15 @@ fn run_at_desk<
     rt: &'a R,
     alloc: Global,
     desk: &'a Desk<J>,
-    seats: Seats<J>,
+    seats: &mut Vec<Seat<J>>,
+    others: OtherSeats<J>,
     given: Given,
     output: &mut W,
 ) -> Result<Left<J>, Fault>
     ensures ready { OnOk result (Appends (W.contents output.old) (W.contents output.new) ready_text) }
     ensures ended { IfErr result (λ fault. Served J.opening J.limit (W.contents output.old) (W.contents output.new) (Err fault)) }
 {
-    match prepared(rt, alloc, desk, seats, given) {
+    match prepared(rt, alloc, desk, seats, others, given) {
         Ok(runners) => {
             let Runners {
                 loops,
@@ -257,7 +250,7 @@ fn run_at_desk<
                 over,
                 front,
             } = runners;
-            run_prepared(rt, alloc, loops, console, over, front, output)
+            run_prepared(rt, alloc, seats, loops, console, over, front, output)
         }
         Err(fault) => Err(fault),
     }
@@ -277,6 +270,7 @@ fn run_prepared<
 >(
     rt: &'a R,
     alloc: Global,
+    seats: &mut Vec<Seat<J>>,
     loops: Loops<'a, R, J>,
     console: DeskConsole<'a, R, J>,
     over: Over,
@@ -287,7 +281,7 @@ fn run_prepared<
     ensures ended { IfErr result (λ fault. Served J.opening J.limit (W.contents output.old) (W.contents output.new) (Err fault)) }
 {
     match write_line(output, b"ready\n") {
-        Ok(()) => left_of(rt, alloc, loops, console, over, front),
+        Ok(()) => left_of(rt, alloc, seats, loops, console, over, front),
         Err(error) => {
             drop(front);
             Err(Fault::Output(error))
@@ -308,16 +302,18 @@ fn left_of<
 >(
     rt: &'a R,
     alloc: Global,
+    seats: &mut Vec<Seat<J>>,
     loops: Loops<'a, R, J>,
     console: DeskConsole<'a, R, J>,
     over: Over,
     front: DeskFront<'a, R, J>,
 ) -> Result<Left<J>, Fault> {
     let (loops, (console, front)) = run(rt, alloc, loops, console, over, front);
-    left_by(loops, console, front)
+    left_by(seats, loops, console, front)
 }
 
-/// Runs the loops, the console and the front. It stands alone, so that the search for what lets them cross to threads ends.
+/// Runs the loops, the console and the front. It stands alone, so that the search for what lets
+/// them cross to threads ends.
 fn run<
     'a,
     J: Naming + Send + Sync,
@@ -345,13 +341,15 @@ fn run<
     run_beside(rt, alloc, loops, over, console, front)
 }
 
-/// What the loops, the console and the front leave; the first fault of theirs, where one ended by itself.
+/// What the loops, the console and the front leave; the first fault of theirs, if one ended by
+/// itself.
 fn left_by<'a, J: Naming, R: Wait + Net + Clock + RandomSource>(
+    seats: &mut Vec<Seat<J>>,
     ended: LoopsEnd<Caller<'a, R, J>>,
     console: DeskConsole<'a, R, J>,
     front: FrontEnd<Caller<'a, R, J>>,
 ) -> Result<Left<J>, Fault> {
-    let loops = left_by_loops(ended);
+    let loops = left_by_loops(seats, ended);
     let front = left_by_front(front);
     let (taker, client, fault) = console.into_parts();
     let console = match fault {
@@ -361,10 +359,12 @@ fn left_by<'a, J: Naming, R: Wait + Net + Clock + RandomSource>(
     joined(loops, console, front, client)
 }
 
-/// The seats that the loops leave, or why one ended by itself.
+/// The seats of the loops of streams and of the clock, or why a loop ended by itself. Those of the
+/// loops of datagrams come into the list, which has room for them.
 fn left_by_loops<'a, J: Naming, R: Wait>(
+    seats: &mut Vec<Seat<J>>,
     ended: LoopsEnd<Caller<'a, R, J>>,
-) -> Result<LoopSeats<J>, Fault> {
+) -> Result<(Seat<J>, Seat<J>), Fault> {
     match ended {
         Ok(ended) => {
             let Ended {
@@ -373,11 +373,10 @@ fn left_by_loops<'a, J: Naming, R: Wait>(
                 clock,
                 ..
             } = ended;
-            Ok((
-                datagrams.into_seat(),
-                streams.into_seat(),
-                clock.into_seat(),
-            ))
+            for taker in datagrams {
+                seats.push(taker.into_seat())?;
+            }
+            Ok((streams.into_seat(), clock.into_seat()))
         }
         Err(fault) => Err(Fault::Loops(fault)),
     }
@@ -395,16 +394,21 @@ fn left_by_front<'a, J: Naming, R: Wait>(
 
 /// What all leave: the fault of the loops comes first, then that of the front.
 fn joined<J: Naming>(
-    loops: Result<LoopSeats<J>, Fault>,
+    loops: Result<(Seat<J>, Seat<J>), Fault>,
     console: Result<Seat<J>, Fault>,
     front: Result<Seat<J>, Fault>,
     client: Option<TcpStream>,
 ) -> Result<Left<J>, Fault> {
-    let (first, second, third) = loops?;
-    let fifth = front?;
-    let fourth = console?;
+    let (streams, clock) = loops?;
+    let front = front?;
+    let console = console?;
     Ok(Left {
-        seats: (first, second, third, fourth, fifth),
+        others: OtherSeats {
+            streams,
+            clock,
+            console,
+            front,
+        },
         client,
     })
 }

@@ -25,11 +25,13 @@ const DIFFERS: &str = "audit differs\n";
 pub enum Fault {
     /// A switch of the environment can't be honoured.
     Switch(Switch),
+    /// The system does not give so many threads at once.
+    NoThreads(u8),
     /// The file has no line that listens.
     NoListener,
     /// The listener of this line, from 1, was not bound.
     Bind(u64, BindFault),
-    /// The system gives no sockets to wait with, no clock, or no thread.
+    /// The system gives no sockets to wait with, or no clock.
     System(io::Error),
     /// A loop ended by itself.
     Loops(LoopFault),
@@ -53,6 +55,7 @@ impl Fault {
         match self {
             Fault::Closing(_) => 4,
             Fault::Switch(_)
+            | Fault::NoThreads(_)
             | Fault::NoListener
             | Fault::Bind(..)
             | Fault::System(_)
@@ -77,6 +80,7 @@ impl Fault {
             Fault::System(error) | Fault::Front(FrontFault::System(error)) | Fault::Output(error) =>
                 failure(error),
             Fault::Switch(_)
+            | Fault::NoThreads(_)
             | Fault::NoListener
             | Fault::Bind(_, BindFault::Bind { .. })
             | Fault::Loops(_)

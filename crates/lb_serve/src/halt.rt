@@ -9,7 +9,7 @@ use std::sync::atomic::{AtomicBool, Ordering};
 #[derive(Drop)]
 pub(crate) struct Halt {
     pub(crate) stop: Arc<AtomicBool>,
-    pub(crate) datagrams: PollWaker,
+    pub(crate) datagrams: Vec<PollWaker>,
     pub(crate) streams: PollWaker,
     pub(crate) clock: PollWaker,
 }
@@ -23,7 +23,9 @@ impl Halt {
     /// Ends the loops: the flag first, and then each that waits is woken.
     pub(crate) fn halt(&self) {
         self.stop.store(true, Ordering::SeqCst);
-        self.datagrams.wake();
+        for waker in self.datagrams.iter() {
+            waker.wake();
+        }
         self.streams.wake();
         self.clock.wake();
     }

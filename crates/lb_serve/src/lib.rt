@@ -1,9 +1,10 @@
-//! What `lb serve` does: it sets a balancer up by a file, listens, and has the loops run, each in a thread of its own, with a console
-//! beside them, until the console says stop.
+//! What `lb serve` does: it sets a balancer up by a file, listens, and has the loops run, each in a
+//! thread of its own, with a console beside them, until the console says stop.
 #![tactic(auto)]
 
 mod client;
 mod console;
+mod crew;
 mod descriptors;
 mod desk;
 mod fault;

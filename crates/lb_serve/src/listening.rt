@@ -8,7 +8,7 @@ use lb_command::{Listener, Protocol, begins_listen};
 use lb_front::Bound;
 use lb_loops::{Endpoint, Front};
 use lb_sockets::{
-    BindFault, ListenSockets, TcpListeners, listener_at, listeners, std_listener_at,
+    BindFault, ListenSockets, Share, TcpListeners, listener_at, listeners, std_listener_at,
     stream_listeners,
 };
 use mio::net::TcpListener;
@@ -19,39 +19,69 @@ use std::sync::Arc;
 /// The sockets that listen.
 #[derive(Drop)]
 pub(crate) struct Listening {
+    /// Those of the first loop of datagrams.
     pub(crate) datagrams: Arc<ListenSockets>,
+    /// Those of each further one.
+    pub(crate) beside: Vec<Arc<ListenSockets>>,
     pub(crate) streams: TcpListeners,
     pub(crate) http: Vec<Bound>,
     pub(crate) consoles: Vec<TcpListener>,
 }
 
-/// Binds all addresses of a setup file's lines, which this text has. Refused, none stays bound: by the first of them that the system does not
-/// give, and where no line listens.
+/// Binds all addresses of a setup file's lines, which this text has, with sockets of datagrams for
+/// so many loops. If it is refused, none stays bound: by the first of them that the system does not
+/// give, and if no line listens.
 pub(crate) fn listen<N: Net>(
     net: &N,
     alloc: Global,
     text: &str,
     lines: &[Listener],
+    loops: u8,
 ) -> Result<Listening, Fault> {
     if lines.is_empty() {
         return Err(Fault::NoListener);
     }
-    match bound(net, alloc, lines) {
+    match bound(net, alloc, lines, loops) {
         Ok(listening) => Ok(listening),
         Err(fault) => Err(refused(text, fault)),
     }
 }
 
 /// Binds the addresses.
-fn bound<N: Net>(net: &N, alloc: Global, lines: &[Listener]) -> Result<Listening, BindFault> {
+fn bound<N: Net>(
+    net: &N,
+    alloc: Global,
+    lines: &[Listener],
+    loops: u8,
+) -> Result<Listening, BindFault> {
     let datagrams = ends(alloc, lines, Protocol::Udp)?;
     let streams = ends(alloc, lines, Protocol::Tcp)?;
+    let share = if loops > 1 {
+        Share::First
+    } else {
+        Share::Alone
+    };
     Ok(Listening {
-        datagrams: listeners(net, alloc, datagrams.as_slice())?,
+        datagrams: listeners(net, alloc, datagrams.as_slice(), share)?,
+        beside: listeners_beside(net, alloc, datagrams.as_slice(), loops)?,
         streams: stream_listeners(net, alloc, streams.as_slice())?,
         http: fronts_of_http(net, alloc, lines)?,
         consoles: consoles(net, alloc, lines)?,
     })
+}
+
+/// The listeners of each loop of datagrams after the first.
+fn listeners_beside<N: Net>(
+    net: &N,
+    alloc: Global,
+    ends: &[Option<Endpoint>],
+    loops: u8,
+) -> Result<Vec<Arc<ListenSockets>>, BindFault> {
+    let mut beside = Vec::with_capacity(alloc, usize::from(loops))?;
+    for _ in 1..loops {
+        beside.push(listeners(net, alloc, ends, Share::Beside)?)?;
+    }
+    Ok(beside)
 }
 
 /// The listeners for DNS on HTTP.

@@ -58,7 +58,8 @@ fn begun<R: Files>(rt: &R, alloc: Global, name: &str, begin: &[u8]) -> io::Resul
     Ok(file)
 }
 
-/// A new file with this name; if there is one, with the first of NAME.1 to NAME.99 that there is not.
+/// A new file with this name; if there is one, with the first of NAME.1 to NAME.99 that there is
+/// not.
 fn opened<R: Files>(rt: &R, alloc: Global, name: &str) -> io::Result<R::File> {
     let mut last = match create(rt, name) {
         Err(error) if error.kind() == ErrorKind::AlreadyExists => error,
@@ -133,8 +134,8 @@ impl<L: Write> LogFile<L> {
     }
 }
 
-/// Puts a call after a text: its event as a line of a replay, or as a comment if memory was refused for it; and then its answer as a comment,
-/// if that is asked for.
+/// Puts a call after a text: its event as a line of a replay, or as a comment if memory was refused
+/// for it; and then its answer as a comment, if that is asked for.
 fn push_call(
     alloc: Global,
     text: &mut String,

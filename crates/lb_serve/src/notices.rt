@@ -20,8 +20,9 @@ const LONGEST: usize = 512;
 /// How long it takes to the next look, in milliseconds.
 const EACH: u64 = 1_000;
 
-/// What is said while it serves: what a look at the desk shows each second, and what the console carries out. A standard error that takes
-/// nothing holds nobody up: what it does not take at once is counted, and left out.
+/// What is said while it serves: what a look at the desk shows each second, and what the console
+/// carries out. A standard error that takes nothing holds nobody up: what it does not take at once
+/// is counted, and left out.
 #[derive(Debug, Drop)]
 pub(crate) struct Notices {
     alloc: Global,
@@ -113,7 +114,8 @@ impl Notices {
     }
 }
 
-/// Says a sentence when nothing is served any more, if standard error takes it and there is memory for it.
+/// Says a sentence when nothing is served any more, if standard error takes it and there is memory
+/// for it.
 pub(crate) fn say_last(alloc: Global, words: &str) {
     Notices::new(alloc).say(words);
 }

@@ -39,8 +39,8 @@ impl Opening {
         }
     }
 
-    /// Whether the first word of the line is a method of HTTP: then a browser or another client of HTTP
-    /// speaks, whom somebody may have made send lines to a console.
+    /// Whether the first word of the line is a method of HTTP: then a browser or another client of
+    /// HTTP speaks, whom somebody may have made send lines to a console.
     pub(crate) fn is_request(&self) -> bool {
         let came = self.bytes.get(..self.len).unwrap_or_default();
         let end = came.iter().position(|byte| *byte == b' ' || *byte == b'\r');

@@ -22,8 +22,8 @@ use std::sync::{Arc, Mutex, Wait};
 use std::thread::sleep;
 use std::time::{Clock, Duration};
 
-/// How long a new server is known to the loops before it is known to the desk, in milliseconds. A turn that
-/// began with an older copy of the roster has ended by then.
+/// How long a new server is known to the loops before it is known to the desk, in milliseconds. A
+/// turn that began with an older copy of the roster has ended by then.
 const AHEAD: u64 = 10;
 
 /// What comes of a line.
@@ -39,8 +39,8 @@ pub(crate) enum Said {
     Stop,
 }
 
-/// What answers an operator's lines: a handler of events, the moments of edits, the servers as the edits leave them, and the roster by
-/// which the loops find them.
+/// What answers an operator's lines: a handler of events, the moments of edits, the servers as the
+/// edits leave them, and the roster by which the loops find them.
 #[derive(Drop)]
 pub(crate) struct Operator<T: Taker + Hears, O: Outside> {
     alloc: Global,
@@ -92,9 +92,10 @@ impl<T: Taker + Hears, O: Outside> Operator<T, O> {
         taker
     }
 
-    /// Answers a line: a command is carried out by the desk, and its answer is reported; a line that is no command is answered as a word
-    /// of the console, or by its fault. If no moment is to be had, or no memory for the answer, there is none: then nothing was done, or
-    /// the command was carried out.
+    /// Answers a line: a command is carried out by the desk, and its answer is reported; a line
+    /// that is no command is answered as a word of the console, or by its fault. If no moment is to
+    /// be had, or no memory for the answer, there is none: then nothing was done, or the command
+    /// was carried out.
     pub(crate) fn answer<R: Wait + Clock>(&mut self, rt: &R, line: &str) -> Result<Said, Fault>
         ensures said { IfOk result (λ said. Says line.now said (record { answered = T.answered self.old.taker; pairs = T.pairs self.old.taker; servers = self.old.servers }) (record { answered = T.answered self.new.taker; pairs = T.pairs self.new.taker; servers = self.new.servers })) }
         ensures unsaid { IfErr result (λ _. Leaves line.now (record { answered = T.answered self.old.taker; pairs = T.pairs self.old.taker; servers = self.old.servers }) (record { answered = T.answered self.new.taker; pairs = T.pairs self.new.taker; servers = self.new.servers })) }
@@ -161,7 +162,8 @@ impl<T: Taker + Hears, O: Outside> Operator<T, O> {
         }
     }
 
-    /// Tells the fault of a line for whose command no memory is to be had: its place is the line's end.
+    /// Tells the fault of a line for whose command no memory is to be had: its place is the line's
+    /// end.
     fn wanting(&self, line: &str, refused: AllocError) -> Result<Said, Fault>
         ensures { IfOk result (λ said. (fault : CommandFault) × (fault.kind ≡ kinds.NoMemory) × IsLine said (fault_text fault)) }
     {
@@ -172,8 +174,8 @@ impl<T: Taker + Hears, O: Outside> Operator<T, O> {
         Ok(Said::Line(fault_line(self.alloc, fault)?))
     }
 
-    /// Has the loops know where a new server is before the desk can send a query to it, under the number that
-    /// it will have. It is not probed yet.
+    /// Has the loops know where a new server is before the desk can send a query to it, under the
+    /// number that it will have. It is not probed yet.
     fn announce<R: Wait + Clock>(&self, rt: &R, command: &Command) -> Option<ServerId> {
         let Command::ServerAdd(spec, _) = command else {
             return None;
@@ -203,7 +205,8 @@ impl<T: Taker + Hears, O: Outside> Operator<T, O> {
         }
     }
 
-    /// Tells the loops where a server is of which an edit was carried out. The roster's lock is taken for that alone.
+    /// Tells the loops where a server is of which an edit was carried out. The roster's lock is
+    /// taken for that alone.
     fn tell_loops<R: Wait>(&self, rt: &R, answer: &Answer) {
         let Answer::Edited(note) = answer else {
             return;
@@ -254,7 +257,8 @@ fn place_of(server: &ServerPlace) -> Place
     }
 }
 
-/// Has the loops know where a server is. A list of servers has 256 at most, so that there is room for it.
+/// Has the loops know where a server is. A list of servers has 256 at most, so that there is room
+/// for it.
 fn put(roster: &mut Roster, server: &ServerPlace)
     ensures { Puts server.now roster.old roster.new }
 {

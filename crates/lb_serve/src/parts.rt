@@ -33,11 +33,18 @@ use std::time::Clock;
 /// How many jobs one loop may have for another.
 const JOBS: usize = 4_096;
 
-/// How many threads end queries: those of the three loops, and that of the front.
-const RINGS: usize = 4;
+/// How many threads end queries besides those of the loops of datagrams: those of the two other
+/// loops, and that of the front.
+const OTHER_RINGS: usize = 3;
 
-/// The seats that threads call from.
-pub(crate) type Seats<J> = (Seat<J>, Seat<J>, Seat<J>, Seat<J>, Seat<J>);
+/// The seats that threads call from besides those of the loops of datagrams.
+#[derive(Drop)]
+pub(crate) struct OtherSeats<J: Naming> {
+    pub(crate) streams: Seat<J>,
+    pub(crate) clock: Seat<J>,
+    pub(crate) console: Seat<J>,
+    pub(crate) front: Seat<J>,
+}
 
 /// What the loops of a desk are made of.
 pub(crate) type Loops<'a, R, J> = LoopParts<
@@ -64,36 +71,47 @@ pub(crate) struct Runners<'a, R: Wait + Net + Clock + RandomSource, J: Naming> {
     pub(crate) front: DeskFront<'a, R, J>,
 }
 
-/// The sockets of the three loops.
+/// The sockets of the loops.
 #[derive(Drop)]
 struct Sockets<'a, R: Net + Clock> {
-    datagrams: UdpSockets<'a, R>,
+    datagrams: Vec<UdpSockets<'a, R>>,
     streams: TcpSockets<'a, R>,
     clock: UdpSockets<'a, R>,
 }
 
 impl<'a, R: Net + Clock> Sockets<'a, R> {
-    /// Those that listen, and none of servers yet. The errors are the system's, and refused memory.
-    /// Listeners of the console are left.
+    /// Those that listen, and none of servers yet. The clock sends by the listeners of the first
+    /// loop of datagrams. The errors are the system's, and refused memory. Listeners of the console
+    /// are left.
     fn made(
         rt: &'a R,
         alloc: Global,
-        datagrams: Arc<ListenSockets>,
+        first: Arc<ListenSockets>,
+        beside: Vec<Arc<ListenSockets>>,
         streams: TcpListeners,
         clients: Clients,
     ) -> Result<Sockets<'a, R>, Fault> {
+        let mut datagrams = Vec::with_capacity(alloc, beside.len().saturating_add(1))?;
+        datagrams.push(UdpSockets::reading(rt, alloc, Arc::try_clone(&first)?)?)?;
+        for listeners in beside {
+            datagrams.push(UdpSockets::reading(rt, alloc, listeners)?)?;
+        }
         Ok(Sockets {
-            datagrams: UdpSockets::reading(rt, alloc, Arc::try_clone(&datagrams)?)?,
+            datagrams,
             streams: TcpSockets::listening(rt, alloc, streams, clients.room())?,
-            clock: UdpSockets::sending(rt, alloc, datagrams)?,
+            clock: UdpSockets::sending(rt, alloc, first)?,
         })
     }
 
     /// What ends the loops, by this flag.
-    fn halt(&self, stop: &Arc<AtomicBool>) -> Result<Halt, Fault> {
+    fn halt(&self, alloc: Global, stop: &Arc<AtomicBool>) -> Result<Halt, Fault> {
+        let mut datagrams = Vec::with_capacity(alloc, self.datagrams.len())?;
+        for sockets in self.datagrams.iter() {
+            datagrams.push(sockets.waker()?)?;
+        }
         Ok(Halt {
             stop: Arc::try_clone(stop)?,
-            datagrams: self.datagrams.waker()?,
+            datagrams,
             streams: self.streams.waker()?,
             clock: self.clock.waker()?,
         })
@@ -124,9 +142,13 @@ impl Shared {
     }
 
     /// The roster, and what ends the loops, for one more.
-    fn around<R: Net + Clock>(&self, sockets: &Sockets<'_, R>) -> Result<Around, Fault> {
+    fn around<R: Net + Clock>(
+        &self,
+        alloc: Global,
+        sockets: &Sockets<'_, R>,
+    ) -> Result<Around, Fault> {
         let roster = Arc::try_clone(&self.roster)?;
-        Ok((roster, sockets.halt(&self.stop)?))
+        Ok((roster, sockets.halt(alloc, &self.stop)?))
     }
 
     /// What hands answers to the requests by HTTP.
@@ -140,22 +162,28 @@ pub(crate) fn prepared<'a, J: Naming, R: Wait + Net + Clock + RandomSource>(
     rt: &'a R,
     alloc: Global,
     desk: &'a Desk<J>,
-    seats: Seats<J>,
+    seats: &mut Vec<Seat<J>>,
+    others: OtherSeats<J>,
     given: Given,
 ) -> Result<Runners<'a, R, J>, Fault>
     ensures { IfOk result (λ p. (p.loops.streams.fronts.items ≡ map front_of given.0.listeners) × (p.loops.clock.fronts.items ≡ map front_of given.0.listeners)) }
 {
     let (setup, switches, listening) = given;
-    let rings = Rings::made(alloc, RINGS, switches.recent)?;
-    let (takers, of_console, of_front) = callers(rt, desk, seats, &rings)?;
+    let rings = Rings::made(
+        alloc,
+        seats.len().saturating_add(OTHER_RINGS),
+        switches.recent,
+    )?;
+    let (takers, of_console, of_front) = callers(rt, alloc, desk, seats, others, &rings)?;
     let Listening {
         datagrams,
+        beside,
         streams,
         http,
         consoles,
     } = listening;
-    let clients = Clients::under(limit(), setup.listeners(), setup.servers());
-    let sockets = Sockets::made(rt, alloc, datagrams, streams, clients)?;
+    let clients = Clients::under(limit(), setup.listeners(), setup.servers(), switches.loops);
+    let sockets = Sockets::made(rt, alloc, datagrams, beside, streams, clients)?;
     let outside = SystemOutside::new(rt)?;
     let shared = Shared::made(alloc, setup.servers())?;
     let (sender, second_sender, receiver) = Outbox::made(alloc, JOBS)?;
@@ -175,34 +203,65 @@ pub(crate) fn prepared<'a, J: Naming, R: Wait + Net + Clock + RandomSource>(
     );
     let (console, over) = console_of(rt, alloc, console, &sockets, &shared)?;
     let posts = (shared.posts(rt, alloc)?, shared.posts(rt, alloc)?);
-    let around = (shared.roster, sockets.halt(&shared.stop)?);
+    let around = (shared.roster, sockets.halt(alloc, &shared.stop)?);
     let jobs = (second_sender, receiver);
     Ok(Runners {
-        loops: parts_of(sockets, outside, takers, fronts, posts, jobs, around),
+        loops: parts_of(alloc, sockets, outside, takers, fronts, posts, jobs, around)?,
         console,
         over,
         front,
     })
 }
 
-/// The handlers of events of the loops, of the console and of the front, each by a seat of its own. The console's ends no query.
+/// The handlers of events of the loops, of the console and of the front, each by a seat of its own.
+/// The console's ends no query.
 fn callers<'a, J: Naming, R: Wait>(
     rt: &'a R,
+    alloc: Global,
     desk: &'a Desk<J>,
-    seats: Seats<J>,
+    seats: &mut Vec<Seat<J>>,
+    others: OtherSeats<J>,
     rings: &Rings,
 ) -> Result<(Callers<'a, R, J>, Caller<'a, R, J>, Caller<'a, R, J>), AllocError> {
-    let (first, second, third, fourth, fifth) = seats;
+    let OtherSeats {
+        streams,
+        clock,
+        console,
+        front,
+    } = others;
+    let datagrams = callers_of_datagrams(rt, alloc, desk, seats, rings)?;
+    let place = datagrams.len();
     let takers = (
-        noting(rt, desk, first, rings, 0)?,
-        noting(rt, desk, second, rings, 1)?,
-        noting(rt, desk, third, rings, 2)?,
+        datagrams,
+        noting(rt, desk, streams, rings, place)?,
+        noting(rt, desk, clock, rings, place.saturating_add(1))?,
     );
-    let of_front = noting(rt, desk, fifth, rings, 3)?;
-    Ok((takers, Caller::new(rt, desk, fourth), of_front))
+    let of_front = noting(rt, desk, front, rings, place.saturating_add(2))?;
+    Ok((takers, Caller::new(rt, desk, console), of_front))
 }
 
-/// The handler that calls a desk from a seat, and notes the queries that end by its calls in the ring at a place, where any are noted.
+/// The handlers of events of the loops of datagrams, one by each of these seats, which are taken
+/// out of their list.
+fn callers_of_datagrams<'a, J: Naming, R: Wait>(
+    rt: &'a R,
+    alloc: Global,
+    desk: &'a Desk<J>,
+    seats: &mut Vec<Seat<J>>,
+    rings: &Rings,
+) -> Result<Vec<Caller<'a, R, J>>, AllocError> {
+    let mut takers = Vec::with_capacity(alloc, seats.len())?;
+    for place in 0..seats.len() {
+        if let Some(seat) = seats.pop() {
+            takers
+                .push(noting(rt, desk, seat, rings, place)?)
+                .map_err(AllocError::from)?;
+        }
+    }
+    Ok(takers)
+}
+
+/// The handler that calls a desk from a seat, and notes the queries that end by its calls in the
+/// ring at a place, where any are noted.
 fn noting<'a, J: Naming, R: Wait>(
     rt: &'a R,
     desk: &'a Desk<J>,
@@ -216,8 +275,8 @@ fn noting<'a, J: Naming, R: Wait>(
     Ok(Caller::noting(rt, desk, seat, rings.ring(place)?))
 }
 
-/// What the console has alone: its listeners, the words that it answers by itself, its handler of events, its moments and random
-/// words, and the setup file's servers.
+/// What the console has alone: its listeners, the words that it answers by itself, its handler of
+/// events, its moments and random words, and the setup file's servers.
 type OwnOfConsole<'a, R, J> = (
     Vec<TcpListener>,
     Words,
@@ -234,7 +293,7 @@ fn console_of<'a, J: Naming, R: Wait + Net + Clock + RandomSource>(
     sockets: &Sockets<'a, R>,
     shared: &Shared,
 ) -> Result<(DeskConsole<'a, R, J>, Over), Fault> {
-    let around = shared.around(sockets)?;
+    let around = shared.around(alloc, sockets)?;
     console_by(rt, alloc, own, around)
 }
 
@@ -253,7 +312,8 @@ fn console_by<'a, J: Naming, R: Wait + Net + Clock + RandomSource>(
     Ok((console, Over { waker }))
 }
 
-/// What the front of DNS on HTTP has alone: its listeners, its handler of events, its end of the outbox, and its moments and words.
+/// What the front of DNS on HTTP has alone: its listeners, its handler of events, its end of the
+/// outbox, and its moments and words.
 type OwnOfHttp<'a, R, J> = (Vec<Bound>, Caller<'a, R, J>, Sender, SystemOutside<'a, R>);
 
 /// The front of DNS on HTTP.
@@ -279,15 +339,41 @@ fn front_of_http<'a, J: Naming, R: Wait + Net + Clock + RandomSource>(
     };
     Ok(Fronting {
         parts,
-        halt: sockets.halt(&shared.stop)?,
+        halt: sockets.halt(alloc, &shared.stop)?,
     })
 }
 
-/// The handlers of events of the three loops.
-type Callers<'a, R, J> = (Caller<'a, R, J>, Caller<'a, R, J>, Caller<'a, R, J>);
+/// The handlers of events of the loops: of those of datagrams, of that of streams and of the clock.
+type Callers<'a, R, J> = (Vec<Caller<'a, R, J>>, Caller<'a, R, J>, Caller<'a, R, J>);
+
+/// What the loops of datagrams are made of.
+type DatagramRow<'a, R, J> = Vec<
+    DatagramParts<UdpSockets<'a, R>, Caller<'a, R, J>, SystemOutside<'a, R>>,
+>;
+
+/// What the loops of datagrams are made of, each of its sockets and its handler.
+fn row_of<'a, J: Naming, R: Wait + Net + Clock + RandomSource>(
+    alloc: Global,
+    sockets: Vec<UdpSockets<'a, R>>,
+    takers: Vec<Caller<'a, R, J>>,
+    outside: &SystemOutside<'a, R>,
+) -> Result<DatagramRow<'a, R, J>, AllocError> {
+    let mut row = Vec::with_capacity(alloc, takers.len())?;
+    for (sockets, taker) in sockets.into_iter().zip(takers) {
+        let outside = outside.beside();
+        row.push(DatagramParts {
+            sockets,
+            taker,
+            outside,
+        })
+        .map_err(AllocError::from)?;
+    }
+    Ok(row)
+}
 
 /// What the loops are made of.
 fn parts_of<'a, J: Naming, R: Wait + Net + Clock + RandomSource>(
+    alloc: Global,
     sockets: Sockets<'a, R>,
     outside: SystemOutside<'a, R>,
     takers: Callers<'a, R, J>,
@@ -295,11 +381,12 @@ fn parts_of<'a, J: Naming, R: Wait + Net + Clock + RandomSource>(
     posts: (HttpPosts<'a, R>, HttpPosts<'a, R>),
     jobs: (Sender, Receiver),
     around: Around,
-) -> Loops<'a, R, J>
-    ensures { (result.streams.fronts ≡ fronts.0) × (result.clock.fronts ≡ fronts.1) }
+) -> Result<Loops<'a, R, J>, AllocError>
+    ensures { IfOk result (λ loops. (loops.streams.fronts ≡ fronts.0) × (loops.clock.fronts ≡ fronts.1)) }
 {
     let (sender, receiver) = jobs;
     let (roster, halt) = around;
+    let row = row_of(alloc, sockets.datagrams, takers.0, &outside)?;
     let (streams_outside, clock_outside) = (outside.beside(), outside.beside());
     let Halt {
         stop,
@@ -307,12 +394,8 @@ fn parts_of<'a, J: Naming, R: Wait + Net + Clock + RandomSource>(
         streams,
         clock,
     } = halt;
-    Parts {
-        datagrams: DatagramParts {
-            sockets: sockets.datagrams,
-            taker: takers.0,
-            outside,
-        },
+    Ok(Parts {
+        datagrams: row,
         streams: StreamParts {
             sockets: sockets.streams,
             receiver,
@@ -332,8 +415,8 @@ fn parts_of<'a, J: Naming, R: Wait + Net + Clock + RandomSource>(
         roster,
         gate: OpenGate,
         stop,
-        datagrams_waker: datagrams,
+        datagrams_wakers: datagrams,
         streams_waker: streams,
         clock_waker: clock,
-    }
+    })
 }

@@ -55,13 +55,19 @@ impl Sentences {
         alloc: Global,
         text: &str,
         setup: &Setup,
+        loops: u8,
     ) -> Result<(), AllocError> {
         let lines = setup.listeners();
-        let wanted = wanted(setup.servers());
+        let wanted = wanted(setup.servers(), loops);
         if let Some(limit) = limit()
             && limit < wanted
         {
-            let Clients { streams, http } = Clients::under(Some(limit), lines, setup.servers());
+            let Clients { streams, http } = Clients::under(
+                Some(limit),
+                lines,
+                setup.servers(),
+                loops,
+            );
             let words = format!(in alloc;
                 "the system allows {limit} descriptors: {streams} clients by TCP and {http} by HTTP at a time; 1,024 of each and 256 servers need {wanted} (ulimit -n {wanted})"
             )?;
@@ -112,6 +118,12 @@ impl Sentences {
             }
             Fault::Switch(Switch::LogAnswers) => {
                 String::from_str(alloc, "LB_LOG_ANSWERS is neither 0 nor 1")?
+            }
+            Fault::Switch(Switch::Loops) => {
+                String::from_str(alloc, "LB_LOOPS is no number from 1 to 16")?
+            }
+            Fault::NoThreads(count) => {
+                format!(in alloc; "the system gives no {count} threads at once")?
             }
             Fault::NoListener => String::from_str(alloc, "no line of the file listens")?,
             Fault::Bind(line, BindFault::Bind { at, error, .. }) => {

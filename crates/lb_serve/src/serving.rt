@@ -8,12 +8,13 @@ ghost use Rattle.lb_program.specs.declared.faults.Stop.TheVariants.{Input};
 ghost use Rattle.lb_serve.specs.Fault.{fault_status, fault_text};
 ghost use Rattle.lb_serve.specs.Serving.{EndsServe, Says, Served, TellsBehind, serve_status, serve_text};
 
+use crate::crew::{spare_threads, threads_of};
 use crate::desk::{Ready, serve_at_desk};
 use crate::fault::Fault;
 use crate::listening::listen;
 use crate::log;
 use crate::sentences::Sentences;
-use crate::switches::Switches;
+use crate::switches::{Switches, loops_of};
 use lb_core::Balancer;
 use lb_program::{Ended, Setup, Stop, read_setup, write_line};
 use std::alloc::Global;
@@ -27,10 +28,12 @@ use std::sync::Wait;
 use std::thread::Threads;
 use std::time::Clock;
 
-/// Serves by a setup file's text: its commands are applied to an empty balancer, its addresses are bound, `ready` is written, and clients are
-/// answered until the console says stop; then `closed N` is written, N being how many calls the balancer had. Gives the exit status: 0; 1 after
-/// a line that does not read, or whose edit is refused; 3 where the system does not give what is needed, or memory is wanting; 4 where the
-/// calls' log differs from what the callers kept. What ended it early is told in one line on `faults`, behind sentences that begin with `lb: `.
+/// Serves by a setup file's text: its commands are applied to an empty balancer, its addresses are
+/// bound, `ready` is written, and clients are answered until the console says stop; then `closed N`
+/// is written, N being how many calls the balancer had. Gives the exit status: 0; 1 after a line
+/// that does not read, or whose edit is refused; 3 where the system does not give what is needed,
+/// or memory is wanting; 4 where the calls' log differs from what the callers kept. What ended it
+/// early is told in one line on `faults`, behind sentences that begin with `lb: `.
 pub fn serve<
     R: Files
         + Threads
@@ -100,8 +103,9 @@ fn serve_by<
     }
 }
 
-/// What is there before a setup file is served: what the switches ask for, and the addresses of its text, which are bound then.
-fn ready<R: Net<Listener = TcpListener, Stream = TcpStream> + Env + Files>(
+/// What is there before a setup file is served: what the switches ask for, threads for that, and
+/// the addresses of its text, which are bound then.
+fn ready<R: Net<Listener = TcpListener, Stream = TcpStream> + Env + Files + Threads>(
     rt: &R,
     alloc: Global,
     text: &str,
@@ -110,7 +114,8 @@ fn ready<R: Net<Listener = TcpListener, Stream = TcpStream> + Env + Files>(
     ensures { IfOk result (λ ready. ready.setup ≡ setup) }
 {
     let switches = Switches::read(rt, alloc)?;
-    let listening = listen(rt, alloc, text, setup.listeners())?;
+    spare_threads(rt, alloc, threads_of(switches.loops))?;
+    let listening = listen(rt, alloc, text, setup.listeners(), switches.loops)?;
     let log = log::made(rt, alloc, text, &switches)?;
     Ok(Ready {
         setup,
@@ -120,17 +125,25 @@ fn ready<R: Net<Listener = TcpListener, Stream = TcpStream> + Env + Files>(
     })
 }
 
-/// Tells what an operator should know before the program serves. Where that can't be told, it is not.
-fn warn<R: Env, F: Write>(rt: &R, alloc: Global, text: &str, setup: &Setup, faults: &mut F)
+/// Tells what an operator should know before the program serves. Where that can't be told, it is
+/// not.
+fn warn<R: Env + Threads, F: Write>(
+    rt: &R,
+    alloc: Global,
+    text: &str,
+    setup: &Setup,
+    faults: &mut F,
+)
     ensures { Says (F.contents faults.old) (F.contents faults.new) }
 {
     let mut sentences = Sentences::none(alloc);
-    let _ = sentences.warn(alloc, text, setup);
+    let _ = sentences.warn(alloc, text, setup, loops_of(rt).unwrap_or(1));
     let _ = sentences.warn_of_words(alloc, rt);
     let _ = write_line(faults, sentences.as_bytes());
 }
 
-/// Tells what ended serving, in a sentence and the text of its status; nothing where the console said stop.
+/// Tells what ended serving, in a sentence and the text of its status; nothing where the console
+/// said stop.
 fn tell<F: Write>(alloc: Global, end: Result<(), Fault>, faults: &mut F) -> Ended
     ensures status { result.status ≡ serve_status end }
     ensures told { (first : Option (List ℕ)) → Says first (F.contents faults.old) → TellsBehind first (F.contents faults.new) (serve_text end) result.told }

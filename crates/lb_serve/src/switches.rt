@@ -4,6 +4,8 @@ use crate::fault::Fault;
 use std::alloc::Global;
 use std::env::{Env, FillError};
 use std::io::ErrorKind;
+use std::num::NonZeroUsize;
+use std::thread::{Threads, available_parallelism};
 
 /// What the name of a switch begins with.
 const BEGIN: &[u8] = b"LB_";
@@ -17,14 +19,23 @@ const LOG: &str = "LB_LOG";
 /// Whether their answers are left there too.
 const ANSWERS: &str = "LB_LOG_ANSWERS";
 
+/// How many loops take datagrams.
+const LOOPS: &str = "LB_LOOPS";
+
 /// The names of all switches.
-const NAMES: [&str; 3] = [RECENT, LOG, ANSWERS];
+const NAMES: [&str; 4] = [RECENT, LOG, ANSWERS, LOOPS];
 
 /// The most bytes of a file's name.
 const NAME: usize = 4_096;
 
 /// The most queries that are noted.
 const MOST_RECENT: u32 = 100_000;
+
+/// The most loops of datagrams that can be asked for.
+pub(crate) const MOST_LOOPS: u8 = 16;
+
+/// The most of them if none are asked for.
+const MOST_BY_DEFAULT: usize = 4;
 
 /// The most bytes of a number.
 const DIGITS: usize = 16;
@@ -44,6 +55,8 @@ pub(crate) struct Switches {
     pub(crate) log: Option<String>,
     /// Whether their answers are left there too.
     pub(crate) has_answers: bool,
+    /// How many loops take datagrams, from 1 to 16.
+    pub(crate) loops: u8,
 }
 
 /// A switch that asks for what can't be.
@@ -57,34 +70,63 @@ pub enum Switch {
     Log(ErrorKind),
     /// `LB_LOG_ANSWERS` is neither 0 nor 1.
     LogAnswers,
+    /// `LB_LOOPS` is no number from 1 to 16.
+    Loops,
 }
 
 impl Switches {
     /// Those of the environment.
-    pub(crate) fn read<R: Env>(rt: &R, alloc: Global) -> Result<Switches, Fault> {
+    pub(crate) fn read<R: Env + Threads>(rt: &R, alloc: Global) -> Result<Switches, Fault> {
         let Some(recent) = number_in(rt, RECENT, MOST_RECENT) else {
             return Err(Fault::Switch(Switch::Recent));
         };
         let Some(answers) = number_in(rt, ANSWERS, 1) else {
             return Err(Fault::Switch(Switch::LogAnswers));
         };
+        let Some(loops) = loops_of(rt) else {
+            return Err(Fault::Switch(Switch::Loops));
+        };
         Ok(Switches {
             recent,
             log: log_name(rt, alloc)?,
             has_answers: answers == 1,
+            loops,
         })
+    }
+}
+
+/// How many loops take datagrams: as many as the switch asks for, from 1 to 16. If it is not set,
+/// half as many as there are processors, but at least 1 and at most 4.
+pub(crate) fn loops_of<R: Env + Threads>(rt: &R) -> Option<u8> {
+    let asked = asked_in(rt, LOOPS, u32::from(MOST_LOOPS))?;
+    match asked {
+        Some(0) => None,
+        Some(number) => u8::try_from(number).ok(),
+        None => {
+            let processors = available_parallelism(rt).map_or(1, NonZeroUsize::get);
+            u8::try_from((processors / 2).clamp(1, MOST_BY_DEFAULT)).ok()
+        }
     }
 }
 
 /// The number of a switch, which is at most so great; 0 if it is not set.
 fn number_in<R: Env>(rt: &R, name: &str, most: u32) -> Option<u32> {
+    Some(asked_in(rt, name, most)?.unwrap_or(0))
+}
+
+/// The number of a switch, which is at most so great, if it is set.
+fn asked_in<R: Env>(rt: &R, name: &str, most: u32) -> Option<Option<u32>> {
     let mut digits = [0u8; DIGITS];
     match rt.var(name, &mut digits) {
         Ok(len) => {
             let number = number_of(digits.get(..len).unwrap_or_default())?;
-            if number <= most { Some(number) } else { None }
+            if number <= most {
+                Some(Some(number))
+            } else {
+                None
+            }
         }
-        Err(FillError::NotPresent) => Some(0),
+        Err(FillError::NotPresent) => Some(None),
         Err(FillError::TooLong) => None,
     }
 }

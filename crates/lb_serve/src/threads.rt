@@ -49,8 +49,8 @@ pub(crate) struct Fronting<T, O> {
     pub(crate) halt: Halt,
 }
 
-/// Runs the loops of `parts`, and beside them the console and the front, each in a thread of its own. Once the loops have ended, the console is
-/// woken.
+/// Runs the loops of `parts`, and beside them the console and the front, each in a thread of its
+/// own. Once the loops have ended, the console is woken.
 #[tactic(auto, using(crate::proofs::Crosses::console_send, crate::proofs::Crosses::front_send))]
 pub(crate) fn run_beside<
     'a,

@@ -7,7 +7,8 @@ use lb_command::MAX_LINE;
 use std::alloc::{AllocError, Global};
 use std::str::from_utf8;
 
-/// The most bytes of a line that are held: those of the longest line, and a carriage return behind it.
+/// The most bytes of a line that are held: those of the longest line, and a carriage return behind
+/// it.
 const MAX_HELD: usize = MAX_LINE + 1;
 
 /// What a whole line is.
@@ -39,7 +40,8 @@ impl Typed {
         }
     }
 
-    /// A piece of the line comes, without its line feed. Refused for want of memory, nothing has changed.
+    /// A piece of the line comes, without its line feed. Refused for want of memory, nothing has
+    /// changed.
     pub(crate) fn take(&mut self, piece: &[u8]) -> Result<(), AllocError>
         ensures { OnErr result ((self.new.bytes.items ≡ self.old.bytes.items) × (self.new.is_long ≡ self.old.is_long)) }
     {

@@ -30,6 +30,7 @@ pub use laws::{
     wakers_are_shared,
 };
 pub use listening::{BindFault, ListenSockets, listeners};
+pub use options::Share;
 pub use outside::SystemOutside;
 pub use streams::TcpSockets;
 pub use waker::PollWaker;

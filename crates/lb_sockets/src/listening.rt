@@ -6,7 +6,7 @@ ghost use Rattle.lb_lines.specs.declared.traffic.Socket.TheVariants as sockets;
 ghost use Rattle.lb_sockets.specs.Datagrams.{listens_at};
 
 use crate::addresses::socket_addr;
-use crate::options::bound;
+use crate::options::{Share, bound};
 use crate::wire::Wire;
 use lb_lines::{Endpoint, Socket};
 use mio::net::UdpSocket;
@@ -81,19 +81,21 @@ impl ListenSockets {
     }
 }
 
-/// Binds a listener at each of these ends, which stand at the places of the listen lines, of which there are at most 256. The loops share
-/// them: one reads them, and others send by them.
+/// Binds a listener at each of these ends, which stand at the places of the listen lines, of which
+/// there are at most 256. The loops share them: one reads them, and others send by them. If several
+/// loops read, each has listeners of its own, and those of the first are bound first.
 pub fn listeners<N: Net>(
     net: &N,
     alloc: Global,
     ends: &[Option<Endpoint>],
+    share: Share,
 ) -> Result<Arc<ListenSockets>, BindFault>
     ensures { IfOk result (λ shared. map is_some (arc_value shared).sockets.items ≡ map is_some ends.now) }
 {
     let mut sockets = Vec::with_capacity(alloc, ends.len())?;
     for end in ends {
         let place = sockets.len();
-        sockets.push(listener(net, place, *end)?)?;
+        sockets.push(listener(net, place, *end, share)?)?;
     }
     Ok(Arc::new(alloc, ListenSockets { sockets })?)
 }
@@ -103,13 +105,14 @@ fn listener<N: Net>(
     net: &N,
     place: usize,
     end: Option<Endpoint>,
+    share: Share,
 ) -> Result<Option<UdpSocket>, BindFault>
     ensures { IfOk result (λ socket. is_some socket ≡ is_some end) }
 {
     let Some(end) = end else {
         return Ok(None);
     };
-    match bound(net, end) {
+    match bound(net, end, share) {
         Ok(socket) => Ok(Some(socket)),
         Err(error) => Err(not_bound(place, end, error)),
     }

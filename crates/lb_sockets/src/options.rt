@@ -24,12 +24,32 @@ const DATAGRAMS: i32 = c::SOCK_DGRAM | c::SOCK_NONBLOCK | c::SOCK_CLOEXEC;
 /// A socket of streams that never blocks.
 const STREAMS: i32 = c::SOCK_STREAM | c::SOCK_NONBLOCK | c::SOCK_CLOEXEC;
 
-/// A socket of datagrams that never blocks, bound at an end, with wide room for what waits. One of IPv6 takes no datagrams of IPv4.
-pub(crate) fn bound<N: Net>(_net: &N, end: Endpoint) -> io::Result<UdpSocket> {
+/// Whether several sockets of datagrams listen at one end. The system then parts clients among them
+/// (socket(7), SO_REUSEPORT).
+#[derive(Clone, Copy, Debug, PartialEq, Eq)]
+pub enum Share {
+    /// No other one does.
+    Alone,
+    /// This one is the first. It is bound as if it were alone, so that it is refused if another
+    /// program listens at the end.
+    First,
+    /// This one stands beside the first.
+    Beside,
+}
+
+/// A socket of datagrams that never blocks, bound at an end, with wide room for what waits. One of
+/// IPv6 takes no datagrams of IPv4.
+pub(crate) fn bound<N: Net>(_net: &N, end: Endpoint, share: Share) -> io::Result<UdpSocket> {
     let address = socket_addr(end);
     let socket = opened(&address, DATAGRAMS)?;
     set(&socket, c::SOL_SOCKET, c::SO_RCVBUF, ROOM)?;
+    if share == Share::Beside {
+        set(&socket, c::SOL_SOCKET, c::SO_REUSEPORT, 1)?;
+    }
     bind(&socket, &address)?;
+    if share == Share::First {
+        set(&socket, c::SOL_SOCKET, c::SO_REUSEPORT, 1)?;
+    }
     Ok(UdpSocket::from(socket))
 }
 

@@ -4,7 +4,7 @@ ghost use Rattle.std.specs.Prelude.{IfSome, ◌≡◌};
 ghost use Rattle.lb_lines.specs.declared.traffic.Socket.TheVariants as sockets;
 
 use crate::addresses::{any_beside, socket_addr};
-use crate::options::bound;
+use crate::options::{Share, bound};
 use crate::readiness::Readiness;
 use crate::wire::Wire;
 use lb_lines::{Endpoint, Socket};
@@ -247,7 +247,7 @@ pub(crate) fn close_idle<R: Clock>(
 
 /// A socket that is connected to an end, so that the system leaves out what others send to it.
 pub(crate) fn connected<N: Net>(net: &N, at: Endpoint) -> io::Result<UdpSocket> {
-    let socket = bound(net, any_beside(at))?;
+    let socket = bound(net, any_beside(at), Share::Alone)?;
     socket.connect(socket_addr(at))?;
     Ok(socket)
 }

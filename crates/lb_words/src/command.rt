@@ -10,7 +10,8 @@ use lb_servers::{Ident, Mode, Policy, PoolName, ServerSpec};
 use lb_wire::RuleId;
 use std::alloc::{AllocError, Global};
 
-/// A command as a line that reads as it. What it would say anyway is left out.
+/// A command as a line that reads as it. An option at its default is left out, except `skip`, which
+/// is always written.
 pub(crate) fn command_text(alloc: Global, command: &Command) -> Result<String, AllocError> {
     match command {
         Command::RuleAdd(place, rule) => rule_add(alloc, *place, rule),

@@ -1,5 +1,8 @@
 //! Events, as lines of a replay.
 
+ghost use Rattle.std.specs.Prelude.{◌≡◌};
+ghost use Rattle.lb_core.specs.Answer.{marked};
+
 use crate::command::command_text;
 use crate::texts::push_addr;
 use lb_chain::ChainFault;
@@ -8,8 +11,8 @@ use lb_servers::ParkFault;
 use lb_wire::{Kept, Kind, Lane, Octets, Origin, ServerId};
 use std::alloc::{AllocError, Global};
 
-/// An event as a line that `lb replay` reads as it, but for what such a line leaves out: the listener and the port of a client. The line has
-/// no line feed. The one error is want of memory.
+/// An event as a line that `lb replay` reads as it, but for what such a line leaves out: the
+/// listener and the port of a client. The line has no line feed. The one error is want of memory.
 pub fn event_line(alloc: Global, event: &Event) -> Result<String, AllocError> {
     match event {
         Event::Query {
@@ -88,7 +91,9 @@ fn hex_of(alloc: Global, bytes: &Octets) -> Result<String, AllocError> {
 }
 
 /// Whether an answer says that memory was refused.
-pub fn has_lacked(answer: &Answer) -> bool {
+pub fn has_lacked(answer: &Answer) -> bool
+    ensures { result ≡ marked answer.now }
+{
     match answer {
         Answer::NoMemory(_)
         | Answer::Deliver(_, _, Kept::NoMemory)

@@ -72,8 +72,8 @@ pub enum Heard {
     Quit,
 }
 
-/// What the words of the console need beside the desk: what the setup file states of listeners and the log, when serving began, and the
-/// last queries that ended.
+/// What the words of the console need beside the desk: what the setup file states of listeners and
+/// the log, when serving began, and the last queries that ended.
 #[derive(Drop)]
 pub struct Words {
     alloc: Global,

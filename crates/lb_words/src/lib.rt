@@ -1,6 +1,6 @@
-//! The words of the console that change nothing: lists of what the balancer has, and what was counted of it. What is listed is looked
-//! at under the desk's lock, and what is taken from there is bounded. Contracts say which lines these
-//! words answer; none speaks of the texts.
+//! The words of the console that change nothing: lists of what the balancer has, and what was
+//! counted of it. What is listed is looked at under the desk's lock, and what is taken from there
+//! is bounded. Contracts say which lines these words answer; none speaks of the texts.
 #![tactic(auto)]
 
 mod command;

@@ -28,7 +28,8 @@ impl Lines {
         Ok(())
     }
 
-    /// The lines, and after them `# end N`, in which N is their number. The last line has no line feed.
+    /// The lines, and after them `# end N`, in which N is their number. The last line has no line
+    /// feed.
     pub(crate) fn ended(self) -> Result<String, AllocError> {
         let Lines {
             alloc,

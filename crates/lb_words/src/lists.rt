@@ -240,7 +240,8 @@ pub(crate) const ANSWERS: [(Count, &str); 24] = [
     (Count::LackedMemory, "nomemory"),
 ];
 
-/// Counts of events and answers, and of the queries of each listener, with the names of Prometheus' text format.
+/// Counts of events and answers, and of the queries of each listener, with the names of Prometheus'
+/// text format.
 pub(crate) fn counters(
     alloc: Global,
     told: &Told,

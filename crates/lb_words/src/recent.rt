@@ -52,7 +52,8 @@ fn is_drop(why: Count) -> bool {
     matches!(why, Count::Short | Count::NotQuery | Count::RuleDropped)
 }
 
-/// Whether the name of a question is this one or below it. A name of which labels had no room is below what they end with.
+/// Whether the name of a question is this one or below it. A name of which labels had no room is
+/// below what they end with.
 fn is_under(question: Option<&Question>, name: &Name) -> bool {
     let Some(question) = question else {
         return false;
@@ -283,8 +284,9 @@ fn push_server(
     push_number(alloc, text, server.0)
 }
 
-/// Puts the name of a question after a text, without the dot at its end: the root is a dot, and two dots stand for labels that had no
-/// room. An octet that is no printable ASCII, a dot or a backslash is a backslash and three digits (RFC 1035 section 5.1).
+/// Puts the name of a question after a text, without the dot at its end: the root is a dot, and two
+/// dots stand for labels that had no room. An octet that is no printable ASCII, a dot or a
+/// backslash is a backslash and three digits (RFC 1035 section 5.1).
 pub(crate) fn push_labels(
     alloc: Global,
     text: &mut String,

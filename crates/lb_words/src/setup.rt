@@ -17,8 +17,9 @@ const FIRST_TIMEOUT: u32 = 2000;
 /// The codes that a cache skips if its command names none.
 const COOKIE: [u16; 1] = [10];
 
-/// The commands that give from an empty balancer what stands now, but for numbers, after the lines of the setup file that listen and
-/// state the log's limit. What a command would say anyway is left out.
+/// The commands that give from an empty balancer what stands now, but for numbers, after the lines
+/// of the setup file that listen and state the log's limit. What a command would say anyway is left
+/// out.
 pub(crate) fn setup<R: Wait, J: Naming>(
     rt: &R,
     alloc: Global,

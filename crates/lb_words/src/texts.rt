@@ -57,8 +57,9 @@ pub(crate) fn push_name(text: &mut String, name: &Name) -> Result<(), AllocError
     text.push_str(written.strip_suffix(".").unwrap_or(written))
 }
 
-/// Puts an address after a text, as short as it can be. An IPv6 address has its longest run of groups of zeros, of several the first,
-/// as `::`, even if it is one group, and no part of it is written in decimal.
+/// Puts an address after a text, as short as it can be. An IPv6 address has its longest run of
+/// groups of zeros, of several the first, as `::`, even if it is one group, and no part of it is
+/// written in decimal.
 pub(crate) fn push_addr(alloc: Global, text: &mut String, addr: &Addr) -> Result<(), AllocError> {
     match addr {
         Addr::V4(octets) => push_v4(alloc, text, octets),

@@ -71,8 +71,8 @@ fn octets_of(addr: &Addr) -> &[u8] {
     }
 }
 
-/// What so many of the last queries have that a filter takes, the most frequent first, with their count and their share of all that the
-/// filter takes.
+/// What so many of the last queries have that a filter takes, the most frequent first, with their
+/// count and their share of all that the filter takes.
 pub(crate) fn top<R: Wait>(
     rt: &R,
     alloc: Global,
@@ -96,7 +96,8 @@ pub(crate) fn top<R: Wait>(
     lines.ended()
 }
 
-/// Each key and how many queries have it, the most frequent first; of those with one count, in the order of the keys.
+/// Each key and how many queries have it, the most frequent first; of those with one count, in the
+/// order of the keys.
 fn counted(
     alloc: Global,
     by: By,

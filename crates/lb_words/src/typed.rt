@@ -1,6 +1,7 @@
 //! Words and numbers of a line.
 
-/// Where the next word at or after a place begins and ends. If there is none, both are the line's length.
+/// Where the next word at or after a place begins and ends. If there is none, both are the line's
+/// length.
 pub(crate) fn next_word(bytes: &[u8], from: usize) -> (usize, usize) {
     let rest = bytes.get(from..).unwrap_or_default();
     let begin = match rest.iter().position(|byte| *byte != b' ') {

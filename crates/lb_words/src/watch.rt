@@ -40,8 +40,9 @@ impl Watch {
         }
     }
 
-    /// Looks, and says what changed since the last look: servers that went down or came up, the first reply that a full cache had no room
-    /// for, and refused memory. The first look says nothing. The one error is want of memory: then the next look says it.
+    /// Looks, and says what changed since the last look: servers that went down or came up, the
+    /// first reply that a full cache had no room for, and refused memory. The first look says
+    /// nothing. The one error is want of memory: then the next look says it.
     pub fn changes<R: Wait, J: Naming>(
         &mut self,
         rt: &R,

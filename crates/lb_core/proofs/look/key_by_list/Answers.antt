@@ -12,8 +12,8 @@ returns-then-is_none c =
     let asked = c.requires.view in
     let without : first_opt (opts asked.0.records) ≡ None = sym asked.3.opt ∙ none_by c.args.view.now.opt c.is_none.result c.is_none.ensures c.if-is_none.true in
     key_by [] skips c.args.kind c.args.bytes.now c.key_of.result
-      (λ m lays. sym (c.codes_need_an_opt.ensures skips c.args.kind m (ap (λ (m : Message). first_opt (opts m.records)) (c.one_message.ensures c.args.bytes.now m asked.0 lays asked.1) ∙ without)))
-      c.key_of.ensures
+    (λ m lays. sym (c.codes_need_an_opt.ensures skips c.args.kind m (ap (λ (m : Message). first_opt (opts m.records)) (c.one_message.ensures c.args.bytes.now m asked.0 lays asked.1) ∙ without)))
+    c.key_of.ensures
 
 pub returns : goal.returns
 returns c = key_by c.skips_of.result.now (skips_of c.args.cache c.args.upstream.now.caches) c.args.kind c.args.bytes.now c.key_of-2.result (λ m lays. ap (λ (codes : List ℕ). key_of_message codes c.args.kind m) c.skips_of.ensures) c.key_of-2.ensures

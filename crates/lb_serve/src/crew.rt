@@ -1,0 +1,54 @@
+//! The threads that serving needs.
+
+use crate::fault::Fault;
+use std::alloc::Global;
+use std::hint::spin_loop;
+use std::sync::Arc;
+use std::sync::atomic::{AtomicBool, Ordering};
+use std::thread::{Threads, spawn};
+
+/// The threads besides those of datagrams: of streams, of the clock, of the console, and of DNS on
+/// HTTP.
+const OTHERS: u8 = 4;
+
+/// How often a thread that only shows that it can be made looks whether it may end. It ends then in
+/// any case.
+const LOOKS: u32 = 10_000_000;
+
+/// How many threads serve by so many loops of datagrams.
+pub(crate) fn threads_of(loops: u8) -> u8 {
+    OTHERS.saturating_add(loops)
+}
+
+/// Makes so many threads at once and lets them end, so that a system which does not give them is
+/// found out before anything is served: parts that should run beside each other would else run one
+/// after the other.
+pub(crate) fn spare_threads<R: Threads>(rt: &R, alloc: Global, count: u8) -> Result<(), Fault> {
+    let is_over = Arc::new(alloc, AtomicBool::new(false))?;
+    let mut made = Vec::with_capacity(alloc, usize::from(count))?;
+    for _ in 0..count {
+        let may_end = Arc::try_clone(&is_over)?;
+        match spawn(rt, move || stand(&may_end)) {
+            Ok(thread) => made.push(thread)?,
+            Err(_refused) => {
+                is_over.store(true, Ordering::SeqCst);
+                return Err(Fault::NoThreads(count));
+            }
+        }
+    }
+    is_over.store(true, Ordering::SeqCst);
+    for thread in made {
+        thread.join(rt);
+    }
+    Ok(())
+}
+
+/// Stands until it may end.
+fn stand(may_end: &AtomicBool) {
+    for _ in 0..LOOKS {
+        if may_end.load(Ordering::SeqCst) {
+            return;
+        }
+        spin_loop();
+    }
+}
