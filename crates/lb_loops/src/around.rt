@@ -16,7 +16,8 @@ const TICK: u64 = 10;
 /// How long it waits at most while none can be.
 const REST: u64 = 100;
 
-/// What the loops share: where servers are, the gate, the flag that ends them, whether a query may be outstanding, and what wakes each.
+/// What the loops share: where servers are, the gate, the flag that ends them, whether a query may
+/// be outstanding, and what wakes each.
 #[derive(Drop)]
 pub(crate) struct Around<G, W: Waker> {
     pub(crate) roster: Arc<Mutex<Roster>>,
@@ -44,7 +45,7 @@ impl<G, W: Waker> Around<G, W> {
         self.clock.wake();
     }
 
-    /// Copies where servers are, where that was changed. The lock is let go before a turn begins.
+    /// Copies where servers are, if that was changed. The lock is let go before a turn begins.
     pub(crate) fn follow<R: Wait>(&self, rt: &R, copy: &mut Roster) {
         let roster = self.roster.lock(rt);
         if roster.version() != copy.version() {
@@ -52,8 +53,9 @@ impl<G, W: Waker> Around<G, W> {
         }
     }
 
-    /// Whether a loop goes on behind a turn, whose queries that were sent on and that are over are noted: where one was sent on, a clock that rests is
-    /// woken, so that the query's end is not told late.
+    /// Whether a loop goes on after a turn. Its queries that were sent on and that are over are
+    /// noted. If one was sent on, a clock that rests is woken, so that the query's end is not
+    /// reported late.
     pub(crate) fn behind(&self, report: &Report) -> Result<(), LoopFault>
         ensures { result ≡ end_behind report.now.is_held report.now.device }
     {
@@ -64,8 +66,9 @@ impl<G, W: Waker> Around<G, W> {
         goes_on
     }
 
-    /// How long the clock waits behind a turn that told a tick at a moment, in milliseconds. While a query may be outstanding that is 10; else
-    /// until something of its probes is due or over, between 10 and 100.
+    /// How long the clock waits after a turn with a tick at a moment, in milliseconds: 10 while a
+    /// query may be outstanding. Otherwise until something of its probes is due or over, between 10
+    /// and 100.
     pub(crate) fn patience<S: Datagrams, P: Posts, T: Taker, O: Outside>(
         &self,
         part: &ClockLoop<S, P, T, O>,

@@ -1,4 +1,4 @@
-//! The loop of datagrams.
+//! A loop of datagrams.
 
 ghost use Rattle.std.specs.Prelude.{IfOk, IsTrue, OnErr, is_some, length, map, option_to_list, vec_capacity, ◌++◌, ◌+◌, ◌≡◌, ◌≤◌};
 ghost use Rattle.lb_datagrams.specs.Lines.{AreLines};
@@ -12,7 +12,8 @@ use lb_datagrams::{Spare, datagram_turn};
 use lb_lines::{Datagrams, Gate, Line, Outside, Report, Roster, Taker, WaitFailed};
 use std::alloc::{AllocError, Global};
 
-/// What the loop of datagrams holds: its sockets, its event handler, its source of moments and words, and room that it keeps.
+/// What a loop of datagrams holds: its sockets, its event handler, its source of moments and words,
+/// and room that it keeps.
 #[derive(Drop)]
 pub struct DatagramLoop<S: Datagrams, T: Taker, O: Outside> {
     alloc: Global,

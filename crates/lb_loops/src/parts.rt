@@ -59,13 +59,13 @@ pub struct Parts<D, S, C, G, W> {
     pub streams: S,
     /// The loop of the clock.
     pub clock: C,
-    /// Where servers are. Each loop copies it before a turn, where it was changed.
+    /// Where servers are. Each loop copies it before a turn, if it was changed.
     pub roster: Arc<Mutex<Roster>>,
     /// What each event passes before it goes to the desk.
     pub gate: G,
     /// Set, it ends the loops. Whoever sets it wakes them.
     pub stop: Arc<AtomicBool>,
-    /// Each wakes a loop of datagrams.
+    /// Wake the loops of datagrams, one each, in their order.
     pub datagrams_wakers: Vec<W>,
     /// Wakes the loop of streams.
     pub streams_waker: W,
@@ -73,8 +73,8 @@ pub struct Parts<D, S, C, G, W> {
     pub clock_waker: W,
 }
 
-/// What loops leave that were told to end: their event handlers, the sender of the clock's loop,
-/// and the receiver.
+/// What the loops leave after they have ended: their event handlers, the sender of the clock's
+/// loop, and the receiver.
 #[derive(Drop)]
 pub struct Ended<T, U, V> {
     /// Those of the loops of datagrams, in their order.

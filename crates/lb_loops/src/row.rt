@@ -14,8 +14,8 @@ use std::sync::Wait;
 use std::thread::{Threads, join};
 
 /// Runs a loop of datagrams for each of these parts, each in a thread of its own, until the flag is
-/// set. Gives their event handlers, in order. A loop that has a fault ends all others; the fault
-/// that is given is that of the first of them.
+/// set. Gives their event handlers, in order. A loop that has a fault ends all others. If several
+/// have one, the fault of the first in the list is given.
 pub(crate) fn run_row<
     R: Threads + Wait + Sync,
     S: Datagrams + Send,
@@ -41,7 +41,7 @@ pub(crate) fn run_row<
     }
 }
 
-/// The same. The empty list that is given has room for the handlers, and they come in it.
+/// The same, with an empty list that has room for the handlers; they are returned in it.
 #[cycle(row)]
 fn run_some<
     R: Threads + Wait + Sync,

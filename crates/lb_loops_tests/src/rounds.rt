@@ -24,7 +24,8 @@ pub(crate) enum Round {
     Two(Caller, Caller),
     /// Those of four seats, each in a thread, ask so often what time brings.
     Four(u64),
-    /// Three loops run from three seats, and answer queries that wait for one another; or their gate holds everything.
+    /// Four loops, two of them of datagrams, run from four seats, and answer queries that wait for
+    /// one another; or their gate holds everything.
     Loops(bool),
     /// A seat is lost.
     Lose,

@@ -65,7 +65,7 @@ pub(crate) struct Client {
 }
 
 impl Client {
-    /// One that has said nothing. The one error is want of memory.
+    /// One that has said nothing. The one error is lack of memory.
     pub(crate) fn new(alloc: Global, stream: TcpStream) -> Result<Client, AllocError> {
         Ok(Client {
             alloc,
@@ -138,7 +138,7 @@ impl Client {
         }
     }
 
-    /// Looks at what was read, up to the end of a line. Where memory is wanting for it, the client
+    /// Looks at what was read, up to the end of a line. If memory is refused for it, the client
     /// is to be closed.
     fn look<R: Wait + Clock, T: Taker + Hears, O: Outside>(
         &mut self,
@@ -198,7 +198,7 @@ impl Client {
         }
     }
 
-    /// Has a line, or several, written in one piece with the last line feed. If memory is wanting
+    /// Has a line, or several, written in one piece with the last line feed. If memory is refused
     /// for that, the client is to be closed.
     fn say(&mut self, line: String) -> Progress {
         let is_fault = line.starts_with(FAULT);

@@ -66,7 +66,7 @@ pub(crate) struct Console<'a, R: Wait + Clock, T: Taker + Hears, O: Outside> {
 }
 
 impl<'a, R: Wait + Clock, T: Taker + Hears, O: Outside> Console<'a, R, T, O> {
-    /// One that listens with these. The errors are the system's, and want of memory.
+    /// One that listens with these. The errors are the system's, and lack of memory.
     pub(crate) fn made<N: Net>(
         rt: &'a R,
         net: &N,

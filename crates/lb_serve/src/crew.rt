@@ -11,7 +11,7 @@ use std::thread::{Threads, spawn};
 /// HTTP.
 const OTHERS: u8 = 4;
 
-/// How often a thread that only shows that it can be made looks whether it may end. It ends then in
+/// How many times a thread that is made as a trial looks whether it may end. After that it ends in
 /// any case.
 const LOOKS: u32 = 10_000_000;
 
@@ -20,9 +20,8 @@ pub(crate) fn threads_of(loops: u8) -> u8 {
     OTHERS.saturating_add(loops)
 }
 
-/// Makes so many threads at once and lets them end, so that a system which does not give them is
-/// found out before anything is served: parts that should run beside each other would else run one
-/// after the other.
+/// Makes so many threads at the same time, and lets them end. If the system does not give them,
+/// that is found before anything is served. Otherwise two parts could run one after the other.
 pub(crate) fn spare_threads<R: Threads>(rt: &R, alloc: Global, count: u8) -> Result<(), Fault> {
     let is_over = Arc::new(alloc, AtomicBool::new(false))?;
     let mut made = Vec::with_capacity(alloc, usize::from(count))?;

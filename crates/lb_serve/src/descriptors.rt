@@ -21,8 +21,8 @@ const OWN: u64 = 48;
 const OF_PROBES: u64 = 2;
 
 /// What a loop of datagrams after the first takes besides its sockets: its queue of events, and
-/// what wakes its thread.
-const OF_LOOP: u64 = 2;
+/// three wakers, which the other loops, the console and the front have.
+const OF_LOOP: u64 = 4;
 
 /// How many servers there can be.
 const SERVERS: u64 = 256;
@@ -94,8 +94,10 @@ impl Clients {
 
 /// How many descriptors 1,024 clients of each kind, 256 servers, the further lanes of these servers
 /// and so many loops of datagrams need.
-pub(crate) fn wanted(servers: &[ServerPlace], loops: u8) -> u64 {
-    let further = u64::from(loops.saturating_sub(1)).saturating_mul(SERVERS + OF_LOOP);
+pub(crate) fn wanted(lines: &[Listener], servers: &[ServerPlace], loops: u8) -> u64 {
+    let further = u64::from(loops.saturating_sub(1))
+        .saturating_mul(SERVERS)
+        .saturating_add(of_further(lines, loops));
     servers
         .iter()
         .fold(ENOUGH.saturating_add(further), |sum, server| {

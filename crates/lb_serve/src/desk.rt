@@ -145,7 +145,7 @@ fn taken<J: Naming>(seats: &mut Vec<Seat<J>>) -> Option<OtherSeats<J>> {
 }
 
 /// These seats and the others. The list that the others were taken out of has room for them. The
-/// one error is want of memory.
+/// one error is lack of memory.
 fn gathered<J: Naming>(
     mut seats: Vec<Seat<J>>,
     others: OtherSeats<J>,

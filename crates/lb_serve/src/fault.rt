@@ -25,7 +25,7 @@ const DIFFERS: &str = "audit differs\n";
 pub enum Fault {
     /// A switch of the environment can't be honoured.
     Switch(Switch),
-    /// The system does not give so many threads at once.
+    /// The system does not give so many threads at a time.
     NoThreads(u8),
     /// The file has no line that listens.
     NoListener,
@@ -43,7 +43,7 @@ pub enum Fault {
     Output(io::Error),
     /// The desk's log and its callers' receipts differ.
     Closing(CloseFault),
-    /// Memory was wanting.
+    /// Memory was refused.
     NoMemory,
 }
 
@@ -120,7 +120,7 @@ impl<T: Drop> From<AllocFailed<T>> for Fault {
     }
 }
 
-/// An error that comes by `?` is the system's. Those of the output are told by their name.
+/// An error that comes by `?` is the system's. Those of the output are named.
 impl From<io::Error> for Fault {
     ghost use Rattle.lb_serve.specs.declared.fault.Fault.TheVariants as faults;
 

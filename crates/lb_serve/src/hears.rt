@@ -12,11 +12,11 @@ use std::time::Clock;
 
 /// Has a desk at hand that a line is answered from, if it is no command.
 pub(crate) trait Hears {
-    /// What a line that is no command says. The one error is want of memory.
+    /// What a line that is no command says. The one error is lack of memory.
     fn hear(&self, words: &Words, line: &str) -> Result<Heard, AllocError>
         ensures { IfOk result (λ heard. IsHeard line.now heard) };
 
-    /// What changed since this watch looked last. The one error is want of memory.
+    /// What changed since this watch looked last. The one error is lack of memory.
     fn changes(&self, watch: &mut Watch) -> Result<Vec<String>, AllocError>;
 }
 

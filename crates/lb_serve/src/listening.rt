@@ -29,8 +29,8 @@ pub(crate) struct Listening {
 }
 
 /// Binds all addresses of a setup file's lines, which this text has, with sockets of datagrams for
-/// so many loops. If it is refused, none stays bound: by the first of them that the system does not
-/// give, and if no line listens.
+/// so many loops. If the system refuses an address, or if no line listens, it is an error and none
+/// stays bound.
 pub(crate) fn listen<N: Net>(
     net: &N,
     alloc: Global,
@@ -149,7 +149,7 @@ fn ends(
         .collect(alloc)
 }
 
-/// The end of a line, where it is of this protocol.
+/// The end of a line, if it is of this protocol.
 fn end_by(protocol: Protocol, line: &Listener) -> Option<Endpoint>
     ensures { result ≡ spec.end_by protocol line.now }
 {
@@ -160,7 +160,7 @@ fn end_by(protocol: Protocol, line: &Listener) -> Option<Endpoint>
     }
 }
 
-/// What listens at each place. The one error is want of memory.
+/// What listens at each place. The one error is lack of memory.
 pub(crate) fn fronts(alloc: Global, lines: &[Listener]) -> Result<Vec<Front>, AllocError>
     ensures { IfOk result (λ fronts. fronts.items ≡ map spec.front_of lines.now) }
 {

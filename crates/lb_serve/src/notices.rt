@@ -70,7 +70,7 @@ impl Notices {
         Ok(())
     }
 
-    /// Says how many sentences were left out, and what changed. The one error is want of memory.
+    /// Says how many sentences were left out, and what changed. The one error is lack of memory.
     fn say_changes<T: Hears>(&mut self, taker: &T) -> Result<(), AllocError> {
         let left_out = self.left_out;
         if left_out > 0 && takes() {

@@ -267,7 +267,7 @@ fn put(roster: &mut Roster, server: &ServerPlace)
     }
 }
 
-/// The roster of a list of servers. The one error is want of memory.
+/// The roster of a list of servers. The one error is lack of memory.
 pub(crate) fn roster_of(alloc: Global, servers: &[ServerPlace]) -> Result<Roster, AllocError>
     ensures { IfOk result (λ roster. IsRosterOf servers.now roster) }
 {

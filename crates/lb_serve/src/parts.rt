@@ -261,7 +261,7 @@ fn callers_of_datagrams<'a, J: Naming, R: Wait>(
 }
 
 /// The handler that calls a desk from a seat, and notes the queries that end by its calls in the
-/// ring at a place, where any are noted.
+/// ring at a place, if any are noted.
 fn noting<'a, J: Naming, R: Wait>(
     rt: &'a R,
     desk: &'a Desk<J>,

@@ -19,7 +19,7 @@ use std::io;
 /// The most unknown words of the environment that are reported.
 const MOST_WORDS: u32 = 16;
 
-/// Sentences that are still to be told.
+/// Sentences that are still to be reported.
 #[derive(Debug, Drop)]
 pub(crate) struct Sentences {
     text: String,
@@ -34,7 +34,7 @@ impl Sentences {
         }
     }
 
-    /// What is told, in lines.
+    /// What is reported, in lines.
     pub(crate) fn as_bytes(&self) -> &[u8]
         ensures { are_sentences result.now ≡ true }
     {
@@ -58,7 +58,7 @@ impl Sentences {
         loops: u8,
     ) -> Result<(), AllocError> {
         let lines = setup.listeners();
-        let wanted = wanted(setup.servers(), loops);
+        let wanted = wanted(lines, setup.servers(), loops);
         if let Some(limit) = limit()
             && limit < wanted
         {
@@ -123,7 +123,7 @@ impl Sentences {
                 String::from_str(alloc, "LB_LOOPS is no number from 1 to 16")?
             }
             Fault::NoThreads(count) => {
-                format!(in alloc; "the system gives no {count} threads at once")?
+                format!(in alloc; "the system does not give {count} threads at a time")?
             }
             Fault::NoListener => String::from_str(alloc, "no line of the file listens")?,
             Fault::Bind(line, BindFault::Bind { at, error, .. }) => {

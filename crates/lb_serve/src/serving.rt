@@ -31,9 +31,9 @@ use std::time::Clock;
 /// Serves by a setup file's text: its commands are applied to an empty balancer, its addresses are
 /// bound, `ready` is written, and clients are answered until the console says stop; then `closed N`
 /// is written, N being how many calls the balancer had. Gives the exit status: 0; 1 after a line
-/// that does not read, or whose edit is refused; 3 where the system does not give what is needed,
-/// or memory is wanting; 4 where the calls' log differs from what the callers kept. What ended it
-/// early is told in one line on `faults`, behind sentences that begin with `lb: `.
+/// that does not read, or whose edit is refused; 3 if the system does not give what is needed,
+/// or memory is refused; 4 if the calls' log differs from what the callers kept. What ended it
+/// early is reported in one line on `faults`, after sentences that begin with `lb: `.
 pub fn serve<
     R: Files
         + Threads
@@ -52,7 +52,7 @@ pub fn serve<
     serve_told(rt, rt.alloc(), text, output, faults).status
 }
 
-/// The same, and whether what ended it early was told.
+/// The same, and whether what ended it early was reported.
 pub fn serve_told<
     R: Files
         + Threads
@@ -125,7 +125,7 @@ fn ready<R: Net<Listener = TcpListener, Stream = TcpStream> + Env + Files + Thre
     })
 }
 
-/// Tells what an operator should know before the program serves. Where that can't be told, it is
+/// Reports what an operator should know before the program serves. If that can't be reported, it is
 /// not.
 fn warn<R: Env + Threads, F: Write>(
     rt: &R,
@@ -142,7 +142,7 @@ fn warn<R: Env + Threads, F: Write>(
     let _ = write_line(faults, sentences.as_bytes());
 }
 
-/// Tells what ended serving, in a sentence and the text of its status; nothing where the console
+/// Reports what ended serving, in a sentence and the text of its status; nothing if the console
 /// said stop.
 fn tell<F: Write>(alloc: Global, end: Result<(), Fault>, faults: &mut F) -> Ended
     ensures status { result.status ≡ serve_status end }
@@ -169,7 +169,7 @@ fn tell_fault<F: Write>(alloc: Global, fault: Fault, faults: &mut F) -> Ended
     }
 }
 
-/// Tells what an operator should know of a fault. Where that can't be told, it is not.
+/// Reports what an operator should know of a fault. If that can't be reported, it is not.
 fn explain<F: Write>(alloc: Global, fault: &Fault, faults: &mut F)
     ensures { Says (F.contents faults.old) (F.contents faults.new) }
 {
@@ -192,7 +192,7 @@ pub fn tell_unreadable<F: Write>(
     Ended::tell(Err(Stop::Input(error)), faults)
 }
 
-/// Tells why a file is not read. Where that can't be told, it is not.
+/// Reports why a file is not read. If that can't be reported, it is not.
 fn say_unreadable<F: Write>(alloc: Global, file: &str, error: &io::Error, faults: &mut F)
     ensures { Says (F.contents faults.old) (F.contents faults.new) }
 {

@@ -42,7 +42,7 @@ pub(crate) type LoopsEnd<T> = Result<Ended<T, T, T>, LoopFault>;
 /// What the front of DNS on HTTP leaves, or why it ended by itself.
 pub(crate) type FrontEnd<T> = Result<FrontEnded<T>, FrontFault>;
 
-/// The front of DNS on HTTP, and what ends the loops where it ends by itself.
+/// The front of DNS on HTTP, and what ends the loops if it ends by itself.
 #[derive(Drop)]
 pub(crate) struct Fronting<T, O> {
     pub(crate) parts: FrontParts<T, O, PollWaker>,
@@ -131,7 +131,7 @@ fn run_asked<
     )
 }
 
-/// Runs the front. Where it ends by itself, the loops end too.
+/// Runs the front. If it ends by itself, the loops end too.
 fn run_http<
     R: Wait + Net<Listener = TcpListener, Stream = TcpStream> + Clock + RandomSource,
     T: Taker,

@@ -7,7 +7,7 @@ use lb_command::MAX_LINE;
 use std::alloc::{AllocError, Global};
 use std::str::from_utf8;
 
-/// The most bytes of a line that are held: those of the longest line, and a carriage return behind
+/// The most bytes of a line that are held: those of the longest line, and a carriage return after
 /// it.
 const MAX_HELD: usize = MAX_LINE + 1;
 
@@ -40,7 +40,7 @@ impl Typed {
         }
     }
 
-    /// A piece of the line comes, without its line feed. Refused for want of memory, nothing has
+    /// A piece of the line comes, without its line feed. Refused for lack of memory, nothing has
     /// changed.
     pub(crate) fn take(&mut self, piece: &[u8]) -> Result<(), AllocError>
         ensures { OnErr result ((self.new.bytes.items ≡ self.old.bytes.items) × (self.new.is_long ≡ self.old.is_long)) }

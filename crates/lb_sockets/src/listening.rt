@@ -26,7 +26,7 @@ pub enum BindFault {
         at: SocketAddr,
         error: io::Error,
     },
-    /// Memory was wanting.
+    /// Memory was refused.
     #[error("no memory for the listeners")]
     NoMemory,
 }

@@ -24,8 +24,8 @@ const DATAGRAMS: i32 = c::SOCK_DGRAM | c::SOCK_NONBLOCK | c::SOCK_CLOEXEC;
 /// A socket of streams that never blocks.
 const STREAMS: i32 = c::SOCK_STREAM | c::SOCK_NONBLOCK | c::SOCK_CLOEXEC;
 
-/// Whether several sockets of datagrams listen at one end. The system then parts clients among them
-/// (socket(7), SO_REUSEPORT).
+/// Whether several sockets of datagrams listen at one end. The system then divides the clients
+/// among them (socket(7), SO_REUSEPORT).
 #[derive(Clone, Copy, Debug, PartialEq, Eq)]
 pub enum Share {
     /// No other one does.
@@ -33,7 +33,7 @@ pub enum Share {
     /// This one is the first. It is bound as if it were alone, so that it is refused if another
     /// program listens at the end.
     First,
-    /// This one stands beside the first.
+    /// A further one. It shares the end before it is bound.
     Beside,
 }
 
@@ -93,7 +93,8 @@ fn bind(socket: &OwnedFd, address: &SocketAddr) -> io::Result<()> {
     check(unsafe { c::bind(socket.as_raw_fd(), &octets, len) })
 }
 
-/// An address in the system's layout, with its length (ip(7), ipv6(7)): the family, the port, and the address behind them.
+/// An address in the system's layout, with its length (ip(7), ipv6(7)): the family, the port, and
+/// the address after them.
 fn laid(address: &SocketAddr) -> ([u8; c::_SS_SIZE], u32)
     ensures { result.1 ≤ 128 }
 {

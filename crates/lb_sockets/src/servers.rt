@@ -144,13 +144,13 @@ impl<'a, R: Clock> Servers<'a, R> {
         self.places.reserve(1)
     }
 
-    /// A slot that has no socket: the first of them, or one behind the last.
+    /// A slot that has no socket: the first of them, or one after the last.
     pub(crate) fn free_slot(&self) -> usize {
         let free = self.slots.iter().position(|slot| slot.is_none());
         free.unwrap_or(self.slots.len())
     }
 
-    /// Puts a socket into a free slot. The one error is want of memory; then the socket is closed.
+    /// Puts a socket into a free slot. The one error is lack of memory; then the socket is closed.
     pub(crate) fn put(
         &mut self,
         slot: usize,
