@@ -8,7 +8,7 @@ use Rattle.lb_program.specs.Faults.{Tells}
 use Rattle.lb_program.specs.Output.{WritesFront}
 use Rattle.lb_serve.specs.Serving.{Closes, Says, Served, TellsBehind, closed_text, output_end, ready_text}
 use Rattle.lb_serve.specs.declared.fault.Fault.{Fault}
-use Rattle.lb_serve.specs.declared.fault.Fault.TheVariants.{Switch, NoListener, Bind, System, Loops, Front, Console, Output, Closing, NoMemory}
+use Rattle.lb_serve.specs.declared.fault.Fault.TheVariants.{Switch, NoThreads, NoListener, Bind, System, Loops, Front, Console, Output, Closing, NoMemory}
 
 -- nothing was written
 pub keeps_same : (a : Option (List ℕ)) → Keeps a a
@@ -47,6 +47,7 @@ front_whole a b xs ys whole = (ys, (xs, refl, whole))
 -- nothing was written when serving ended by a fault
 pub served_nothing : (opening : Snapshot) (limit : ℕ) (a : Option (List ℕ)) (fault : Fault) → Served opening limit a a (Err fault)
 served_nothing opening limit a (Switch switch) = inl (keeps_same a)
+served_nothing opening limit a (NoThreads count) = inl (keeps_same a)
 served_nothing opening limit a NoListener = inl (keeps_same a)
 served_nothing opening limit a (Bind line fault) = inl (keeps_same a)
 served_nothing opening limit a (System error) = inl (keeps_same a)
@@ -60,6 +61,7 @@ served_nothing opening limit a NoMemory = inl (keeps_same a)
 -- the first line alone was written when serving ended by a fault
 pub served_ready : (opening : Snapshot) (limit : ℕ) (a b : Option (List ℕ)) (fault : Fault) → Appends a b ready_text → Served opening limit a b (Err fault)
 served_ready opening limit a b (Switch switch) ready = inr ready
+served_ready opening limit a b (NoThreads count) ready = inr ready
 served_ready opening limit a b NoListener ready = inr ready
 served_ready opening limit a b (Bind line fault) ready = inr ready
 served_ready opening limit a b (System error) ready = inr ready

@@ -1,6 +1,6 @@
 //! The desk that the threads of serving call, and its closing.
 
-ghost use Rattle.std.specs.Prelude.{Err, IfErr, IfOk, List, OnOk, Option, string_bytes, vec_len, ◌+◌, ◌<◌, ◌≡◌, ℕ};
+ghost use Rattle.std.specs.Prelude.{Err, IfErr, IfOk, List, OnOk, Option, string_bytes, ◌≡◌, ◌≤◌, ℕ};
 ghost use Rattle.std.specs.Io.KnownBytes.{Appends};
 ghost use Rattle.lb_core.specs.Snapshot.{Snapshot, snapshot_of};
 ghost use Rattle.lb_serve.specs.Serving.{Closes, Served, closed_text, output_end, ready_text};
