@@ -1,4 +1,4 @@
-"""What tools/peers, tools/soak and tools/race share, as they try `lb serve` on the loopback among other programs.
+"""What the tools share that try `lb serve` on the loopback, among other programs.
 
 It is no program. It has: a network of one's own (`own_network`), packages that are wanted (`need`), programs that are started and surely
 ended (`Children`), messages of DNS (`query`, `frame`, `ask_udp`, ..), and a balancer (`Balancer`): `lb serve` over lines of a setup file, or

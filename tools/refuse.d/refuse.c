@@ -1,8 +1,10 @@
 /* Refuses requests for memory of the program into which it is loaded (LD_PRELOAD), for tools/refuse.
 
-   REFUSE=K refuses the K-th request, from 1; REFUSE_EACH=K each K-th. A request is a call of malloc or realloc, or of
-   calloc, from the program's begin on, or with REFUSE_ON_SIGNAL=1 once it got the signal USR1. REFUSE_FD=N names a descriptor, to which it writes `ASKED REFUSED` as the program
-   ends: how many requests there were, and how many were refused. */
+   REFUSE=K refuses the K-th request, from 1. REFUSE_EACH=K refuses one of each K, the next one each
+   time: if something takes K requests, then each of them is refused in turn. A request is a call of
+   malloc or realloc, or of calloc, from the program's begin on, or with REFUSE_ON_SIGNAL=1 once it
+   got the signal USR1. REFUSE_FD=N names a descriptor, to which it writes `ASKED REFUSED` as the
+   program ends: how many requests there were, and how many were refused. */
 #define _GNU_SOURCE
 #include <errno.h>
 #include <signal.h>
@@ -49,7 +51,7 @@ static int is_refused(void)
     if (!is_begun)
         return 0;
     long place = ++asked;
-    if (place != which && !(each && place % each == 0))
+    if (place != which && !(each && place % each == place / each % each))
         return 0;
     refused++;
     errno = ENOMEM;

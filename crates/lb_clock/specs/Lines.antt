@@ -22,6 +22,9 @@ use Rattle.lb_lines.specs.declared.traffic.Datagram.{Datagram}
 use Rattle.lb_lines.specs.declared.traffic.Front.{Front}
 use Rattle.lb_lines.specs.declared.traffic.Front.TheVariants as fronts
 use Rattle.lb_lines.specs.declared.traffic.Socket.TheVariants as sockets
+use Rattle.lb_outbox.specs.declared.job.Job.{Job}
+use Rattle.lb_outbox.specs.declared.job.Job.TheVariants as jobs
+use Rattle.lb_wire.specs.declared.addr.Origin.{Origin}
 use Rattle.lb_wire.specs.declared.ids.ServerId.{ServerId}
 
 -- the way to a client that asked by this listener, in this slot: its datagrams have slot 0; a console, and no listener, is no way
@@ -90,6 +93,26 @@ AreLines fronts there (line ∷ more) = IsLine fronts there line × AreLines fro
 abbrev pub is_done : Sending → Bool
 is_done (Done way) = true
 is_done _ = false
+
+-- the answer of a query that timed out, and its client
+abbrev pub expired_in : Outcome → Option (Origin × List ℕ)
+expired_in (Answered (answers.Expired origin bytes)) = Some (origin, bytes)
+expired_in _ = None
+
+-- that of a line, if there was no memory for its copy
+abbrev pub unsent : Line → Option (Origin × List ℕ)
+unsent (lines.Event source event outcome (Failed whys.NoMemory)) = expired_in outcome
+unsent _ = None
+
+-- the job that carries a message to a client of this listener, if it is one of streams
+abbrev pub stream_job : Option Front → Origin → List ℕ → Option Job
+stream_job (Some fronts.Stream) origin bytes = Some (jobs.ToClient origin bytes)
+stream_job _ origin bytes = None
+
+-- the job that carries such an answer itself
+abbrev pub job_again : List Front → Option (Origin × List ℕ) → Option Job
+job_again fronts (Some (origin, bytes)) = stream_job (slice_get fronts origin.front) origin bytes
+job_again fronts None = None
 
 -- the datagram of a probe: from the server's socket to the end that the roster has of it
 abbrev pub probe_to : ServerId → ℕ → Endpoint → Datagram

@@ -1,5 +1,5 @@
 -- What the loop of the clock holds.
-use Rattle.std.specs.Prelude.{ℕ, Bool, List, map}
+use Rattle.std.specs.Prelude.{◌≡◌, ◌++◌, ◌∷◌, [], ℕ, Bool, List, Option, Some, None, map}
 use Rattle.std.specs.List.{range_with_len}
 use Rattle.lb_core.specs.declared.answer.Answer.{Answer}
 use Rattle.lb_core.specs.declared.event.Event.{Event}
@@ -7,6 +7,7 @@ use Rattle.lb_lines.specs.Stamps.{Stamp}
 use Rattle.lb_lines.specs.declared.traffic.Datagram.{Datagram}
 use Rattle.lb_lines.specs.declared.traffic.Front.{Front}
 use Rattle.lb_outbox.specs.Outbox.{Sending}
+use Rattle.lb_outbox.specs.declared.job.Job.{Job}
 use Rattle.lb_probes.specs.Probes.{Probed}
 use Rattle.lb_wire.specs.declared.addr.Origin.{Origin}
 
@@ -26,6 +27,11 @@ pub record World : Type 0 where
   pub pairs : List (Event × Answer)
   pub said : List Stamp
   pub outside : ℕ
+
+-- a job was sent, if there is one, and nothing else changed
+abbrev pub SentAgain : World → World → Option Job → Type 0
+SentAgain old new (Some job) = new ≡ record old { outbox = record old.outbox { sent = old.outbox.sent ++ job ∷ [] } }
+SentAgain old new None = new ≡ old
 
 -- at which of the 256 places there is a listener
 abbrev pub listened : (ℕ → Bool) → List Bool

@@ -1,21 +1,24 @@
 //! What the loop of the clock holds.
 
-ghost use Rattle.std.specs.Prelude.{[], IfNone, IfOk, IfSome, None, length, vec_len, ◌++◌, ◌∷◌, ◌≡◌, ◌≤◌};
-ghost use Rattle.lb_clock.specs.World.{listened};
+ghost use Rattle.std.specs.Prelude.{[], IfErr, IfNone, IfOk, IfSome, None, OnErr, OnOk, Some, length, vec_len, ◌++◌, ◌∷◌, ◌≡◌, ◌≤◌};
+ghost use Rattle.lb_clock.specs.Lines.{job_again as job_again_spec, unsent as unsent_spec};
+ghost use Rattle.lb_clock.specs.World.{SentAgain, listened};
 ghost use Rattle.lb_probes.specs.Probes.{Each, IsQuietFor};
 
+use crate::sending::{job_again, unsent};
 use crate::tally::MOST;
 use lb_lines::{Datagrams, Front, Line, Outside, Posts, Roster, Taker, WaitFailed};
-use lb_outbox::Sender;
+use lb_outbox::{Job, Sender};
 use lb_probes::Probes;
 use std::alloc::{AllocError, Global};
 use std::marker::Model;
 use std::mem;
 use std::sync::Wait;
 
-/// What the loop of the clock holds: the sockets that its probes and its answers to datagrams go by, the outbox, the HTTP requests that
-/// wait, what listens at each place of the listen lines, its event handler, its source of moments and words, and the servers that it
-/// probes. A contract sees what each of them tells.
+/// What the loop of the clock holds: the sockets that its probes and its answers to datagrams go
+/// by, the outbox, the HTTP requests that wait, what listens at each place of the listen lines, its
+/// event handler, its source of moments and words, and the servers that it probes. A contract sees
+/// what each of them tells.
 #[derive(Drop)]
 pub struct ClockLoop<S: Datagrams, P: Posts, T: Taker, O: Outside> {
     pub(crate) alloc: Global,
@@ -89,6 +92,20 @@ impl<S: Datagrams, P: Posts, T: Taker, O: Outside> ClockLoop<S, P, T, O> {
         mem::replace(&mut self.lines, Vec::new(self.alloc))
     }
 
+    /// Sends the answer of a line itself to the loop of streams, if its query timed out and there
+    /// was no memory for a copy. Its client would wait for ever otherwise. It takes no memory. A
+    /// job that comes back found the outbox full.
+    pub fn send_again<R: Wait>(&mut self, rt: &R, line: Line) -> Result<(), Job>
+        ensures sent { OnOk result (SentAgain self.old self.new (job_again_spec self.old.fronts (unsent_spec line))) }
+        ensures full { IfErr result (λ job. job_again_spec self.old.fronts (unsent_spec line) ≡ Some job) }
+        ensures same { OnErr result (self.new ≡ self.old) }
+    {
+        match job_again(self.fronts.as_slice(), unsent(line)) {
+            Some(job) => self.sender.send(rt, job),
+            None => Ok(()),
+        }
+    }
+
     /// Whether the outbox has room for the expiries of a turn. Without it they would come back, and
     /// clients of streams would wait for ever.
     pub fn has_room<R: Wait>(&mut self, rt: &R) -> bool
@@ -97,14 +114,16 @@ impl<S: Datagrams, P: Posts, T: Taker, O: Outside> ClockLoop<S, P, T, O> {
         self.sender.has_room(rt, MOST)
     }
 
-    /// Waits until a socket has a datagram, or somebody wakes it, or so many milliseconds have passed.
+    /// Waits until a socket has a datagram, or somebody wakes it, or so many milliseconds have
+    /// passed.
     pub fn wait(&mut self, at_most: u64) -> Result<(), WaitFailed>
         ensures { self.new ≡ self.old }
     {
         self.sockets.wait(at_most)
     }
 
-    /// For how long from this moment on no probe is over and none is due, at most so many milliseconds.
+    /// For how long from this moment on no probe is over and none is due, at most so many
+    /// milliseconds.
     pub fn quiet_for(&self, roster: &Roster, now: u64, at_most: u64) -> u64
         ensures within { result ≤ at_most }
         ensures quiet { Each (IsQuietFor roster.now.listed now result) self.now.probes.watched }

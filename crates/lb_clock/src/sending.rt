@@ -1,7 +1,7 @@
 //! What a turn of the clock sends.
 
 ghost use Rattle.std.specs.Prelude.{[], Bool, IfOk, List, None, Some, false, get_or, if◌then◌else◌, slice_get, ◌++◌, ◌==◌, ◌∷◌, ◌≡◌};
-ghost use Rattle.lb_clock.specs.Lines.{Comes, ComesBy, ProbeComes, is_done, probe_to};
+ghost use Rattle.lb_clock.specs.Lines.{Comes, ComesBy, ProbeComes, expired_in as expired_in_spec, is_done, job_again as job_again_spec, probe_to, unsent as unsent_spec};
 ghost use Rattle.lb_clock.specs.Turn.{FailsBy};
 ghost use Rattle.lb_clock.specs.World.{listened};
 ghost use Rattle.lb_health.specs.Probes.{probe_octets};
@@ -14,7 +14,7 @@ ghost use Rattle.lb_lines.specs.declared.roster.Listed.{Listed};
 
 use lb_core::{Answer, Event};
 use lb_health::probe;
-use lb_lines::{Datagrams, Endpoint, Front, Outcome, Posts, Sending, Socket, Way, Why};
+use lb_lines::{Datagrams, Endpoint, Front, Line, Outcome, Posts, Sending, Socket, Way, Why};
 use lb_outbox::{Job, Sender};
 use lb_wire::{Octets, Origin, ServerId};
 use std::alloc::{AllocError, Global};
@@ -127,6 +127,43 @@ fn send_job<R: Wait>(
     match outbox.send(rt, Job::ToClient(origin, copy)) {
         Ok(()) => Sending::Done(Way::Outbox),
         Err(_back) => Sending::Failed(Why::Full),
+    }
+}
+
+/// The answer of a query that timed out, if there was no memory for its copy.
+pub(crate) fn unsent(line: Line) -> Option<(Origin, Octets)>
+    ensures { result ≡ unsent_spec line }
+{
+    let Line::Event(_, _event, outcome, sending) = line else {
+        return None;
+    };
+    match sending {
+        Sending::Failed(Why::NoMemory) => expired_in(outcome),
+        _ => None,
+    }
+}
+
+/// The answer of a query that timed out, and its client.
+fn expired_in(outcome: Outcome) -> Option<(Origin, Octets)>
+    ensures { result ≡ expired_in_spec outcome }
+{
+    let Outcome::Answered(answer) = outcome else {
+        return None;
+    };
+    match answer {
+        Answer::Expired(origin, bytes) => Some((origin, bytes)),
+        _ => None,
+    }
+}
+
+/// The job that carries such an answer itself, if its client is one of streams.
+pub(crate) fn job_again(fronts: &[Front], unsent: Option<(Origin, Octets)>) -> Option<Job>
+    ensures { result ≡ job_again_spec fronts.now unsent }
+{
+    let (origin, bytes) = unsent?;
+    match front_of(fronts, origin) {
+        Some(Front::Stream) => Some(Job::ToClient(origin, bytes)),
+        _ => None,
     }
 }
 

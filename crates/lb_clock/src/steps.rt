@@ -88,7 +88,8 @@ impl<S: Datagrams, P: Posts, T: Taker, O: Outside> ClockLoop<S, P, T, O> {
         self.probes.end(index, watched);
     }
 
-    /// Sends a probe to a server, which has this moment, and its word as ID, in a turn that began at that moment.
+    /// Sends a probe to a server, which has this moment, and its word as ID, in a turn that began
+    /// at that moment.
     pub(crate) fn send_probe(
         &mut self,
         index: usize,
@@ -116,8 +117,8 @@ impl<S: Datagrams, P: Posts, T: Taker, O: Outside> ClockLoop<S, P, T, O> {
         sending
     }
 
-    /// Hands an event to the desk, where the gate lets it pass, and sends what comes of it. None where the gate held it, and then nothing
-    /// has changed.
+    /// Hands an event to the desk, if the gate lets it pass, and sends what comes of it. None if
+    /// the gate held it, and then nothing has changed.
     pub(crate) fn tell<R: Wait, G: Gate>(
         &mut self,
         rt: &R,

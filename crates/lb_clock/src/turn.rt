@@ -42,11 +42,12 @@ pub(crate) enum Step {
     Over(End),
 }
 
-/// One turn: the servers that are probed become those of the roster; at most 64 datagrams are read, and one that answers the probe of its
-/// server within a second ends it well; a probe that is under way for a second ends badly; each server in mode auto whose next probe is due is
-/// sent one, and where that fails it ends badly; and ticks are told until the desk has nothing more that is due. At most 64 events and 64
-/// probes. It ends where the gate holds an event, and where there is no moment to be had. The one error is want of memory for the report:
-/// then nothing was read or sent.
+/// One turn: the servers that are probed become those of the roster; at most 64 datagrams are read,
+/// and one that answers the probe of its server within a second ends it well; a probe that is under
+/// way for a second ends badly; each server in mode auto whose next probe is due is sent one, and
+/// if that fails it ends badly; and ticks are told until the desk has nothing more that is due.
+/// At most 64 events and 64 probes. It ends if the gate holds an event, or if there is no moment to
+/// be had. The one error is lack of memory for the report: then nothing was read or sent.
 pub fn clock_turn<R: Wait, S: Datagrams, P: Posts, T: Taker, O: Outside, G: Gate>(
     rt: &R,
     clock: &mut ClockLoop<S, P, T, O>,
@@ -105,7 +106,8 @@ impl<S: Datagrams, P: Posts, T: Taker, O: Outside> ClockLoop<S, P, T, O> {
         self.tick_all(rt, gate, tally)
     }
 
-    /// The moment at which the turn begins, where there is one. The servers that are probed become those of the roster.
+    /// The moment at which the turn begins, if there is one. The servers that are probed become
+    /// those of the roster.
     fn begin(&mut self, roster: &Roster) -> Option<u64>
         ensures begins { IfSome result (λ now. (word : ℕ) × (self.new ≡ record self.old { probes = self.new.probes; said = self.old.said ++ (now, word) ∷ [] }) × Follows roster.now now self.old.probes self.new.probes) }
         ensures blind { IfNone result ((self.new ≡ record self.old { outside = self.new.outside }) × Fails self.old.outside self.new.outside) }
@@ -230,7 +232,8 @@ impl<S: Datagrams, P: Posts, T: Taker, O: Outside> ClockLoop<S, P, T, O> {
         None
     }
 
-    /// Sends the server at a place a probe, where one is due. Where it could not be sent, the probe ends at once.
+    /// Sends the server at a place a probe, if one is due. If it could not be sent, the probe ends
+    /// at once.
     fn probe_one<R: Wait, G: Gate>(
         &mut self,
         rt: &R,

@@ -7,6 +7,7 @@ use crate::fault::{LoopFault, ends};
 use crate::last_sent::LastSent;
 use lb_clock::ClockLoop;
 use lb_lines::{Datagrams, Outside, Posts, Report, Roster, Taker, Waker};
+use lb_sends::Sends;
 use std::sync::atomic::{AtomicBool, Ordering};
 use std::sync::{Arc, Mutex, Wait};
 
@@ -17,13 +18,14 @@ const TICK: u64 = 10;
 const REST: u64 = 100;
 
 /// What the loops share: where servers are, the gate, the flag that ends them, whether a query may
-/// be outstanding, and what wakes each.
+/// be outstanding, the counts of failed sends and of probes, and what wakes each.
 #[derive(Drop)]
 pub(crate) struct Around<G, W: Waker> {
     pub(crate) roster: Arc<Mutex<Roster>>,
     pub(crate) gate: G,
     pub(crate) stop: Arc<AtomicBool>,
     pub(crate) sent: LastSent,
+    pub(crate) sends: Arc<Sends>,
     pub(crate) datagrams: Vec<W>,
     pub(crate) streams: W,
     pub(crate) clock: W,
@@ -54,12 +56,13 @@ impl<G, W: Waker> Around<G, W> {
     }
 
     /// Whether a loop goes on after a turn. Its queries that were sent on and that are over are
-    /// noted. If one was sent on, a clock that rests is woken, so that the query's end is not
-    /// reported late.
+    /// noted, and its failed sends and probes are counted. If one was sent on, a clock that rests
+    /// is woken, so that the query's end is not reported late.
     pub(crate) fn behind(&self, report: &Report) -> Result<(), LoopFault>
         ensures { result ≡ end_behind report.now.is_held report.now.device }
     {
         let goes_on = ends(report);
+        self.sends.note(&report.lines);
         if self.sent.note(&report.lines) {
             self.clock.wake();
         }

@@ -37,20 +37,24 @@ impl<S: Datagrams, T: Taker, O: Outside> DatagramLoop<S, T, O> {
         }
     }
 
-    /// One turn: that of `datagram_turn`, over what the loop holds. The one error is want of memory for the report: then nothing was read or sent.
+    /// One turn: that of `datagram_turn`, over what the loop holds. The one error is lack of memory
+    /// for the report: then nothing was read or sent.
     pub fn turn<G: Gate>(&mut self, roster: &Roster, gate: &G) -> Result<Report, AllocError>
-        // Each datagram that the sockets gave, strangers' left out, is the event of a line, in order, or the one that the gate held.
+        // Each datagram that the sockets gave, strangers' left out, is the event of a line, in
+        // order, or the one that the gate held.
         ensures heard { IfOk result (λ r. heard (S.given self.new.sockets) ≡ heard (S.given self.old.sockets) ++ map timeless (events_in r.lines.items ++ option_to_list r.held)) }
         // The events have moments and words that were said in this turn, in order, each its own.
         ensures stamped { IfOk result (λ r. Stamps (O.said self.old.outside) (O.said self.new.outside) (events_in r.lines.items ++ option_to_list r.held) 64) }
         // What the sockets took grew by the sends that are listed as done, in order.
         ensures taken { IfOk result (λ r. S.taken self.new.sockets ≡ S.taken self.old.sockets ++ packets roster.now.listed r.lines.items) }
-        // The send of each line is the letter of its event and answer or fault; it was done, or failed for its cause.
+        // The send of each line is the letter of its event and answer or fault; it was done, or
+        // failed for its cause.
         ensures lines { IfOk result (λ r. AreLines roster.now.listed (S.listens self.old.sockets) r.lines.items) }
         // The answers are the handler's.
         ensures answered { IfOk result (λ r. T.answered self.new.taker ≡ T.answered self.old.taker + length (pairs r.lines.items)) }
         ensures pairs { IfOk result (λ r. Grows (T.pairs self.old.taker) (T.pairs self.new.taker) (pairs r.lines.items)) }
-        // A device failed only where the count of its failures rose, and the first that failed is reported.
+        // A device failed only where the count of its failures rose, and the first that failed is
+        // reported.
         ensures failed { IfOk result (λ r. IsTrue (any_by_device r.lines.items) → Rose (S.failures self.old.sockets) (S.failures self.new.sockets)) }
         ensures device { IfOk result (λ r. FirstFault r.device (S.failures self.old.sockets) (S.failures self.new.sockets) (O.failures self.old.outside) (O.failures self.new.outside)) }
         ensures held { IfOk result (λ r. r.is_held ≡ is_some r.held) }
@@ -77,7 +81,8 @@ impl<S: Datagrams, T: Taker, O: Outside> DatagramLoop<S, T, O> {
         self.spare.take_back(lines);
     }
 
-    /// Waits until a socket has a datagram, or somebody wakes it, or so many milliseconds have passed.
+    /// Waits until a socket has a datagram, or somebody wakes it, or so many milliseconds have
+    /// passed.
     pub fn wait(&mut self, at_most: u64) -> Result<(), WaitFailed>
         ensures sockets { (S.given self.new.sockets ≡ S.given self.old.sockets) × (S.taken self.new.sockets ≡ S.taken self.old.sockets) × (S.failures self.new.sockets ≡ S.failures self.old.sockets) × (S.listens self.new.sockets ≡ S.listens self.old.sockets) }
         ensures others { (self.new.taker ≡ self.old.taker) × (self.new.outside ≡ self.old.outside) }

@@ -56,7 +56,8 @@ impl From<WaitFailed> for LoopFault {
     }
 }
 
-/// Whether a loop ends behind a turn: where its gate held an event, or what is outside failed. A socket that fails ends none.
+/// Whether a loop ends after a turn: if its gate held an event, or what is outside failed. A socket
+/// that fails ends none.
 pub(crate) fn ends(report: &Report) -> Result<(), LoopFault>
     ensures { result ≡ end_behind report.now.is_held report.now.device }
 {

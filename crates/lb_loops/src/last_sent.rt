@@ -8,15 +8,17 @@ use lb_lines::{Line, Outcome};
 use lb_outbox::Job;
 use std::sync::atomic::{AtomicBool, AtomicU64, Ordering};
 
-/// For how long behind the last query that was sent on the clock looks for queries that are due, in milliseconds, where not each is known to
-/// be over: as long as one may wait, and a second.
+/// For how long after the last query that was sent on the clock looks for queries that are due, in
+/// milliseconds, where not each is known to be over: as long as one may wait, and a second.
 const WATCHED: u64 = 61_000;
 
-/// For how long it looks where each is over: a server that is asked ten times a second and more is not worth a rest between.
+/// For how long it looks where each is over: a server that is asked ten times a second and more is
+/// not worth a rest between.
 const FRESH: u64 = 100;
 
-/// How many queries were sent on and how many are over, and when one was last sent on, so that the clock may rest while none can be
-/// outstanding. The loops that send queries on note it here; the clock looks.
+/// How many queries were sent on and how many are over, and when one was last sent on, so that the
+/// clock may rest while none can be outstanding. The loops that send queries on note it here; the
+/// clock looks.
 #[derive(Debug, Drop)]
 pub(crate) struct LastSent {
     sent: AtomicU64,
@@ -41,7 +43,8 @@ impl LastSent {
         }
     }
 
-    /// Notes what the lines of a turn say, and tells whether the clock is to be woken: a query was sent on while it rests.
+    /// Notes what the lines of a turn say, and reports whether the clock is to be woken: a query
+    /// was sent on while it rests.
     pub(crate) fn note(&self, lines: &[Line]) -> bool {
         let (sent, over) = counts(lines);
         if over > 0 {
@@ -55,8 +58,9 @@ impl LastSent {
         self.rests.load(Ordering::SeqCst)
     }
 
-    /// Whether the clock may rest from this moment on, as no query can be outstanding. That it rests is told before it is looked once more
-    /// whether a query was sent on: who sends one on notes that before it looks whether the clock rests.
+    /// Whether the clock may rest from this moment on, as no query can be outstanding. That it
+    /// rests is told before it is looked once more whether a query was sent on: who sends one on
+    /// notes that before it looks whether the clock rests.
     pub(crate) fn may_rest(&self, moment: u64) -> bool {
         if self.is_new.swap(false, Ordering::SeqCst) {
             self.seen.store(moment.saturating_add(1), Ordering::SeqCst);
@@ -69,7 +73,8 @@ impl LastSent {
         };
         let may_rest = !is_within(self.seen.load(Ordering::SeqCst), moment, span);
         if may_rest {
-            // A query of the HTTP front that found the outbox full is over and was never noted; one that was noted may be over unseen.
+            // A query of the HTTP front that found the outbox full is over and was never noted; one
+            // that was noted may be over unseen.
             self.over.store(sent, Ordering::SeqCst);
         }
         self.rests.store(may_rest, Ordering::SeqCst);
@@ -77,7 +82,8 @@ impl LastSent {
     }
 }
 
-/// Whether a query was sent on, by the stamp of its moment, and less than so many milliseconds before another moment.
+/// Whether a query was sent on, by the stamp of its moment, and less than so many milliseconds
+/// before another moment.
 fn is_within(stamp: u64, moment: u64, span: u64) -> bool
     ensures { result ≡ is_within stamp moment span }
 {

@@ -1,5 +1,6 @@
-//! The loops between sockets and the desk: framing, the lines of a report, turns, and the loops that have turns in threads of their own.
-//! What stands in crates of its own below is found here under one roof.
+//! The loops between sockets and the desk: framing, the lines of a report, turns, and the loops
+//! that have turns in threads of their own. What stands in crates of its own below is found here
+//! under one roof.
 #![tactic(auto)]
 
 mod around;

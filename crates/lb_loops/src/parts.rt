@@ -2,6 +2,7 @@
 
 use lb_lines::{Front, Roster};
 use lb_outbox::{Receiver, Sender};
+use lb_sends::Sends;
 use std::sync::atomic::AtomicBool;
 use std::sync::{Arc, Mutex};
 
@@ -63,6 +64,8 @@ pub struct Parts<D, S, C, G, W> {
     pub roster: Arc<Mutex<Roster>>,
     /// What each event passes before it goes to the desk.
     pub gate: G,
+    /// Counts failed sends, and probes. Each loop raises the counts after a turn.
+    pub sends: Arc<Sends>,
     /// Set, it ends the loops. Whoever sets it wakes them.
     pub stop: Arc<AtomicBool>,
     /// Wake the loops of datagrams, one each, in their order.

@@ -1,6 +1,6 @@
 //! Each loop in a thread of its own.
 
-ghost use Rattle.std.specs.Prelude.{IfOk, ◌≤◌};
+ghost use Rattle.std.specs.Prelude.{IfOk, ◌≡◌, ◌≤◌};
 ghost use Rattle.lb_loops.specs.Running.{ReceivesOn, SendsOn};
 
 use crate::around::Around;
@@ -10,7 +10,7 @@ use crate::parts::{ClockParts, DatagramParts, StreamParts};
 use lb_clock::{ClockLoop, clock_turn};
 use lb_core::Event;
 use lb_lines::{
-    Datagrams, Gate, Line, Outside, Posts, Roster, Sending, Streams, Taker, Waker, Way,
+    Datagrams, Gate, Line, Outside, Posts, Roster, Sending, Streams, Taker, Waker, Way, Why,
 };
 use lb_outbox::{Receiver, Sender};
 use lb_streams::{StreamLoop, stream_turn};
@@ -21,8 +21,8 @@ use std::sync::Wait;
 /// are looked at.
 const LONG_WAIT: u64 = 1_000;
 
-/// How long the loop of streams waits at most, in milliseconds: so often connections are looked at whose time is over, and a client that
-/// found no descriptor.
+/// How long the loop of streams waits at most, in milliseconds: so often connections are looked at
+/// whose time is over, and a client that found no descriptor.
 const WAIT: u64 = 100;
 
 /// How long the clock waits while the outbox has no room for it, in milliseconds.
@@ -31,7 +31,8 @@ const FULL_WAIT: u64 = 1;
 /// How many events a turn of the clock has at most.
 const MOST: usize = 64;
 
-/// Turns of datagrams until the flag is set, and then the event handler. A fault ends the other loops.
+/// Turns of datagrams until the flag is set, and then the event handler. A fault ends the other
+/// loops.
 pub(crate) fn run_datagrams<R: Wait, S: Datagrams, T: Taker, O: Outside, G: Gate, W: Waker>(
     rt: &R,
     alloc: Global,
@@ -106,7 +107,8 @@ fn one_of_datagrams<S: Datagrams, T: Taker, O: Outside, G: Gate, W: Waker>(
     Ok(())
 }
 
-/// Turns of streams until the flag is set, and then the event handler and the receiver. A fault ends the other loops.
+/// Turns of streams until the flag is set, and then the event handler and the receiver. A fault
+/// ends the other loops.
 pub(crate) fn run_streams<R: Wait, S: Streams, T: Taker, O: Outside, P: Posts, G: Gate, W: Waker>(
     rt: &R,
     alloc: Global,
@@ -190,7 +192,8 @@ fn one_of_streams<R: Wait, S: Streams, T: Taker, O: Outside, P: Posts, G: Gate, 
     Ok(())
 }
 
-/// Turns of the clock until the flag is set, and then the event handler and the sender. A fault ends the other loops.
+/// Turns of the clock until the flag is set, and then the event handler and the sender. A fault
+/// ends the other loops.
 pub(crate) fn run_clock<R: Wait, S: Datagrams, T: Taker, O: Outside, P: Posts, G: Gate, W: Waker>(
     rt: &R,
     alloc: Global,
@@ -252,6 +255,8 @@ fn all_ticks<R: Wait, S: Datagrams, P: Posts, T: Taker, O: Outside, G: Gate, W: 
 
 /// A turn of the clock. If it made a job, the loop of streams is woken; after a full turn the next
 /// one follows at once. While the outbox has no room for what may expire in a turn, there is none.
+/// An answer that found no memory goes to the loop of streams after the turn.
+#[tactic(auto, using(crate::proofs::Continuing::sends_none, crate::proofs::Continuing::sends_twice))]
 fn one_of_ticks<R: Wait, S: Datagrams, P: Posts, T: Taker, O: Outside, G: Gate, W: Waker>(
     rt: &R,
     around: &Around<G, W>,
@@ -265,22 +270,59 @@ fn one_of_ticks<R: Wait, S: Datagrams, P: Posts, T: Taker, O: Outside, G: Gate, 
         around.streams.wake();
         return Ok(part.wait(FULL_WAIT)?);
     }
-    let report = match clock_turn(rt, part, roster, &around.gate) {
-        Ok(report) => report,
-        // Nothing was done, and a later turn does it.
-        Err(_refused) => return Ok(part.wait(WAIT)?),
+    let Some(mut lines) = tick(rt, around, part, roster)? else {
+        return Ok(part.wait(WAIT)?);
     };
-    around.behind(&report)?;
-    if report.lines.iter().any(is_job) {
+    let wakes = lines.iter().any(is_job);
+    let is_full = lines.len() >= MOST;
+    let ticked = last_tick(&lines);
+    send_again(rt, part, &mut lines);
+    part.take_back(lines);
+    if wakes {
         around.streams.wake();
     }
-    let is_full = report.lines.len() >= MOST;
-    let ticked = last_tick(&report.lines);
-    part.take_back(report.lines);
     if !is_full {
         part.wait(around.patience(part, roster, ticked))?;
     }
     Ok(())
+}
+
+/// A turn of the clock: its lines, after which the loop goes on. None if there was no memory for
+/// its report. Then nothing was done, and a later turn does it.
+fn tick<R: Wait, S: Datagrams, P: Posts, T: Taker, O: Outside, G: Gate, W: Waker>(
+    rt: &R,
+    around: &Around<G, W>,
+    part: &mut ClockLoop<S, P, T, O>,
+    roster: &Roster,
+) -> Result<Option<Vec<Line>>, LoopFault>
+    ensures answered { part.old.answered ≤ part.new.answered }
+    ensures sent { SendsOn part.old.outbox part.new.outbox }
+{
+    match clock_turn(rt, part, roster, &around.gate) {
+        Ok(report) => {
+            around.behind(&report)?;
+            Ok(Some(report.lines))
+        }
+        Err(_refused) => Ok(None),
+    }
+}
+
+/// Sends the answers themselves for whose copies there was no memory. After it `lines` is empty.
+fn send_again<R: Wait, S: Datagrams, P: Posts, T: Taker, O: Outside>(
+    rt: &R,
+    part: &mut ClockLoop<S, P, T, O>,
+    lines: &mut Vec<Line>,
+)
+    ensures answered { part.new.answered ≡ part.old.answered }
+    ensures sent { SendsOn part.old.outbox part.new.outbox }
+{
+    for _ in 0..lines.len() {
+        let Some(line) = lines.pop() else {
+            return;
+        };
+        // An outbox that became full meanwhile has no room for this one either.
+        let _ = part.send_again(rt, line);
+    }
 }
 
 /// The moment of the tick that lines end with.
@@ -291,10 +333,15 @@ fn last_tick(lines: &[Line]) -> Option<u64> {
     }
 }
 
-/// Whether a line's message went to the outbox.
+/// Whether a line's message went to the outbox, or may go there after the turn.
 fn is_job(line: &Line) -> bool {
     matches!(
         line,
-        Line::Event(_, _, _, Sending::Done(Way::Outbox)) | Line::Job(_, Sending::Done(Way::Outbox))
+        Line::Event(
+            _,
+            _,
+            _,
+            Sending::Done(Way::Outbox) | Sending::Failed(Why::NoMemory)
+        ) | Line::Job(_, Sending::Done(Way::Outbox))
     )
 }

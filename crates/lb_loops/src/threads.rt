@@ -12,6 +12,7 @@ use crate::row::run_row;
 use crate::running::{run_clock, run_streams};
 use lb_lines::{Datagrams, Gate, Outside, Posts, Streams, Taker, Waker};
 use lb_outbox::{Receiver, Sender};
+use lb_sends::sends_cross_threads;
 use std::alloc::Global;
 use std::sync::Wait;
 use std::thread::{Threads, join};
@@ -54,12 +55,15 @@ pub fn run_loops<
     ensures sender { IfOk result (λ e. SendsOn parts.clock.sender e.sender) }
     ensures receiver { IfOk result (λ e. ReceivesOn parts.streams.receiver e.receiver) }
 {
+    // A law, which does nothing.
+    sends_cross_threads();
     let Parts {
         datagrams,
         streams,
         clock,
         roster,
         gate,
+        sends,
         stop,
         datagrams_wakers,
         streams_waker,
@@ -70,6 +74,7 @@ pub fn run_loops<
         gate,
         stop,
         sent: LastSent::none(),
+        sends,
         datagrams: datagrams_wakers,
         streams: streams_waker,
         clock: clock_waker,

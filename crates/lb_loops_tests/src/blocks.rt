@@ -5,7 +5,8 @@ use lb_wire::MAX_MESSAGE;
 use std::process::Abort;
 use std::test::Fail;
 
-/// With ample memory octets are copied: into a block of their own, and into one that was kept, which had more, fewer or none.
+/// With ample memory octets are copied: into a block of their own, and into one that was kept,
+/// which had more, fewer or none.
 #[test]
 fn octets_are_copied(rt: HostRuntime) -> Result<(), Fail> {
     let mut rooms = Rooms::new(rt.alloc());

@@ -1,5 +1,5 @@
-//! What the callers of a desk do, each by a seat of its own. None of it has a clause, and a seat is lent where it can be, so that
-//! few functions have one to drop.
+//! What the callers of a desk do, each by a seat of its own. None of it has a clause, and a seat is
+//! lent where it can be, so that few functions have one to drop.
 
 use crate::events::{query, rule_for_all};
 use lb_core::{Event, StatedAction};
@@ -17,19 +17,20 @@ pub(crate) enum Caller {
     Rests,
     /// It asks so often what time brings.
     Ticks(u64),
-    /// It does so, and at each call is told the wrong thing of the log, which has room for so many: that it is full while it is not,
-    /// and that it is not once it is.
+    /// It does so, and at each call is told the wrong thing of the log, which has room for so many:
+    /// that it is full while it is not, and that it is not once it is.
     IsMisled(u64, u64),
     /// It asks so many queries.
     Asks(u64),
-    /// It asks three queries, each of them once more where it was refused. A refused call has to change nothing.
+    /// It asks three queries, each of them once more where it was refused. A refused call has to
+    /// change nothing.
     AsksAgain,
     /// It adds so many rules that do nothing.
     Edits(u64),
     /// It adds a rule that drops every query.
     Drops,
-    /// It makes two calls, the second one only once the caller of the other flag has had its first. Whether its own flag is the
-    /// first one.
+    /// It makes two calls, the second one only once the caller of the other flag has had its first.
+    /// Whether its own flag is the first one.
     Waits(bool),
 }
 

@@ -36,8 +36,8 @@ fn audit(left: Left) -> Result<Audit, Fail> {
 /// A desk's limit, its one caller, and how many calls it counted and logged.
 type Row = (u64, Caller, (u64, usize));
 
-/// Two calls past small limits, none of them refused; as many at a desk whose hint says the wrong thing at each call; and a seat with
-/// thousands of receipts.
+/// Two calls past small limits, none of them refused; as many at a desk whose hint says the wrong
+/// thing at each call; and a seat with thousands of receipts.
 const ROWS: &[Row] = &[
     (0, Caller::Ticks(2), (2, 0)),
     (1, Caller::Ticks(3), (3, 1)),

@@ -15,7 +15,8 @@ const MESSAGES: &[&[u8]] = &[
     b"\x00\x02\x02\x00\x00\x00\x00\x00\x00\x00\x00\x00",
 ];
 
-/// The messages of the stream, fed in the pieces that end before these places, and how many octets are held then.
+/// The messages of the stream, fed in the pieces that end before these places, and how many octets
+/// are held then.
 fn fed(alloc: Global, ends: &[usize]) -> Result<(Vec<Message>, usize), AllocError> {
     let mut framer = Framer::new(alloc);
     let mut messages = Vec::new(alloc);

@@ -1,5 +1,6 @@
-//! The tests of lb_desk and of the loops' crates, which call what is public there: in a crate of their own, so that those are proved once
-//! and not a second time with them. There is nothing else here.
+//! The tests of lb_desk and of the loops' crates, which call what is public there: in a crate of
+//! their own, so that those are proved once and not a second time with them. There is nothing else
+//! here.
 #![tactic(auto)]
 
 #[cfg(test)]

@@ -12,6 +12,7 @@ use lb_memory::{
     Failing, MemoryDatagrams, MemoryOutside, MemoryPosts, MemoryStreams, Moments, Packets,
     Requests, StreamFailing, Wires,
 };
+use lb_sends::Sends;
 use lb_wire::{Addr, Kind, Octets, Rcode};
 use std::alloc::{AllocError, Global};
 use std::collections::VecDeque;
@@ -94,7 +95,8 @@ impl<R: Wait + Clock> Gate for InTurn<'_, R> {
     }
 }
 
-/// Hands events to the desk, and tells how many queries were answered. The fourth one ends the loops.
+/// Hands events to the desk, and tells how many queries were answered. The fourth one ends the
+/// loops.
 #[derive(Drop)]
 struct Answering<'a, R: Wait, J: Naming> {
     rt: &'a R,
@@ -221,8 +223,8 @@ impl Shared {
         Ok(MemoryOutside::new(rt, Arc::try_clone(&self.moments)?))
     }
 
-    /// Whether the four answers went out, each once, by the loop that took its query, and the stream's in
-    /// their order.
+    /// Whether the four answers went out, each once, by the loop that took its query, and the
+    /// stream's in their order.
     fn are_answered<R: Wait>(&self, rt: &R) -> bool {
         is_first_told(rt, &self.packets)
             && is_first_told(rt, &self.beside)
@@ -250,9 +252,9 @@ fn is_first_told<R: Wait>(rt: &R, packets: &Mutex<Packets>) -> bool {
     datagram.peer.is(CLIENT) && datagram.bytes.as_slice() == FIRST_REFUSED
 }
 
-/// Whether the loops do what they have to, from four seats of a desk that answers each query Refused:
-/// answer four queries that wait for one another at their gates, and end; or end because their gate holds
-/// the first event.
+/// Whether the loops do what they have to, from four seats of a desk that answers each query
+/// Refused: answer four queries that wait for one another at their gates, and end; or end because
+/// their gate holds the first event.
 pub(crate) fn are_loops_done<J: Naming + Send + Sync, R: Threads + Wait + Clock + Sync>(
     rt: &R,
     alloc: Global,
@@ -363,6 +365,7 @@ fn run_at_desk<'a, J: Naming + Send + Sync, R: Threads + Wait + Clock + Sync>(
             order: Arc::try_clone(&shared.order)?,
             is_open,
         },
+        sends: Arc::new(alloc, Sends::none())?,
         stop: Arc::try_clone(&shared.stop)?,
         datagrams_wakers: wakers,
         streams_waker: NoWaker,
@@ -394,7 +397,8 @@ type Clocking<'a, R, J> = ClockParts<
     MemoryPosts<'a, R>,
 >;
 
-/// Runs loops of these parts. It stands alone, so that the search for what lets them cross to threads ends.
+/// Runs loops of these parts. It stands alone, so that the search for what lets them cross to
+/// threads ends.
 fn run<'a, J: Naming + Send + Sync, R: Threads + Wait + Clock + Sync>(
     rt: &'a R,
     alloc: Global,

@@ -12,7 +12,8 @@ use std::test::Fail;
 use std::thread::{Threads, join, sleep};
 use std::time::{Clock, Duration};
 
-/// An empty message to the client of this number, by the listener of this place. It takes no memory.
+/// An empty message to the client of this number, by the listener of this place. It takes no
+/// memory.
 fn job(alloc: Global, front: u8, slot: u64) -> Job {
     let origin = Origin {
         front,
@@ -80,7 +81,8 @@ fn received<R: Wait>(rt: &R, receiver: &mut Receiver) -> Option<(u8, u64)> {
     job.as_ref().and_then(marks_of)
 }
 
-/// Two jobs of the first sender, none of the second. It is proved here that an ended outbox shows just these.
+/// Two jobs of the first sender, none of the second. It is proved here that an ended outbox shows
+/// just these.
 fn ended<R: Wait>(
     rt: &R,
     one: Sender,

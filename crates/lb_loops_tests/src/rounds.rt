@@ -1,5 +1,6 @@
-//! Desks whose callers go their rounds, in this thread, in two or in four. There is one function that has a desk, and one that
-//! picks its name (its folder in proofs/ says so): all tests go by them.
+//! Desks whose callers go their rounds, in this thread, in two or in four. There is one function
+//! that has a desk, and one that picks its name (its folder in proofs/ says so): all tests go by
+//! them.
 
 ghost use Rattle.std.specs.Prelude.{◌≡◌, ◌≤◌};
 ghost use Rattle.lb_core.specs.Snapshot.{snapshot_of};
@@ -34,7 +35,8 @@ pub(crate) enum Round {
 /// What a desk leaves that was closed; none where a caller's call was not answered.
 pub(crate) type Left = Option<Result<Audit, CloseFault>>;
 
-/// A desk over a new balancer, with so many seats and a log of this limit, and what it leaves after these rounds.
+/// A desk over a new balancer, with so many seats and a log of this limit, and what it leaves after
+/// these rounds.
 pub(crate) fn go_round<R: Threads + Wait + Clock + Eprint + Sync>(
     rt: &R,
     alloc: Global,
@@ -238,7 +240,8 @@ fn tick_both<J: Naming + Send + Sync, R: Threads + Wait + Clock + Eprint + Sync>
     call_both(rt, alloc, desk, (first, second), &flags, (caller, caller))
 }
 
-/// Four threads. A closure takes six values and no more, so that the search for what lets it cross ends.
+/// Four threads. A closure takes six values and no more, so that the search for what lets it cross
+/// ends.
 fn call_all<J: Naming + Send + Sync, R: Threads + Wait + Clock + Eprint + Sync>(
     rt: &R,
     alloc: Global,

@@ -20,6 +20,7 @@ use lb_loops::{
 };
 use lb_program::{ServerList, ServerPlace};
 use lb_recent::Rings;
+use lb_sends::Sends;
 use lb_sockets::{ListenSockets, SystemOutside, TcpListeners, TcpSockets, UdpSockets};
 use lb_words::Words;
 use mio::net::TcpListener;
@@ -129,6 +130,8 @@ struct Shared {
     roster: Arc<Mutex<Roster>>,
     /// The requests by HTTP that wait for their answers.
     requests: Arc<Requests>,
+    /// The counts of failed sends and of probes.
+    sends: Arc<Sends>,
 }
 
 impl Shared {
@@ -138,6 +141,7 @@ impl Shared {
             stop: Arc::new(alloc, AtomicBool::new(false))?,
             roster: Arc::new(alloc, Mutex::new(roster_of(alloc, servers)?))?,
             requests: Arc::new(alloc, Mutex::new(Waiting::new(alloc)))?,
+            sends: Arc::new(alloc, Sends::none())?,
         })
     }
 
@@ -193,7 +197,8 @@ pub(crate) fn prepared<'a, J: Naming, R: Wait + Net + Clock + RandomSource>(
         fronts(alloc, setup.listeners())?,
         fronts(alloc, setup.listeners())?,
     );
-    let words = Words::new(rt, alloc, setup.listeners(), setup.log(), rings)?;
+    let sends = Arc::try_clone(&shared.sends)?;
+    let words = Words::new(rt, alloc, setup.listeners(), setup.log(), rings, sends)?;
     let console = (
         consoles,
         words,
@@ -203,7 +208,8 @@ pub(crate) fn prepared<'a, J: Naming, R: Wait + Net + Clock + RandomSource>(
     );
     let (console, over) = console_of(rt, alloc, console, &sockets, &shared)?;
     let posts = (shared.posts(rt, alloc)?, shared.posts(rt, alloc)?);
-    let around = (shared.roster, sockets.halt(alloc, &shared.stop)?);
+    let halt = sockets.halt(alloc, &shared.stop)?;
+    let around = (shared.roster, shared.sends, halt);
     let jobs = (second_sender, receiver);
     Ok(Runners {
         loops: parts_of(alloc, sockets, outside, takers, fronts, posts, jobs, around)?,
@@ -380,12 +386,12 @@ fn parts_of<'a, J: Naming, R: Wait + Net + Clock + RandomSource>(
     fronts: (Vec<Front>, Vec<Front>),
     posts: (HttpPosts<'a, R>, HttpPosts<'a, R>),
     jobs: (Sender, Receiver),
-    around: Around,
+    around: (Arc<Mutex<Roster>>, Arc<Sends>, Halt),
 ) -> Result<Loops<'a, R, J>, AllocError>
     ensures { IfOk result (λ loops. (loops.streams.fronts ≡ fronts.0) × (loops.clock.fronts ≡ fronts.1)) }
 {
     let (sender, receiver) = jobs;
-    let (roster, halt) = around;
+    let (roster, sends, halt) = around;
     let row = row_of(alloc, sockets.datagrams, takers.0, &outside)?;
     let (streams_outside, clock_outside) = (outside.beside(), outside.beside());
     let Halt {
@@ -414,6 +420,7 @@ fn parts_of<'a, J: Naming, R: Wait + Net + Clock + RandomSource>(
         },
         roster,
         gate: OpenGate,
+        sends,
         stop,
         datagrams_wakers: datagrams,
         streams_waker: streams,

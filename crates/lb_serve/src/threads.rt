@@ -12,6 +12,7 @@ use lb_loops::{
     Streams, Taker, Waker, run_loops,
 };
 use lb_recent::rings_cross_threads;
+use lb_sends::sends_cross_threads;
 use lb_sockets::{PollWaker, wakers_are_shared};
 use mio;
 use std::alloc::Global;
@@ -76,6 +77,7 @@ pub(crate) fn run_beside<
     // Laws, which do nothing.
     wakers_are_shared();
     rings_cross_threads();
+    sends_cross_threads();
     join(
         rt,
         move ||
@@ -122,6 +124,7 @@ fn run_asked<
     // Laws, which do nothing.
     wakers_are_shared();
     rings_cross_threads();
+    sends_cross_threads();
     join(
         rt,
         move || console.run(),

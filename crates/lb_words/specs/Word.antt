@@ -15,6 +15,7 @@ word_named text =
     else if bytes_eq text (codes "pools") then Some words.Pools
     else if bytes_eq text (codes "caches") then Some words.Caches
     else if bytes_eq text (codes "counters") then Some words.Counters
+    else if bytes_eq text (codes "metrics") then Some words.Metrics
     else if bytes_eq text (codes "setup") then Some words.Setup
     else if bytes_eq text (codes "recent") then Some words.Recent
     else if bytes_eq text (codes "top") then Some words.Top

@@ -5,22 +5,24 @@ ghost use Rattle.lb_words.specs.Heard.{IsHeard, IsListed, IsSaid};
 
 use crate::lines::Lines;
 use crate::lists;
+use crate::metrics::metrics;
 use crate::recent::{Wanted, fault, recent};
 use crate::setup::setup;
-use crate::told::look;
+use crate::told::{ended, look};
 use crate::top::{By, top};
 use crate::typed::{next_word, number_of};
 use crate::word::{Word, word_of};
 use lb_command::{CommandFault, FaultKind, Listener};
 use lb_desk::{Desk, Naming};
 use lb_recent::Rings;
+use lb_sends::Sends;
 use lb_wire::RuleId;
 use std::alloc::{AllocError, Global};
-use std::sync::Wait;
+use std::sync::{Arc, Wait};
 use std::time::{Clock, Instant};
 
 /// What `help` says, a line each.
-const HELP: [&str; 36] = [
+const HELP: [&str; 37] = [
     "help                                 these lines",
     "version                              the program, and for how many seconds it has run",
     "quit                                 closes this connection",
@@ -30,7 +32,8 @@ const HELP: [&str; 36] = [
     "servers                              each server: its number, name and address, its state and counts",
     "pools                                each pool: its policy, its servers that are up, its cache",
     "caches                               each cache: what it keeps of what it may keep, its hits",
-    "counters                             counts of events and answers",
+    "counters                             counts of events, answers and failed sends",
+    "metrics                              all counts, also by rule, server and pool, for Prometheus",
     "setup                                what stands now, as lines of a setup file",
     "recent [N] [FILTER]                  the last N queries that ended (10), the newest last",
     "top sources|names|rules [N] [FILTER] what the last queries have most often, and its share",
@@ -73,7 +76,8 @@ pub enum Heard {
 }
 
 /// What the words of the console need beside the desk: what the setup file states of listeners and
-/// the log, when serving began, and the last queries that ended.
+/// the log, when serving began, the last queries that ended, and the counts of
+/// failed sends and of probes.
 #[derive(Drop)]
 pub struct Words {
     alloc: Global,
@@ -81,6 +85,7 @@ pub struct Words {
     log: u32,
     began: Option<Instant>,
     rings: Rings,
+    sends: Arc<Sends>,
 }
 
 impl Words {
@@ -91,6 +96,7 @@ impl Words {
         listeners: &[Listener],
         log: u32,
         rings: Rings,
+        sends: Arc<Sends>,
     ) -> Result<Words, AllocError> {
         Ok(Words {
             alloc,
@@ -98,6 +104,7 @@ impl Words {
             log,
             began: Instant::now(rt).ok(),
             rings,
+            sends,
         })
     }
 
@@ -213,7 +220,13 @@ impl Words {
             Word::Servers => lists::servers(alloc, &look(rt, alloc, desk)?)?,
             Word::Pools => lists::pools(alloc, &look(rt, alloc, desk)?)?,
             Word::Caches => lists::caches(alloc, &look(rt, alloc, desk)?)?,
-            Word::Counters => lists::counters(alloc, &look(rt, alloc, desk)?, listeners)?,
+            Word::Counters => lists::counters(
+                alloc,
+                &look(rt, alloc, desk)?,
+                listeners,
+                &self.sends,
+            )?,
+            Word::Metrics => self.metrics(rt, desk)?,
             Word::Setup => setup(rt, alloc, desk, listeners, self.log)?,
             Word::Recent => {
                 let now = self.ran(rt);
@@ -229,6 +242,24 @@ impl Words {
             }
             Word::Top => return Ok(Heard::Fault(fault(end, FaultKind::Missing))),
         }))
+    }
+
+    /// All counts.
+    fn metrics<R: Wait + Clock, J: Naming>(
+        &self,
+        rt: &R,
+        desk: &Desk<J>,
+    ) -> Result<String, AllocError> {
+        let told = look(rt, self.alloc, desk)?;
+        let ended = ended(rt, self.alloc, desk, told.totals.rules)?;
+        metrics(
+            self.alloc,
+            &told,
+            &ended,
+            self.listeners.as_slice(),
+            &self.sends,
+            self.ran(rt) / 1_000,
+        )
     }
 
     /// For how many milliseconds it has run.

@@ -8,6 +8,7 @@ mod event;
 mod heard;
 mod lines;
 mod lists;
+mod metrics;
 mod recent;
 mod rules;
 mod setup;

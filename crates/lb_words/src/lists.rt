@@ -7,6 +7,7 @@ use crate::told::{Backend, Counted, Store, Told, look, place_of, rule_at};
 use lb_command::{Listener, Protocol};
 use lb_core::{CacheCounts, Count, ServerCounts};
 use lb_desk::{Desk, Naming};
+use lb_sends::Sends;
 use lb_servers::{Mode, Pool};
 use lb_wire::{Addr, RuleId};
 use std::alloc::{AllocError, Global};
@@ -203,7 +204,7 @@ pub(crate) fn codes(alloc: Global, codes: &[u16]) -> Result<String, AllocError> 
 }
 
 /// The counts of events, by what they are.
-const EVENTS: [(Count, &str); 6] = [
+pub(crate) const EVENTS: [(Count, &str); 6] = [
     (Count::Datagrams, "datagram"),
     (Count::Streams, "stream"),
     (Count::Replies, "reply"),
@@ -240,12 +241,13 @@ pub(crate) const ANSWERS: [(Count, &str); 24] = [
     (Count::LackedMemory, "nomemory"),
 ];
 
-/// Counts of events and answers, and of the queries of each listener, with the names of Prometheus'
-/// text format.
+/// Counts of events and answers, of the queries of each listener, of failed sends and of probes,
+/// with the names of Prometheus' text format.
 pub(crate) fn counters(
     alloc: Global,
     told: &Told,
     listeners: &[Listener],
+    sends: &Sends,
 ) -> Result<String, AllocError> {
     let mut lines = Lines::new(alloc);
     for (place, listener) in listeners.iter().enumerate() {
@@ -268,6 +270,15 @@ pub(crate) fn counters(
         let line = format!(in alloc; "lb_answers_total{{why=\"{name}\"}} {count}")?;
         lines.add(line.as_str())?;
     }
+    for (name, count) in sends.failed() {
+        let line = format!(in alloc; "lb_sends_failed_total{{why=\"{name}\"}} {count}")?;
+        lines.add(line.as_str())?;
+    }
+    let (sent, failed) = (sends.probes(), sends.failed_probes());
+    let line = format!(in alloc; "lb_probes_total {sent}")?;
+    lines.add(line.as_str())?;
+    let line = format!(in alloc; "lb_probes_failed_total {failed}")?;
+    lines.add(line.as_str())?;
     let totals = told.totals;
     let (rules, outstanding, kept) = (totals.rules, totals.outstanding, totals.kept);
     let line = format!(in alloc; "lb_rules {rules}")?;

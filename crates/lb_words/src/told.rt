@@ -50,6 +50,9 @@ pub(crate) struct Told {
 /// A rule with its number, and how many walks it ended.
 pub(crate) type Counted = (RuleId, Rule, u64);
 
+/// The number of a rule, and how many walks it ended.
+pub(crate) type Ended = (RuleId, u64);
+
 /// What stands now. Room for it is taken before the lock. The one error is want of memory.
 pub(crate) fn look<R: Wait, J: Naming>(
     rt: &R,
@@ -110,6 +113,31 @@ fn store_of(shelf: &Shelf, tally: &Tally) -> Store {
         skips: Skips::from_codes(cache.skips()),
         counts: tally.by_number.of_cache(shelf.id),
     }
+}
+
+/// How many walks each of the first rules ended, at most so many. Room for them is taken before the
+/// lock. The one error is lack of memory.
+pub(crate) fn ended<R: Wait, J: Naming>(
+    rt: &R,
+    alloc: Global,
+    desk: &Desk<J>,
+    most: usize,
+) -> Result<Vec<Ended>, AllocError> {
+    let rules = Vec::with_capacity(alloc, most)?;
+    desk.read(rt, |balancer, tally| counted(balancer, tally, rules, most))
+}
+
+/// Copies, in room that was taken before.
+fn counted(
+    balancer: &Balancer,
+    tally: &Tally,
+    mut rules: Vec<Ended>,
+    most: usize,
+) -> Result<Vec<Ended>, AllocError> {
+    for numbered in balancer.rules().iter().take(most) {
+        rules.push((numbered.id, tally.by_number.of_rule(numbered.id)))?;
+    }
+    Ok(rules)
 }
 
 /// A copy of the rule at a place, if there is one. The one error is want of memory.

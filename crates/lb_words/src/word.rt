@@ -15,6 +15,7 @@ pub enum Word {
     Pools,
     Caches,
     Counters,
+    Metrics,
     Setup,
     Recent,
     Top,
@@ -101,6 +102,8 @@ fn word_named(text: &[u8]) -> Option<Word>
         Word::Caches
     } else if text == "counters".as_bytes() {
         Word::Counters
+    } else if text == "metrics".as_bytes() {
+        Word::Metrics
     } else if text == "setup".as_bytes() {
         Word::Setup
     } else if text == "recent".as_bytes() {

@@ -1,0 +1,8 @@
+//! Counts of failed sends, by cause, and of probes. No answer depends on them.
+#![tactic(auto)]
+
+mod laws;
+mod sends;
+
+pub use laws::sends_cross_threads;
+pub use sends::Sends;
