@@ -9,7 +9,7 @@
    -C  each query has an OPT with a fresh client cookie of 8 octets (RFC 7873)
 
    It prints one line: sent S answered A lost L seconds T p50 US p99 US rcodes NOERROR SERVFAIL
-   REFUSED OTHER least US. The least is the time of the answer that came soonest. */
+   REFUSED OTHER least US longest US. The least is the time of the answer that came soonest. */
 #define _GNU_SOURCE
 #include <arpa/inet.h>
 #include <errno.h>
@@ -359,8 +359,8 @@ int main(int count, char **words)
            (unsigned long long)answered, (unsigned long long)lost, took);
     printf(" p50 %.1f p99 %.1f", answered ? times[answered / 2] / 10.0 : 0,
            answered ? times[answered * 99 / 100] / 10.0 : 0);
-    printf(" rcodes %llu %llu %llu %llu least %.1f\n", (unsigned long long)rcodes[0],
+    printf(" rcodes %llu %llu %llu %llu least %.1f longest %.1f\n", (unsigned long long)rcodes[0],
            (unsigned long long)rcodes[2], (unsigned long long)rcodes[5], (unsigned long long)others,
-           answered ? times[0] / 10.0 : 0);
+           answered ? times[0] / 10.0 : 0, answered ? times[answered - 1] / 10.0 : 0);
     return 0;
 }

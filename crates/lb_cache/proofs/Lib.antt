@@ -14,10 +14,13 @@ mod Fronts
 mod Filings
 mod Entries
 mod KeySides
+mod CutOrder
+mod KeysCut
 mod Listings
 mod MarkOrder
 mod Listed
 mod Marked
+mod Seen
 mod Shelved
 mod Views
 mod Stores

@@ -1,7 +1,7 @@
 //! Slots by the keys of the replies in them.
 
-ghost use Rattle.std.specs.Prelude.{◌≡◌, ℕ, true, false, [], ◌++◌, None, Some, IfNone, IfSome, OnErr, OnOk};
-ghost use Rattle.std.specs.FinMap.Entries.{find, put};
+ghost use Rattle.std.specs.Prelude.{◌≡◌, ℕ, T, ◌+◌, true, false, [], ◌++◌, length, None, Some, IfNone, IfSome, OnErr, OnOk};
+ghost use Rattle.std.specs.FinMap.Entries.{find, is_sorted, put};
 ghost use Rattle.std.specs.List.{Contains};
 ghost use Rattle.lb_wire.specs.declared.key.Key.{Key};
 ghost use Rattle.lb_ranks.specs.declared.filed.Filed.{Filed};
@@ -14,7 +14,8 @@ use lb_wire::Kind;
 use std::alloc::{AllocError, Global};
 use std::marker::Model;
 
-/// Slots by keys. A contract sees them as a list of keys, each with its slot, in the order of the keys, no key twice.
+/// Slots by keys. A contract sees them as a list of keys, each with its slot, in the order of the
+/// keys, no key twice.
 #[derive(Debug, Drop)]
 pub(crate) struct Keys {
     datagrams: Ranks,
@@ -99,6 +100,26 @@ impl Keys {
         match first_in(&self.datagrams, span) {
             Some(slot) => Some(slot),
             None => first_in(&self.streams, span),
+        }
+    }
+
+    /// Cuts the keys of a transport within a span out, and gives what was filed. None if memory is
+    /// lacking, and then nothing has changed.
+    pub(crate) fn cut(&mut self, kind: Kind, span: &Span) -> Option<Ranks>
+        ensures order { T (is_sorted cmp_key self.new) }
+        ensures kept { (key : Key) → is_within span.now.low span.now.high key.octets ≡ false → find cmp_key key self.new ≡ find cmp_key key self.old }
+        ensures less { (key : Key) (slot : ℕ) → find cmp_key key self.new ≡ Some slot → find cmp_key key self.old ≡ Some slot }
+        ensures count { IfSome result (λ cut. length self.new + length cut ≡ length self.old) }
+        ensures none { IfNone result (self.new ≡ self.old) }
+    {
+        // laws: they do nothing
+        self.datagrams.stand_in_order();
+        self.streams.stand_in_order();
+        match kind {
+            Kind::Datagram => self
+                .datagrams
+                .cut(span.low.as_slice(), span.high.as_slice()),
+            Kind::Stream => self.streams.cut(span.low.as_slice(), span.high.as_slice()),
         }
     }
 }

@@ -3,10 +3,10 @@
 ghost use Rattle.std.specs.Prelude.{◌≡◌, ◌≢◌, ◌+◌, ◌<◌, ◌≤◌, ◌^◌, ℕ, [], None, Some, IfNone, IfOk, IfSome, IsSome, OnErr, OnOk, cond, false, length, option_map, true};
 ghost use Rattle.std.specs.FinMap.Entries.{find, put};
 ghost use Rattle.lb_slots.specs.Slots.{Updates, get};
-ghost use Rattle.lb_cache.specs.Ends.{has, is_end_mark};
+ghost use Rattle.lb_cache.specs.Ends.{has, is_end_mark, marks_in};
 ghost use Rattle.lb_cache.specs.Keys.{is_within, slots_of, without_key};
 ghost use Rattle.lb_cache.specs.Reply.{cmp_key, end_of, is_dead, lives};
-ghost use Rattle.lb_cache.specs.Store.{AreApart, AreFiled, AreListed, in_slot, is_at, others, stays, within};
+ghost use Rattle.lb_cache.specs.Store.{AreApart, AreFiled, AreListed, AreMarked, in_slot, is_at, is_slot, others, seen, stays, within};
 ghost use Rattle.lb_cache.specs.declared.reply.CachedReply.{CachedReply};
 
 use crate::ends::Ends;
@@ -14,10 +14,14 @@ use crate::filing::Span;
 use crate::keys::Keys;
 use crate::listing::Listing;
 use crate::packed::Packed;
+use lb_ranks::Ranks;
 use lb_slots::Slots;
-use lb_wire::Key;
+use lb_wire::{Key, Kind};
 use std::alloc::{AllocError, Global};
 use std::marker::Model;
+
+/// Up to so many replies are taken out one by one. Of more, the keys are cut out.
+const FEW: usize = 256;
 
 /// The greater of two numbers.
 fn greater(a: u64, b: u64) -> u64
@@ -27,7 +31,8 @@ fn greater(a: u64, b: u64) -> u64
     if a < b { b } else { a }
 }
 
-/// Replies in slots, at most one for each key. A contract sees the keys with their slots, and the slots.
+/// Replies in slots, at most one for each key. A contract sees the keys with their slots, and the
+/// slots.
 #[derive(Debug, Drop)]
 pub(crate) struct Store {
     cells: Slots<Packed>,
@@ -36,14 +41,17 @@ pub(crate) struct Store {
     /// No slot from here on was ever in use.
     top: u64,
     len: usize,
+    /// The slots of replies whose keys were cut out. They are given back later, some at a time. No
+    /// invariant speaks of this list.
+    gone: Vec<Ranks>,
 }
 
 impl Model for Store {
-    ghost use Rattle.lb_cache.specs.Store.{IsStore, Stored, stored};
+    ghost use Rattle.lb_cache.specs.Store.{IsStore, Stored, seen, stored};
 
     ghost Value = { Stored };
 
-    ghost view = { λ s. stored s.keys s.cells };
+    ghost view = { λ s. stored s.keys (seen s.keys s.cells) };
 
     ghost invariant = { λ s. IsStore s.keys s.cells s.ends s.top s.len };
 }
@@ -116,26 +124,108 @@ fn move_end(
     Ok(())
 }
 
-/// Puts the key of the reply in a slot, if there is one, into the listing. The one error is want of memory.
-fn list_key(listing: &mut Listing, cells: &Slots<Packed>, slot: u64) -> Result<(), AllocError>
-    requires new { (r : CachedReply) → get cells.now slot ≡ Some r → find cmp_key r.key listing.old ≡ None }
-    ensures put { OnOk result ((r : CachedReply) → get cells.now slot ≡ Some r → listing.new ≡ put cmp_key r.key slot listing.old) }
-    ensures none { OnOk result (get cells.now slot ≡ None → listing.new ≡ listing.old) }
+/// The reply in a slot, if its key leads back to it.
+fn seen_in<'a>(keys: &Keys, cells: &'a Slots<Packed>, slot: u64) -> Option<&'a Packed>
+    ensures { option_map (λ r. r.now) result ≡ get (seen keys.now cells.now) slot }
 {
-    match cells.get(slot as usize) {
+    let Some(reply) = cells.get(slot as usize) else {
+        return None;
+    };
+    if leads(keys, reply, slot) {
+        Some(reply)
+    } else {
+        None
+    }
+}
+
+/// Whether the key of a reply leads to this slot.
+fn leads(keys: &Keys, reply: &Packed, slot: u64) -> bool
+    ensures { result ≡ is_slot slot (find cmp_key reply.now.key keys.now) }
+{
+    match keys.get(reply.kind(), reply.key_octets()) {
+        Some(found) => found == slot,
+        None => false,
+    }
+}
+
+/// Empties a slot, unless the key of its reply leads to it. It takes no memory.
+fn give_back(keys: &Keys, cells: &mut Slots<Packed>, ends: &mut Ends, slot: u64)
+    requires marked { AreMarked ends.old cells.old }
+    ensures marked { AreMarked ends.new cells.new }
+    ensures kept { (s : ℕ) → get (seen keys.now cells.new) s ≡ get (seen keys.now cells.old) s }
+    ensures below { (s : ℕ) → IsSome (get cells.new s) → IsSome (get cells.old s) }
+    ensures less { (v : ℕ) → has ends.old v slot ≡ true → get (seen keys.now cells.old) slot ≡ None → marks_in ends.new < marks_in ends.old }
+{
+    let Some(reply) = cells.get(slot as usize) else {
+        return;
+    };
+    if leads(keys, reply, slot) {
+        return;
+    }
+    ends.take(reply.end(), slot);
+    empty_cell(cells, slot);
+}
+
+/// The slot of a dead reply that is seen, in another slot than `but`. Slots of unseen replies that
+/// come before it are emptied. It takes no memory.
+fn first_seen(
+    keys: &Keys,
+    cells: &mut Slots<Packed>,
+    ends: &mut Ends,
+    now: u64,
+    but: Option<u64>,
+) -> Option<u64>
+    requires marked { AreMarked ends.old cells.old }
+    ensures marked { AreMarked ends.new cells.new }
+    ensures kept { (s : ℕ) → get (seen keys.now cells.new) s ≡ get (seen keys.now cells.old) s }
+    ensures below { (s : ℕ) → IsSome (get cells.new s) → IsSome (get cells.old s) }
+    ensures dead { IfSome result (λ slot. (r : CachedReply) × (get (seen keys.now cells.new) slot ≡ Some r) × (is_dead now r ≡ true)) }
+    ensures other { IfSome result (λ slot. but ≢ Some slot) }
+    ensures none { IfNone result ((s : ℕ) (r : CachedReply) → get (seen keys.now cells.new) s ≡ Some r → but ≢ Some s → is_dead now r ≡ false) }
+{
+    'marks: while let Some((end, slot)) = ends.least_of(but) {
+        if end > now {
+            return None;
+        }
+        if seen_in(keys, cells, slot).is_some() {
+            return Some(slot);
+        }
+        give_back(keys, cells, ends, slot);
+    }
+    None
+}
+
+/// Puts the key of the reply in a slot, if there is one, into the listing. The one error is want of
+/// memory.
+fn list_key(
+    listing: &mut Listing,
+    keys: &Keys,
+    cells: &Slots<Packed>,
+    slot: u64,
+) -> Result<(), AllocError>
+    requires new { (r : CachedReply) → get (seen keys.now cells.now) slot ≡ Some r → find cmp_key r.key listing.old ≡ None }
+    ensures put { OnOk result ((r : CachedReply) → get (seen keys.now cells.now) slot ≡ Some r → listing.new ≡ put cmp_key r.key slot listing.old) }
+    ensures none { OnOk result (get (seen keys.now cells.now) slot ≡ None → listing.new ≡ listing.old) }
+{
+    match seen_in(keys, cells, slot) {
         Some(reply) => listing.put(reply.kind(), reply.key_octets(), slot),
         None => Ok(()),
     }
 }
 
 /// The keys of the replies in the slots before one. The one error is want of memory.
-fn listing_of(alloc: Global, cells: &Slots<Packed>, top: u64) -> Result<Listing, AllocError>
-    requires { AreApart cells.now }
-    ensures { IfOk result (λ listing. AreListed cells.now top listing) }
+fn listing_of(
+    alloc: Global,
+    keys: &Keys,
+    cells: &Slots<Packed>,
+    top: u64,
+) -> Result<Listing, AllocError>
+    requires { AreApart (seen keys.now cells.now) }
+    ensures { IfOk result (λ listing. AreListed (seen keys.now cells.now) top listing) }
 {
     let mut listing = Listing::new(alloc);
     for slot in 0..top {
-        list_key(&mut listing, cells, slot)?;
+        list_key(&mut listing, keys, cells, slot)?;
     }
     Ok(listing)
 }
@@ -151,6 +241,7 @@ impl Store {
             ends: Ends::new(alloc),
             top: 0,
             len: 0,
+            gone: Vec::new(alloc),
         }
     }
 
@@ -161,7 +252,8 @@ impl Store {
         self.len
     }
 
-    /// A law: each key's slot holds the reply with that key, and each reply's key is there with its slot. It does nothing.
+    /// A law: each key's slot holds the reply with that key, and each reply's key is there with its
+    /// slot. It does nothing.
     pub(crate) fn law_of_store(&self)
         ensures { AreFiled self.now }
     {
@@ -176,8 +268,16 @@ impl Store {
         self.keys.get(key.kind, key.octets.as_slice())
     }
 
-    /// The reply in a slot.
+    /// The reply that is seen in a slot.
+    pub(crate) fn get_seen(&self, slot: u64) -> Option<&Packed>
+        ensures { option_map (λ r. r.now) result ≡ in_slot self.now slot }
+    {
+        seen_in(&self.keys, &self.cells, slot)
+    }
+
+    /// The reply in a slot to which its key leads.
     pub(crate) fn get(&self, slot: u64) -> Option<&Packed>
+        requires there { IsSome (in_slot self.now slot) }
         ensures { option_map (λ r. r.now) result ≡ in_slot self.now slot }
     {
         self.cells.get(slot as usize)
@@ -187,7 +287,7 @@ impl Store {
     pub(crate) fn slot_list(&self, alloc: Global) -> Result<Vec<u64>, AllocError>
         ensures { IfOk result (λ list. list.items ≡ slots_of self.now.keys) }
     {
-        let listing = listing_of(alloc, &self.cells, self.top)?;
+        let listing = listing_of(alloc, &self.keys, &self.cells, self.top)?;
         listing.slot_list(alloc)
     }
 
@@ -199,7 +299,8 @@ impl Store {
         self.keys.first_within(span)
     }
 
-    /// Puts a reply, whose key no other has, in a slot of its own, and gives that. The one error is want of memory.
+    /// Puts a reply, whose key no other has, in a slot of its own, and gives that. The one error is
+    /// want of memory.
     pub(crate) fn add(&mut self, reply: Packed) -> Result<u64, AllocError>
         requires new { find cmp_key reply.key self.old.keys ≡ None }
         requires few { length self.old.keys ≤ 1000000 }
@@ -225,7 +326,8 @@ impl Store {
         Ok(slot)
     }
 
-    /// Puts a reply in the place of the one in a slot, which has its key. The one error is want of memory.
+    /// Puts a reply in the place of the one in a slot, which has its key. The one error is want of
+    /// memory.
     pub(crate) fn renew(&mut self, slot: u64, reply: Packed) -> Result<(), AllocError>
         requires there { find cmp_key reply.key self.old.keys ≡ Some slot }
         ensures keys { self.new.keys ≡ self.old.keys }
@@ -240,8 +342,9 @@ impl Store {
 
     /// Takes the reply out of a slot. It takes no memory.
     pub(crate) fn remove(&mut self, slot: u64)
+        requires there { IsSome (in_slot self.old slot) }
         ensures cells { Updates self.old.cells self.new.cells slot None }
-        ensures less { IsSome (in_slot self.old slot) → length self.new.keys + 1 ≡ length self.old.keys }
+        ensures less { length self.new.keys + 1 ≡ length self.old.keys }
         ensures few { length self.new.keys ≤ length self.old.keys }
     {
         if let Some(reply) = self.cells.take(slot as usize) {
@@ -251,35 +354,142 @@ impl Store {
         }
     }
 
-    /// The slot of a reply that is dead, if there is one. It takes no memory.
-    pub(crate) fn first_dead(&self, now: u64) -> Option<u64>
-        ensures dead { IfSome result (λ slot. (r : CachedReply) × (in_slot self.now slot ≡ Some r) × (is_dead now r ≡ true)) }
-        ensures none { IfNone result ((s : ℕ) (r : CachedReply) → in_slot self.now s ≡ Some r → is_dead now r ≡ false) }
+    /// The next slot that is to be given back, if one is.
+    fn next_gone(&mut self) -> Option<u64>
+        ensures { self.new ≡ self.old }
     {
-        match self.ends.least() {
-            Some((end, slot)) if end <= now => Some(slot),
-            _ => None,
+        let last = self.gone.last_mut()?;
+        match last.take_last() {
+            Some(slot) => Some(slot),
+            None => {
+                let _ = self.gone.pop();
+                None
+            }
         }
     }
 
-    /// The slot of a reply that is dead, if there is one in another slot than this. It takes no memory.
-    pub(crate) fn first_dead_but(&self, now: u64, but: u64) -> Option<u64>
-        ensures dead { IfSome result (λ slot. (r : CachedReply) × (in_slot self.now slot ≡ Some r) × (is_dead now r ≡ true)) }
-        ensures other { IfSome result (λ slot. slot ≢ but) }
-        ensures none { IfNone result ((s : ℕ) (r : CachedReply) → in_slot self.now s ≡ Some r → s ≢ but → is_dead now r ≡ false) }
+    /// Empties up to so many slots whose replies were cut out. Whether some are left. It takes no
+    /// memory.
+    pub(crate) fn sweep(&mut self, most: usize) -> bool
+        ensures keys { self.new.keys ≡ self.old.keys }
+        ensures kept { (s : ℕ) → in_slot self.new s ≡ in_slot self.old s }
     {
-        match self.ends.least_but(but) {
-            Some((end, slot)) if end <= now => Some(slot),
-            _ => None,
+        for _ in 0..most {
+            if let Some(slot) = self.next_gone() {
+                self.give_back(slot);
+            }
         }
+        !self.gone.is_empty()
+    }
+
+    /// Takes up to so many replies out of a store that is not seen any more, and empties up to as
+    /// many slots of replies that were cut out before. Whether some are left.
+    pub(crate) fn crumble(&mut self, most: usize) -> bool {
+        if self.sweep(most) {
+            return true;
+        }
+        for _ in 0..most {
+            let Some(slot) = self.first_dead(u64::MAX) else {
+                return false;
+            };
+            self.remove(slot);
+        }
+        true
+    }
+
+    /// Whether so little is kept, and waits to be given back, that it can go at once.
+    pub(crate) fn is_small(&self) -> bool {
+        self.gone.is_empty() && self.len <= FEW
+    }
+
+    /// Whether nothing waits to be given back.
+    pub(crate) fn is_swept(&self) -> bool {
+        self.gone.is_empty()
+    }
+
+    /// Cuts the keys of a transport within a span out, so that their replies are no longer seen. If
+    /// memory is lacking for that, nothing changes.
+    fn cut(&mut self, kind: Kind, span: &Span)
+        ensures left { (s : ℕ) → stays (others (within span.now.low span.now.high)) (in_slot self.new s) ≡ stays (others (within span.now.low span.now.high)) (in_slot self.old s) }
+        ensures few { length self.new.keys ≤ length self.old.keys }
+    {
+        if let Err(_) = self.gone.reserve(1) {
+            return;
+        }
+        let Some(cut) = self.keys.cut(kind, span) else {
+            return;
+        };
+        let count = cut.len();
+        self.len -= count;
+        if count > 0 {
+            self.gone.push_reserved(cut);
+        }
+    }
+
+    /// Empties a slot, unless the key of its reply leads to it. It takes no memory.
+    fn give_back(&mut self, slot: u64)
+        ensures keys { self.new.keys ≡ self.old.keys }
+        ensures kept { (s : ℕ) → in_slot self.new s ≡ in_slot self.old s }
+    {
+        give_back(&self.keys, &mut self.cells, &mut self.ends, slot);
+    }
+
+    /// The slot of a dead reply, if there is one. Slots of unseen replies that come before it are
+    /// emptied. It takes no memory.
+    pub(crate) fn first_dead(&mut self, now: u64) -> Option<u64>
+        ensures keys { self.new.keys ≡ self.old.keys }
+        ensures kept { (s : ℕ) → in_slot self.new s ≡ in_slot self.old s }
+        ensures dead { IfSome result (λ slot. (r : CachedReply) × (in_slot self.new slot ≡ Some r) × (is_dead now r ≡ true)) }
+        ensures none { IfNone result ((s : ℕ) (r : CachedReply) → in_slot self.new s ≡ Some r → is_dead now r ≡ false) }
+    {
+        first_seen(&self.keys, &mut self.cells, &mut self.ends, now, None)
+    }
+
+    /// The slot of a dead reply in another slot than this, if there is one. Slots of unseen replies
+    /// that come before it are emptied. It takes no memory.
+    pub(crate) fn first_dead_but(&mut self, now: u64, but: u64) -> Option<u64>
+        ensures keys { self.new.keys ≡ self.old.keys }
+        ensures kept { (s : ℕ) → in_slot self.new s ≡ in_slot self.old s }
+        ensures dead { IfSome result (λ slot. (r : CachedReply) × (in_slot self.new slot ≡ Some r) × (is_dead now r ≡ true)) }
+        ensures other { IfSome result (λ slot. slot ≢ but) }
+        ensures none { IfNone result ((s : ℕ) (r : CachedReply) → in_slot self.new s ≡ Some r → s ≢ but → is_dead now r ≡ false) }
+    {
+        first_seen(&self.keys, &mut self.cells, &mut self.ends, now, Some(but))
     }
 }
 
-/// Takes the replies out whose keys are within a span. It takes no memory.
+/// Takes up to `FEW` replies out whose keys are within a span.
+fn take_few(store: &mut Store, span: &Span)
+    ensures left { (s : ℕ) → stays (others (within span.now.low span.now.high)) (in_slot store.new s) ≡ stays (others (within span.now.low span.now.high)) (in_slot store.old s) }
+    ensures few { length store.new.keys ≤ length store.old.keys }
+{
+    for _ in 0..FEW {
+        let Some(slot) = store.first_within(span) else {
+            return;
+        };
+        store.remove(slot);
+    }
+}
+
+/// Cuts the keys within a span out, if there are any.
+fn cut_within(store: &mut Store, span: &Span)
+    ensures left { (s : ℕ) → stays (others (within span.now.low span.now.high)) (in_slot store.new s) ≡ stays (others (within span.now.low span.now.high)) (in_slot store.old s) }
+    ensures few { length store.new.keys ≤ length store.old.keys }
+{
+    if store.first_within(span).is_some() {
+        store.cut(Kind::Datagram, span);
+        store.cut(Kind::Stream, span);
+    }
+}
+
+/// Takes the replies out whose keys are within a span: a few one by one, more by a cut. It needs no
+/// memory: without it they go one by one.
 pub(crate) fn take_within(store: &mut Store, span: &Span)
     ensures left { (s : ℕ) → in_slot store.new s ≡ stays (others (within span.now.low span.now.high)) (in_slot store.old s) }
     ensures few { length store.new.keys ≤ length store.old.keys }
 {
+    take_few(store, span);
+    cut_within(store, span);
     while let Some(slot) = store.first_within(span) {
         store.remove(slot);
     }

@@ -128,11 +128,21 @@ is_left x = is_some x.until && (not (is_client x.peer) && (x.owed == 0))
 abbrev pub closes_at : Connection → ℕ
 closes_at x = if is_left x then 0 else unwrap_or x.until (2 ^ 64 - 1)
 
--- a connection is to be closed at this moment: its time is over, or nothing is awaited by it
+-- nothing is left to be answered of a connection, and all was written
+pub record IsIdle (x : Connection) : Type 0 where
+  pub owed : x.owed ≡ 0
+  pub written : x.outgoing ≡ []
+  pub none : NoneWhole x.incoming
+
+-- a connection may be closed once its time is over: a client that has not closed its side only if it is idle
+abbrev pub MayEnd : Connection → Type 0
+MayEnd x = (is_client x.peer ≡ false) ⊎ ((x.is_ended ≡ true) ⊎ IsIdle x)
+
+-- a connection is to be closed at this moment: its time is over, and it may be closed then, or nothing is awaited by it
 pub record IsOverdue (now : ℕ) (x : Connection) : Type 0 where
   pub until : ℕ
   pub is : x.until ≡ Some until
-  pub over : (until ≤ now) ⊎ (is_left x ≡ true)
+  pub over : ((until ≤ now) × MayEnd x) ⊎ (is_left x ≡ true)
 
 -- whether an end is the one that the roster has
 abbrev pub is_end : Endpoint → Option Endpoint → Bool

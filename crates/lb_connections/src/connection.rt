@@ -1,7 +1,7 @@
 //! One connection.
 
 ghost use Rattle.std.specs.Prelude.{[], IfSome, IsTrue, List, None, OnErr, OnOk, Some, drop, false, length, true, ℕ, ◌++◌, ◌+◌, ◌<◌, ◌^◌, ◌≡◌, ◌≤◌};
-ghost use Rattle.lb_connections.specs.Table.{IsDone, IsOverdue, Queues, Touches, closes_at, followed, follows_until, is_client, is_left, owed_with, owed_without};
+ghost use Rattle.lb_connections.specs.Table.{IsDone, IsIdle, IsOverdue, MayEnd, Queues, Touches, closes_at, followed, follows_until, is_client, is_left, owed_with, owed_without};
 ghost use Rattle.lb_frames.specs.Frames.{NoneWhole, framed};
 ghost use Rattle.lb_wire.specs.Octets.{max_message};
 
@@ -20,12 +20,12 @@ const MANY_WAITING: usize = 65_536;
 /// How many octets tell a message's length.
 const LENGTH: usize = 2;
 
-/// How long a client that has closed its side is kept for its answers, in milliseconds: as long as a query may wait for its reply, and a
-/// second.
+/// How long a client that has closed its side is kept for its answers, in milliseconds: as long as
+/// a query may wait for its reply, and a second.
 const KEPT: u64 = 61_000;
 
-/// How long the connection to a server is read on when the server has left the roster, or its end there, in milliseconds: as long as a
-/// query may wait for its reply.
+/// How long the connection to a server is read on when the server has left the roster, or its end
+/// there, in milliseconds: as long as a query may wait for its reply.
 const READ_ON: u64 = 60_000;
 
 /// One connection: what came and was not taken yet, and what is to be written.
@@ -35,8 +35,8 @@ pub struct Connection {
     pub peer: Peer,
     pub incoming: Incoming,
     pub outgoing: Outgoing,
-    /// Of a client: how many of its queries were sent on and are not answered. Of a server: how many more
-    /// messages were put on it than were taken of it.
+    /// Of a client: how many of its queries were sent on and are not answered. Of a server: how
+    /// many more messages were put on it than were taken of it.
     pub owed: u64,
     /// Whether its peer has closed its side.
     pub is_ended: bool,
@@ -61,11 +61,12 @@ fn is_client(peer: Peer) -> bool
 }
 
 impl Connection {
-    /// A new one. It takes no memory.
-    pub fn new(alloc: Global, number: u64, peer: Peer) -> Connection
+    /// A new one. A client of which no message comes is kept until this moment, if one is given. It
+    /// takes no memory.
+    pub fn new(alloc: Global, number: u64, peer: Peer, until: Option<u64>) -> Connection
         ensures who { (result.number ≡ number) × (result.peer ≡ peer) }
         ensures empty { (result.incoming ≡ []) × (result.outgoing ≡ []) }
-        ensures asks { (result.is_ended ≡ false) × (result.until ≡ None) }
+        ensures asks { (result.is_ended ≡ false) × (result.until ≡ until) }
     {
         Connection {
             number,
@@ -74,7 +75,7 @@ impl Connection {
             outgoing: Outgoing::new(alloc),
             owed: 0,
             is_ended: false,
-            until: None,
+            until,
             is_queued: false,
             is_touched: false,
             is_passed_over: false,
@@ -89,9 +90,10 @@ impl Connection {
         self.incoming.has_message()
     }
 
-    /// Whether it may be read: no whole message of it waits, and it is a server's or not too much is to be
-    /// written to it. What waits to be written holds back a client alone: a server that writes a reply
-    /// before it reads on would else wait for us for ever, and every query to it with it.
+    /// Whether it may be read: no whole message of it waits, and it is a server's or not too much
+    /// is to be written to it. What waits to be written holds back a client alone: a server that
+    /// writes a reply before it reads on would else wait for us for ever, and every query to it
+    /// with it.
     pub fn may_be_read(&self) -> bool
         ensures may { IsTrue result → NoneWhole self.now.incoming × (is_client self.now.peer ≡ true → length self.now.outgoing ≤ 65536) }
         ensures may_not { result ≡ false → NoneWhole self.now.incoming → (is_client self.now.peer ≡ true) × (65536 < length self.now.outgoing) }
@@ -120,11 +122,39 @@ impl Connection {
         ensures done { IsTrue result → IsDone self.now }
         ensures found { IsDone self.now → IsTrue result }
     {
-        self.is_ended && self.owed == 0 && self.outgoing.len() == 0 && !self.incoming.has_message()
+        self.is_ended && self.is_idle()
     }
 
-    /// Puts a message after what is to be written. A server owes one message more then. The one error is
-    /// refused memory, and then nothing has changed.
+    /// Whether nothing is left to be answered, and all was written.
+    fn is_idle(&self) -> bool
+        ensures idle { IsTrue result → IsIdle self.now }
+        ensures found { IsIdle self.now → IsTrue result }
+    {
+        self.owed == 0 && self.outgoing.len() == 0 && !self.incoming.has_message()
+    }
+
+    /// Whether it may be closed once its time is over: a client that has not closed its side only
+    /// if it is idle.
+    fn may_end(&self) -> bool
+        ensures may { IsTrue result → MayEnd self.now }
+        ensures found { MayEnd self.now → IsTrue result }
+    {
+        !is_client(self.peer) || self.is_ended || self.is_idle()
+    }
+
+    /// Keeps a client that has not closed its side until then, if there is such a limit.
+    pub(crate) fn keep_until(&mut self, until: Option<u64>)
+        ensures server { is_client self.old.peer ≡ false → self.new ≡ self.old }
+        ensures none { until ≡ None → self.new ≡ self.old }
+        ensures rest { self.new ≡ record self.old { until = self.new.until } }
+    {
+        if until.is_some() && is_client(self.peer) && !self.is_ended {
+            self.until = until;
+        }
+    }
+
+    /// Puts a message after what is to be written. A server owes one message more then. The one
+    /// error is refused memory, and then nothing has changed.
     pub(crate) fn promise(&mut self, message: &Octets) -> Result<(), AllocError>
         ensures promised { OnOk result (self.new.outgoing ≡ self.old.outgoing ++ framed message.now) }
         ensures owed { OnOk result (self.new.owed ≡ owed_with self.old) }
@@ -138,7 +168,8 @@ impl Connection {
         Ok(())
     }
 
-    /// Notes its number among those that are to be written at the end of the turn, where there is memory for that.
+    /// Notes its number among those that are to be written at the end of the turn, where there is
+    /// memory for that.
     pub(crate) fn touch(&mut self, touched: &mut Vec<u64>)
         ensures touches { Touches self.old self.new touched.old.items touched.new.items }
         ensures rest { self.new ≡ record self.old { is_touched = self.new.is_touched } }
@@ -148,8 +179,8 @@ impl Connection {
         }
     }
 
-    /// Takes the whole message off the front of what came. It has had its turn in the queue, and a server
-    /// owes one message less.
+    /// Takes the whole message off the front of what came. It has had its turn in the queue, and a
+    /// server owes one message less.
     pub(crate) fn drop_first(&mut self)
         requires { (message : List ℕ) × (rest : List ℕ) × (length message < 2 ^ 16) × (self.old.incoming ≡ framed message ++ rest) }
         ensures taken { (message : List ℕ) → (rest : List ℕ) → length message < 2 ^ 16 → self.old.incoming ≡ framed message ++ rest → self.new.incoming ≡ rest }
@@ -163,8 +194,8 @@ impl Connection {
         }
     }
 
-    /// Puts its number behind those that wait for their turn, where it has a whole message and does not stand there yet. The one error is
-    /// want of memory.
+    /// Puts its number behind those that wait for their turn, where it has a whole message and does
+    /// not stand there yet. The one error is want of memory.
     pub(crate) fn enqueue(&mut self, queue: &mut VecDeque<u64>) -> Result<(), AllocError>
         ensures queues { OnOk result (Queues self.old self.new queue.old.items queue.new.items) }
         ensures kept { OnErr result ((self.new ≡ self.old) × (queue.new.items ≡ queue.old.items)) }
@@ -178,7 +209,8 @@ impl Connection {
         Ok(())
     }
 
-    /// Its peer has closed its side, at this moment. Tells the moment at which it is closed at the latest.
+    /// Its peer has closed its side, at this moment. Tells the moment at which it is closed at the
+    /// latest.
     pub fn end(&mut self, now: u64) -> u64
         ensures ended { self.new.is_ended ≡ true }
         ensures until { (self.new.until ≡ Some result) × (now ≤ result) }
@@ -191,9 +223,9 @@ impl Connection {
         until
     }
 
-    /// A server's connection that is not at the roster's end of the server is read on from this moment for
-    /// a while, and then closed; one that is there is kept. Returns when it is closed, as `closes_at` does;
-    /// 2^64-1 for a client's, which is left as it is.
+    /// A server's connection that is not at the roster's end of the server is read on from this
+    /// moment for a while, and then closed; one that is there is kept. Returns when it is closed,
+    /// as `closes_at` does; 2^64-1 for a client's, which is left as it is.
     pub fn follow(&mut self, roster: &Roster, now: u64) -> u64
         ensures until { self.new ≡ record self.old { until = followed roster.now.listed now self.old } }
         ensures when { result ≡ follows_until self.new }
@@ -214,16 +246,16 @@ impl Connection {
         self.closes_at()
     }
 
-    /// Whether it leads to a server that has left the roster, or its end there, and as many messages were
-    /// taken of it as were put on it: nothing is awaited by it any more.
+    /// Whether it leads to a server that has left the roster, or its end there, and as many
+    /// messages were taken of it as were put on it: nothing is awaited by it any more.
     fn is_left(&self) -> bool
         ensures { result ≡ is_left self.now }
     {
         self.until.is_some() && !is_client(self.peer) && self.owed == 0
     }
 
-    /// The moment at which it is closed at the latest, in milliseconds: 0 if nothing is awaited by it, and
-    /// 2^64-1 if none is set.
+    /// The moment at which it is closed at the latest, in milliseconds: 0 if nothing is awaited by
+    /// it, and 2^64-1 if none is set.
     pub fn closes_at(&self) -> u64
         ensures { result ≡ closes_at self.now }
     {
@@ -233,13 +265,14 @@ impl Connection {
         self.until.unwrap_or(u64::MAX)
     }
 
-    /// Whether it is to be closed at this moment: its time is over, or nothing is awaited by it.
+    /// Whether it is to be closed at this moment: its time is over and it may be closed then, or
+    /// nothing is awaited by it.
     pub fn is_overdue(&self, now: u64) -> bool
         ensures over { IsTrue result → IsOverdue now self.now }
         ensures kept { result ≡ false → IsOverdue now self.now → ⊥ }
     {
         match self.until {
-            Some(until) => until <= now || self.is_left(),
+            Some(until) => (until <= now && self.may_end()) || self.is_left(),
             None => false,
         }
     }

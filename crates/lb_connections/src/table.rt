@@ -20,6 +20,9 @@ pub const PLACES: usize = 4096;
 /// How many clients may be connected.
 const MOST_CLIENTS: usize = 1024;
 
+/// Idle clients are looked for at most once in so many milliseconds.
+const SECOND: u64 = 1_000;
+
 /// The connection that was last begun to a server, by one of its upstream sockets.
 #[derive(Clone, Copy, Debug)]
 pub struct Route {
@@ -28,8 +31,9 @@ pub struct Route {
     pub number: u64,
 }
 
-/// Connections, each at the place that is its number modulo 4,096. A number is given once, so that an answer to a connection that has
-/// ended never goes to another. A contract sees the connection of each number.
+/// Connections, each at the place that is its number modulo 4,096. A number is given once, so that
+/// an answer to a connection that has ended never goes to another. A contract sees the connection
+/// of each number.
 #[derive(Drop)]
 pub struct Connections {
     /// The last number that was given, 0 at first.
@@ -47,6 +51,9 @@ pub struct Connections {
     routes: Vec<Route>,
     /// No connection has to be closed before this moment, in milliseconds.
     pub(crate) due: u64,
+    /// For how many milliseconds a client may send no message while none of its queries is pending,
+    /// if that is limited.
+    idle: Option<u64>,
     /// The version of the roster that the servers' connections were held against.
     version: Option<u64>,
     ghost wide: { vec_len slots ≡ 4096 },
@@ -118,6 +125,7 @@ impl Connections {
             touched: Vec::new(alloc),
             routes: Vec::new(alloc),
             due: u64::MAX,
+            idle: None,
             version: None,
         })
     }
@@ -197,7 +205,23 @@ impl Connections {
         let place = place_of(connection.number);
         self.last += 1;
         self.clients += clients_of(&connection);
+        self.due = self.due.min(connection.closes_at());
         self.slots[place] = Some(connection);
+    }
+
+    /// Sets for how many milliseconds a client may send no message while none of its queries is
+    /// pending, if that is to be limited.
+    pub fn close_idle(&mut self, idle: Option<u64>)
+        ensures same { self.new ≡ self.old }
+    {
+        self.idle = idle;
+    }
+
+    /// The end of the idle time of a client that came now, or of which a whole message came now:
+    /// rounded up to a second.
+    pub fn idle_after(&self, now: u64) -> Option<u64> {
+        let until = now.saturating_add(self.idle?);
+        Some(until.saturating_add(SECOND - 1) / SECOND * SECOND)
     }
 
     /// Counts a want of memory for a connection, of which the refusal is in hand.
@@ -221,8 +245,8 @@ impl Connections {
         }
     }
 
-    /// The connection that was last begun to a server at this end, by one of its upstream sockets, if it is
-    /// open.
+    /// The connection that was last begun to a server at this end, by one of its upstream sockets,
+    /// if it is open.
     pub fn route(&self, server: ServerId, lane: u8, end: Endpoint) -> Option<u64>
         ensures { IfSome result (λ n. IsTo n server lane end self.now) }
     {
@@ -281,8 +305,8 @@ impl Connections {
         }
     }
 
-    /// Whether a connection is written before the turn ends: much waits to be written to it, or there was no
-    /// memory to note that it is to be written.
+    /// Whether a connection is written before the turn ends: much waits to be written to it, or
+    /// there was no memory to note that it is to be written.
     pub fn is_urgent(&self, number: u64) -> bool
         ensures urgent { IsTrue result → IsUrgent (at number self.now) }
         ensures waits { result ≡ false → IsUrgent (at number self.now) → ⊥ }
@@ -293,8 +317,8 @@ impl Connections {
         }
     }
 
-    /// Whether nothing is to be done for a connection but to wait: it is not at its end, and was not passed
-    /// over.
+    /// Whether nothing is to be done for a connection but to wait: it is not at its end, and was
+    /// not passed over.
     pub fn is_settled(&self, number: u64) -> bool
         ensures settled { IsTrue result → IsToSee (at number self.now) → ⊥ }
         ensures unsettled { result ≡ false → IsToSee (at number self.now) }
@@ -331,7 +355,21 @@ impl Connections {
         self.due = self.due.min(moment);
     }
 
-    /// Whether the time of a connection may be over at this moment; where it may, none is known of any more.
+    /// Connections are looked through when the time of this one is over, or within a second if it
+    /// is over and it can't be closed yet.
+    pub fn look_again(&mut self, connection: &Connection, now: u64)
+        ensures same { self.new ≡ self.old }
+    {
+        let moment = connection.closes_at();
+        if moment <= now {
+            self.look_by(now.saturating_add(SECOND));
+        } else {
+            self.look_by(moment);
+        }
+    }
+
+    /// Whether the time of a connection may be over at this moment; where it may, none is known of
+    /// any more.
     pub fn is_due(&mut self, now: u64) -> bool
         ensures same { self.new ≡ self.old }
     {
@@ -342,8 +380,9 @@ impl Connections {
         true
     }
 
-    /// Whether the servers' connections were held against another version of the roster than this one,
-    /// against which they are held now. If so, the routes to servers that it has no more are forgotten.
+    /// Whether the servers' connections were held against another version of the roster than this
+    /// one, against which they are held now. If so, the routes to servers that it has no more are
+    /// forgotten.
     pub fn is_behind(&mut self, roster: &Roster) -> bool
         ensures same { self.new ≡ self.old }
     {

@@ -45,9 +45,9 @@ impl Connections {
         }))
     }
 
-    /// Takes the first message of a connection, which stands first in the queue, off what came of it. With a
-    /// further one it waits for its turn again. The one error is refused memory for that; the message is
-    /// taken all the same.
+    /// Takes the first message of a connection, which stands first in the queue, off what came of
+    /// it. With a further one it waits for its turn again. The one error is refused memory for
+    /// that; the message is taken all the same.
     pub fn drop_first(&mut self, number: u64) -> Result<(), AllocError>
         ensures { (peer : Peer) (message : List ℕ) → IsFirst number peer message self.old → Takes number message self.old self.new }
     {
@@ -69,14 +69,35 @@ impl Connections {
         connection.enqueue(&mut self.queue)
     }
 
-    /// Puts what came behind what is held of a connection that was taken out, which then waits for its turn where it has a whole message.
-    /// The one error is want of memory.
-    pub fn hear(&mut self, connection: &mut Connection, octets: &Octets) -> Result<(), AllocError>
+    /// Puts what came at this moment after what is held of a connection that was taken out, which
+    /// then waits for its turn if it has a whole message. The one error is refused memory.
+    pub fn hear(
+        &mut self,
+        connection: &mut Connection,
+        octets: &Octets,
+        now: u64,
+    ) -> Result<(), AllocError>
         ensures heard { OnOk result (connection.new.incoming ≡ connection.old.incoming ++ octets.now) }
         ensures rest { (connection.new.number ≡ connection.old.number) × (connection.new.peer ≡ connection.old.peer) × (connection.new.outgoing ≡ connection.old.outgoing) × (connection.new.is_ended ≡ connection.old.is_ended) }
         ensures same { self.new ≡ self.old }
     {
         connection.incoming.push(octets.as_slice())?;
+        self.keep(connection, now);
         connection.enqueue(&mut self.queue)
+    }
+
+    /// Keeps a client of which a whole message came at this moment for as long as it may be idle.
+    /// Parts of a message keep nobody (RFC 7766 section 6.2.3).
+    fn keep(&mut self, connection: &mut Connection, now: u64)
+        ensures rest { connection.new ≡ record connection.old { until = connection.new.until } }
+        ensures same { self.new ≡ self.old }
+    {
+        if !connection.has_message() {
+            return;
+        }
+        if let Some(until) = self.idle_after(now) {
+            connection.keep_until(Some(until));
+            self.due = self.due.min(until);
+        }
     }
 }

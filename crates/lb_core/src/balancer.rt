@@ -26,7 +26,7 @@ use crate::query::answer_query;
 use crate::reply::answer_reply;
 use crate::tally::Tally;
 use crate::upstream::Upstream;
-use lb_cache::Shelf;
+use lb_cache::{Shelf, Swept};
 use lb_chain::{Chain, Numbered, seen_are_rules, seen_have_own_limiters, seen_twice};
 use lb_servers::{Loaded, Pool};
 use std::alloc::{AllocError, Global};
@@ -59,8 +59,8 @@ impl Model for Balancer {
 }
 
 impl Balancer {
-    /// A balancer at moment 0, without rules and servers, with the default pool; its first rule is rule 1, its first server
-    /// server 1. The one error is want of memory.
+    /// A balancer at moment 0, without rules and servers, with the default pool; its first rule is
+    /// rule 1, its first server server 1. The one error is want of memory.
     pub fn new(alloc: Global) -> Result<Balancer, AllocError>
         ensures { IfOk result (λ balancer. balancer ≡ empty) }
     {
@@ -72,8 +72,16 @@ impl Balancer {
         })
     }
 
-    /// A law: each server has one health check with its number, and its mark is what its health says; the servers stand by
-    /// number, each below the next. It does nothing.
+    /// Gives back the memory of up to so many replies that were expunged or went with their cache.
+    /// It takes no memory, and nothing that is seen changes.
+    pub fn sweep(&mut self, most: usize) -> Swept
+        ensures { self.new ≡ self.old }
+    {
+        self.upstream.sweep(most)
+    }
+
+    /// A law: each server has one health check with its number, and its mark is what its health
+    /// says; the servers stand by number, each below the next. It does nothing.
     pub fn law_of_health(&self)
         ensures { AreMarked self.now }
     {
@@ -140,8 +148,9 @@ impl Balancer {
         self.upstream.totals(self.chain.len())
     }
 
-    /// A snapshot: all that the answers from now on depend on, its lists in the order of `law_of_lists`. Two balancers with equal
-    /// snapshots answer alike ever after, by the law `equal_snapshots_have_equal_runs`. The one error is want of memory.
+    /// A snapshot: all that the answers from now on depend on, its lists in the order of
+    /// `law_of_lists`. Two balancers with equal snapshots answer alike ever after, by the law
+    /// `equal_snapshots_have_equal_runs`. The one error is want of memory.
     pub fn snapshot(&self, alloc: Global) -> Result<Plain, AllocError>
         ensures value { IfOk result (λ plain. plain ≡ snapshot_of self.now) }
         ensures shown { IsShown self.now }
@@ -155,9 +164,10 @@ impl Balancer {
         self.upstream.snapshot(alloc, &self.chain, self.moment)
     }
 
-    /// Answers one event. It can lack memory at a query with passes, a spoofed answer or a pool to be answered by, at a rule that
-    /// is added or moved, and at a server, a pool or a cache that is added: then nothing but the moment changes; and at a reply
-    /// that would be kept: then it is delivered, and not kept.
+    /// Answers one event. It can lack memory at a query with passes, a spoofed answer or a pool to
+    /// be answered by, at a rule that is added or moved, and at a server, a pool or a cache that is
+    /// added: then nothing but the moment changes; and at a reply that would be kept: then it is
+    /// delivered, and not kept.
     pub fn step(&mut self, event: Event) -> Answer
         ensures { Answers self.old event result self.new }
     {
@@ -165,8 +175,9 @@ impl Balancer {
         self.step_noted(event, &mut noted)
     }
 
-    /// The same step. It counts the event and its answer, and notes what it leaves beside the plain state. If memory for a count
-    /// is refused, the counts by number say so from then on. It is made in line, as an answer is then looked at where it stands.
+    /// The same step. It counts the event and its answer, and notes what it leaves beside the plain
+    /// state. If memory for a count is refused, the counts by number say so from then on. It is
+    /// made in line, as an answer is then looked at where it stands.
     #[inline(always)]
     pub fn step_counted(&mut self, event: Event, tally: &mut Tally, noted: &mut Noted) -> Answer
         ensures answers { Answers self.old event result self.new }

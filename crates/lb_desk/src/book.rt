@@ -1,4 +1,5 @@
-//! What lies under the lock of a desk: the balancer, and a log of which each moment shows that it is true.
+//! What lies under the lock of a desk: the balancer, and a log of which each moment shows that it
+//! is true.
 
 ghost use Rattle.std.specs.Prelude.{All, IfErr, IfOk, IsErrAnd, IsOk, IsSome, IsTrue, None, OnErr, OnOk, Some, min, vec_capacity, vec_len, ◌++◌, ◌+◌, ◌-◌, ◌<◌, ◌^◌, ◌↔◌, ◌∷◌, ◌≡◌, ◌≢◌, ◌≤◌, ℕ, []};
 ghost use Rattle.std.specs.Option.{ForSome};
@@ -18,6 +19,7 @@ use crate::entry::{Entry, SeatId};
 use crate::fault::DeskFault;
 use crate::naming::Naming;
 use crate::spare::{Room, Spare};
+use lb_cache::Swept;
 use lb_core::{Answer, Balancer, Event, Noted, Tally};
 use std::alloc::{AllocError, Global};
 use std::marker::Model;
@@ -25,8 +27,9 @@ use std::sync::ledger;
 use std::sync::ledger::Share;
 pub use ticket::{Answered, Receipts, Ticket};
 
-/// What lies under the lock of a desk: its balancer, and the log of the first calls. A contract sees how many calls were answered and
-/// how many the log has at most, what was counted, the log, and for which event room is taken.
+/// What lies under the lock of a desk: its balancer, and the log of the first calls. A contract
+/// sees how many calls were answered and how many the log has at most, what was counted, the log,
+/// and for which event room is taken.
 #[derive(Drop)]
 pub struct Book<J: Naming> {
     alloc: Global,
@@ -92,10 +95,12 @@ impl<J: Naming> Book<J> {
 }
 
 impl<J: Naming> Book<J> {
-    /// Answers an event: the whole of what a call does under the lock. One step of the balancer, which the book and the caller's share
-    /// count; while the log has room for it by its limit, the log has it under the seat's number, and the answer comes with a ticket
-    /// for its receipt. `receipts` are the caller's, which take room for one more where they have none, and `room` says whether that
-    /// was refused before. What the step leaves beside the plain state is noted. A refused event comes back, and nothing has changed.
+    /// Answers an event: the whole of what a call does under the lock. One step of the balancer,
+    /// which the book and the caller's share count; while the log has room for it by its limit, the
+    /// log has it under the seat's number, and the answer comes with a ticket for its receipt.
+    /// `receipts` are the caller's, which take room for one more where they have none, and `room`
+    /// says whether that was refused before. What the step leaves beside the plain state is noted.
+    /// A refused event comes back, and nothing has changed.
     #[inline(always)]
     pub fn answer(
         &mut self,
@@ -135,7 +140,8 @@ impl<J: Naming> Book<J> {
         Ok(Answered::new(answer, place, copy))
     }
 
-    /// Takes room for the entry of a call of this event, where the log has room for it by its limit. Nothing else changes.
+    /// Takes room for the entry of a call of this event, where the log has room for it by its
+    /// limit. Nothing else changes.
     #[inline(always)]
     pub fn ready(&mut self, event: &Event) -> Result<(), DeskFault>
         ensures full { IsErrAnd result (λ fault. fault ≡ CountFull) ↔ (self.old.count ≡ 2 ^ 64 - 1) }
@@ -156,9 +162,9 @@ impl<J: Naming> Book<J> {
         Ok(())
     }
 
-    /// Answers an event by one step of the balancer. The call is counted, in the book and in the caller's share, and the log has it,
-    /// under the seat's number, where its limit allows; the room that was taken for it is spent. The place is how many calls there
-    /// were before.
+    /// Answers an event by one step of the balancer. The call is counted, in the book and in the
+    /// caller's share, and the log has it, under the seat's number, where its limit allows; the
+    /// room that was taken for it is spent. The place is how many calls there were before.
     #[inline(always)]
     pub fn take(
         &mut self,
@@ -191,7 +197,8 @@ impl<J: Naming> Book<J> {
 }
 
 impl<J: Naming> Book<J> {
-    /// A copy of the event for its receipt, where the log has room for the call by its limit; then room for the receipt is there too.
+    /// A copy of the event for its receipt, where the log has room for the call by its limit; then
+    /// room for the receipt is there too.
     #[inline(always)]
     fn noted(
         &self,
@@ -298,7 +305,16 @@ impl<J: Naming> Book<J> {
         &self.balancer
     }
 
-    /// A law: the counts are those of a run from the opening to the balancer, of as many events as there were calls. It does nothing.
+    /// Gives back the memory of up to so many replies that were expunged or went with their cache.
+    /// It is no call, and nothing that a call sees changes.
+    pub(crate) fn sweep(&mut self, most: usize) -> Swept
+        ensures { self.new ≡ self.old }
+    {
+        self.balancer.sweep(most)
+    }
+
+    /// A law: the counts are those of a run from the opening to the balancer, of as many events as
+    /// there were calls. It does nothing.
     pub fn law_of_counts(&self)
         ensures { ∥ Counted J.opening self.now.count self.now.balancer self.now.tally.counts.items ∥₁ }
     {

@@ -17,6 +17,7 @@ use crate::entry::SeatId;
 use crate::fault::{CloseFault, DeskFault};
 use crate::naming::{Naming, Parted};
 use crate::seat::Seat;
+use lb_cache::Swept;
 use lb_core::{
     Answer, Balancer, Event, Noted, Plain, Tally, cached_answers_are_kept_replies,
     hits_come_from_replies,
@@ -27,19 +28,25 @@ use std::sync::atomic::{AtomicBool, Ordering};
 use std::sync::ledger::{Blank, Share};
 use std::sync::{Mutex, MutexGuard, Wait};
 
-/// How often a caller tries to take the lock before it sleeps, and how many pauses it makes between two tries.
+/// How often a caller tries to take the lock before it sleeps, and how many pauses it makes between
+/// two tries.
 const TRIES: u32 = 200;
 
 const PAUSES: u32 = 4;
 
-/// A balancer that many threads call, each by a seat of its own. Each call is one step of the balancer, one after the other.
+/// Of so many replies a sweep gives the memory back: it holds the lock for some 0.3 ms.
+const MOST_SWEPT: usize = 64;
+
+/// A balancer that many threads call, each by a seat of its own. Each call is one step of the
+/// balancer, one after the other.
 #[derive(Drop)]
 pub struct Desk<J: Naming> {
     alloc: Global,
     book: Mutex<Book<J>>,
     opening: Plain,
     seats: usize,
-    /// Whether the log has all that its limit allows: a hint, so that no room is taken in vain. No answer depends on it.
+    /// Whether the log has all that its limit allows: a hint, so that no room is taken in vain. No
+    /// answer depends on it.
     is_full: AtomicBool,
     parted: Parted<J>,
     ghost seated: { seats ≡ J.seats },
@@ -91,10 +98,11 @@ impl<J: Naming> Desk<J> {
 }
 
 impl<J: Naming> Desk<J> {
-    /// One call, by any thread: one step of the balancer. The seat counts it, and has a receipt of it where the log has the call: what
-    /// the book answers carries the ticket of a logged call, and only the seat's receipts can use that up, so that no receipt can be
-    /// left out. A refused event comes back, and nothing was asked of the balancer. Want of memory is met only while the log takes
-    /// calls.
+    /// One call, by any thread: one step of the balancer. The seat counts it, and has a receipt of
+    /// it where the log has the call: what the book answers carries the ticket of a logged call,
+    /// and only the seat's receipts can use that up, so that no receipt can be left out. A refused
+    /// event comes back, and nothing was asked of the balancer. Want of memory is met only while
+    /// the log takes calls.
     #[inline(always)]
     pub fn call<R: Wait>(
         &self,
@@ -112,7 +120,8 @@ impl<J: Naming> Desk<J> {
         self.call_hinted(rt, seat, event, self.is_full.load(Ordering::SeqCst))
     }
 
-    /// The same call. It notes what its step leaves beside the plain state, as of a query that ended its server and when it was sent.
+    /// The same call. It notes what its step leaves beside the plain state, as of a query that
+    /// ended its server and when it was sent.
     #[inline(always)]
     pub fn call_noted<R: Wait>(
         &self,
@@ -132,8 +141,9 @@ impl<J: Naming> Desk<J> {
         self.called(rt, seat, event, self.is_full.load(Ordering::SeqCst), noted)
     }
 
-    /// The same call, by the caller's own hint whether the log is full. No answer depends on it: it says alone whether room for the
-    /// receipt is taken before the lock, or under it where the log takes the call after all. `call` takes the desk's hint.
+    /// The same call, by the caller's own hint whether the log is full. No answer depends on it: it
+    /// says alone whether room for the receipt is taken before the lock, or under it where the log
+    /// takes the call after all. `call` takes the desk's hint.
     #[inline(always)]
     pub fn call_hinted<R: Wait>(
         &self,
@@ -220,8 +230,8 @@ impl<J: Naming> Desk<J> {
 }
 
 impl<J: Naming> Desk<J> {
-    /// What a reader makes of the balancer and of what was counted, under the lock. It is no call and needs no seat. The reader has both
-    /// by reference, so that nothing of them changes.
+    /// What a reader makes of the balancer and of what was counted, under the lock. It is no call
+    /// and needs no seat. The reader has both by reference, so that nothing of them changes.
     pub fn read<R: Wait, T, F: FnOnce(&Balancer, &Tally) -> T>(&self, rt: &R, reader: F) -> T
         requires { F.IsAlwaysCallable reader }
         ensures { (book : Booked) × OnceReturnsAtBoth F.FnOnce reader book.balancer book.tally result × ∥ Counted J.opening book.count book.balancer book.tally.counts.items ∥₁ }
@@ -230,6 +240,22 @@ impl<J: Naming> Desk<J> {
         let book = &*guard;
         book.law_of_counts();
         reader(book.balancer(), book.tally())
+    }
+}
+
+impl<J: Naming> Desk<J> {
+    /// Gives back the memory of some replies that were expunged or went with their cache. Whether
+    /// more is to be given back. It is no call and needs no seat, and what a call sees stays as it
+    /// is. A cache that was emptied is dropped after the lock.
+    pub fn sweep<R: Wait>(&self, rt: &R) -> bool {
+        self.swept(rt).more
+    }
+
+    /// What a sweep under the lock leaves.
+    fn swept<R: Wait>(&self, rt: &R) -> Swept {
+        let mut guard = self.entered(rt);
+        let book = &mut *guard;
+        book.sweep(MOST_SWEPT)
     }
 }
 
@@ -243,8 +269,9 @@ impl<J: Naming> Desk<J> {
         self.entered_late(rt)
     }
 
-    /// Takes the lock that another thread has. A call holds it for about a microsecond, so it is tried for a while. A thread that
-    /// has slept for a lock makes its release a call of the system, which wakes the next one: so each call of a row would sleep.
+    /// Takes the lock that another thread has. A call holds it for about a microsecond, so it is
+    /// tried for a while. A thread that has slept for a lock makes its release a call of the
+    /// system, which wakes the next one: so each call of a row would sleep.
     #[inline(never)]
     fn entered_late<R: Wait>(&self, rt: &R) -> MutexGuard<'_, Book<J>> {
         for _ in 0..TRIES {
@@ -271,9 +298,9 @@ fn prepared(receipts: &mut Receipts, alloc: Global, is_full: bool) -> Result<(),
 }
 
 impl<J: Naming> Desk<J> {
-    /// Ends the desk, once its callers have ended: its log, which is true, and in which each seat's receipts are its entries. The desk
-    /// and its seats are spent either way. As none of a desk's seats can be made twice, a number that stands twice means that another
-    /// seat is missing.
+    /// Ends the desk, once its callers have ended: its log, which is true, and in which each seat's
+    /// receipts are its entries. The desk and its seats are spent either way. As none of a desk's
+    /// seats can be made twice, a number that stands twice means that another seat is missing.
     pub fn close(self, seats: Vec<Seat<J>>) -> Result<Audit, CloseFault>
         ensures missing { IsErrAnd result (λ fault. fault ≡ MissingSeat) ↔ (AreAll J.seats seats.items → ⊥) }
         ensures count { IfOk result (λ audit. audit.count ≡ sum_by (λ s. s.calls) seats.items) }

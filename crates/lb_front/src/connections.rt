@@ -26,7 +26,7 @@ use tokio::sync::{OwnedSemaphorePermit, Semaphore};
 use tokio::time::Interval;
 
 /// What makes the future of a connection.
-pub(crate) trait Make: Drop {
+pub trait Make: Drop {
     type Served: Future<Output = ()>;
 
     /// The future of a connection of a client, which has one of the places.
@@ -36,9 +36,9 @@ pub(crate) trait Make: Drop {
 
 /// A connection that is served, and its place. Whatever ends it, nobody is told.
 #[derive(Drop)]
-pub(crate) struct Served<F> {
-    connection: F,
-    place: OwnedSemaphorePermit,
+pub struct Served<F> {
+    pub connection: F,
+    pub place: OwnedSemaphorePermit,
 }
 
 impl<F: Future> Future for Served<F>
@@ -86,8 +86,9 @@ impl<R: Wait + Clock + Copy + Drop, T: Taker, O: Outside, W: Waker> Make for Mak
     }
 }
 
-/// Takes in the clients of the listeners until the flag is set. Each has one of the places while its connection stands. A client that finds no
-/// place, or no memory for its connection, is closed at once; the others stay.
+/// Takes in the clients of the listeners until the flag is set. Each has one of the places while
+/// its connection stands. A client that finds no place, or no memory for its connection, is closed
+/// at once; the others stay.
 #[derive(Drop)]
 pub(crate) struct Accepting<'a, M: Make> {
     pub(crate) listeners: Vec<(u8, TcpListener)>,

@@ -14,7 +14,7 @@ use std::net::SocketAddr;
 
 /// Who is at the other end of a connection, as the desk knows it, and at which listen line.
 #[derive(Clone, Copy, Debug)]
-pub(crate) struct Client {
+pub struct Client {
     pub(crate) place: u8,
     pub(crate) source: Addr,
     pub(crate) port: u16,

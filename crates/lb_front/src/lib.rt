@@ -1,5 +1,5 @@
-//! The front of DNS on HTTP (RFC 8484): connections of HTTP/1.1, behind a proxy that ends TLS. hyper reads and writes them, tokio drives them,
-//! on one thread.
+//! The front of DNS on HTTP (RFC 8484): connections of HTTP/1.1, behind a proxy that ends TLS.
+//! hyper reads and writes them, tokio drives them, on one thread.
 #![tactic(auto)]
 
 mod answering;
@@ -14,11 +14,16 @@ mod response;
 mod serving;
 mod shared;
 
+pub use connections::{Make, Served};
 pub use cut::FrontFault;
+pub use heads::Client;
 pub use laws::fronts_cross_threads;
 pub use lb_doh::{
     Asker, Bringer, Brought, DohBody, DohFault, DohResponse, EnterFault, HttpPosts, Next, Requests,
     Ticket, Waiting, carrying, next_of, one_outcome, posts_cross_threads, query_of, read_request,
     refused, response_of, unavailable,
 };
-pub use serving::{Bound, FrontEnded, FrontParts, front_runtime, run_front};
+pub use paced::Paced;
+pub use serving::{
+    Bound, FrontEnded, FrontParts, Room, front_runtime, run_front, serve_connections, settings,
+};

@@ -18,7 +18,7 @@ const STUCK_SECONDS: u64 = 10;
 
 /// A client's socket. A write that waits fails once the client has taken nothing for 10 seconds.
 #[derive(Drop)]
-pub(crate) struct Paced<R, I> {
+pub struct Paced<R, I> {
     rt: R,
     timers: Option<Handle>,
     io: I,
@@ -27,8 +27,9 @@ pub(crate) struct Paced<R, I> {
 }
 
 impl<R: Clock, I> Paced<R, I> {
-    /// A socket whose time is kept by these timers. Without timers its writes wait as long as it takes.
-    pub(crate) fn new(rt: R, timers: Option<Handle>, io: I) -> Paced<R, I>
+    /// A socket whose time is kept by these timers. Without timers its writes wait as long as it
+    /// takes.
+    pub fn new(rt: R, timers: Option<Handle>, io: I) -> Paced<R, I>
         ensures { result.io ≡ io }
     {
         Paced {

@@ -77,8 +77,8 @@ pub struct FrontEnded<T> {
     pub sender: Sender,
 }
 
-/// A runtime for these listeners; none where nothing listens. It takes descriptors: made before any client is answered, it finds them, where a process
-/// may have few.
+/// A runtime for these listeners; none where nothing listens. It takes descriptors: made before any
+/// client is answered, it finds them, where a process may have few.
 pub fn front_runtime<R: Clock + Net + RandomSource + AllocGlobal>(
     rt: &R,
     listeners: &[Bound],
@@ -92,8 +92,8 @@ pub fn front_runtime<R: Clock + Net + RandomSource + AllocGlobal>(
     Ok(Some(LocalRuntime::new(rt)?))
 }
 
-/// Serves DNS on HTTP until the flag is set; then the connections that stand, and the requests that wait, have 300 ms, and end. Where nothing
-/// listens, it ends at once.
+/// Serves DNS on HTTP until the flag is set; then the connections that stand, and the requests that
+/// wait, have 300 ms, and end. Where nothing listens, it ends at once.
 pub fn run_front<
     R: Wait + Clock + Net + RandomSource + AllocGlobal + Copy + Drop,
     T: Taker,
@@ -167,8 +167,8 @@ fn shared_by<T: Taker, O: Outside, W: Waker>(
     )?)
 }
 
-/// Listeners, and how many clients are connected at most.
-type Room = (Vec<(u8, TcpListener)>, usize);
+/// Listeners, each with its place, and how many clients are connected at most.
+pub type Room = (Vec<(u8, TcpListener)>, usize);
 
 /// Serves the connections of the listeners, which share this, until the flag is set.
 fn serve_shared<
@@ -185,11 +185,12 @@ fn serve_shared<
     shared: &Arc<Shared<T, O, W>>,
 ) -> Result<(), FrontFault> {
     let maker = maker_of(rt, alloc, runtime.handle().time(), shared)?;
-    serve(&rt, alloc, runtime, room, stop, maker)
+    serve_connections(&rt, alloc, runtime, room, stop, maker)
 }
 
-/// Serves the connections of the listeners until the flag is set. What a connection is made of is not said here: whoever makes them is any.
-fn serve<R: Wait + Clock + Net + RandomSource + AllocGlobal, M: Make>(
+/// Serves the connections of the listeners until the flag is set. More than 1,024 clients count as
+/// 1,024. What a connection is made of is not said here: whoever makes them is any.
+pub fn serve_connections<R: Wait + Clock + Net + RandomSource + AllocGlobal, M: Make>(
     rt: &R,
     alloc: Global,
     runtime: &mut LocalRuntime,
@@ -223,7 +224,7 @@ fn maker_of<R: Clock + RandomSource + Copy + Drop, T: Taker, O: Outside, W: Wake
     timers: &time::Handle,
     shared: &Arc<Shared<T, O, W>>,
 ) -> Result<Maker<R, T, O, W>, FrontFault> {
-    let http = settings(rt, alloc, timers.clone()?)?;
+    let http = settings(rt, alloc, timers.clone()?, HEAD_SECONDS)?;
     Ok(Maker {
         rt,
         alloc,
@@ -247,11 +248,13 @@ fn ended<R: Wait, T: Taker, O: Outside, W: Waker>(
     }
 }
 
-/// How connections are served.
-fn settings<R: Clock + RandomSource + Copy + Drop>(
+/// How connections are served. A head may take so many seconds to come, and a connection may be
+/// idle for as long.
+pub fn settings<R: Clock + RandomSource + Copy + Drop>(
     rt: R,
     alloc: Global,
     timers: time::Handle,
+    head_seconds: u64,
 ) -> io::Result<Builder<TokioTimer<R>>> {
     let timer = TokioTimer::new(rt, timers);
     let mut http = Builder::new(alloc, RandomState::new(&rt)?).timer(timer);
@@ -259,7 +262,7 @@ fn settings<R: Clock + RandomSource + Copy + Drop>(
     http.auto_date_header(false);
     // A client may close its side behind its request.
     http.half_close(true);
-    http.header_read_timeout(Some(Duration::from_secs(HEAD_SECONDS)));
+    http.header_read_timeout(Some(Duration::from_secs(head_seconds)));
     Ok(http)
 }
 

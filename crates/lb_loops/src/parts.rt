@@ -32,6 +32,9 @@ pub struct StreamParts<S, T, O, P> {
     pub taker: T,
     /// Its source of moments and words.
     pub outside: O,
+    /// For how many milliseconds a client may send no message while none of its queries is pending,
+    /// if that is limited.
+    pub idle: Option<u64>,
 }
 
 /// What the loop of the clock is made of.

@@ -141,8 +141,10 @@ fn loop_of_streams<R: Wait, S: Streams, T: Taker, O: Outside, P: Posts, G: Gate,
         posts,
         taker,
         outside,
+        idle,
     } = parts;
     let mut part = StreamLoop::made(alloc, sockets, receiver, fronts, posts, taker, outside)?;
+    part.close_idle(idle);
     all_streams(rt, alloc, around, &mut part)?;
     Ok(part.into_parts())
 }

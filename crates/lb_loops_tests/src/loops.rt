@@ -345,6 +345,7 @@ fn run_at_desk<'a, J: Naming + Send + Sync, R: Threads + Wait + Clock + Sync>(
         posts: posts(rt, alloc)?,
         taker: shared.answering(rt, desk, second)?,
         outside: shared.outside(rt)?,
+        idle: None,
     };
     let none = Arc::new(alloc, Mutex::new(Packets::new(alloc)))?;
     let clock = ClockParts {

@@ -3,12 +3,12 @@
 ghost use Rattle.std.specs.Prelude.{◌≡◌, ◌<◌, ◌≤◌, ◌+◌, ◌^◌, ◌↔◌, [], ◌∷◌, ◌++◌, length, slice_get, option_copied, option_map, Some, IsTrue, IfSome, OnOk, OnErr, IfOk};
 ghost use Rattle.std.specs.List.{All};
 ghost use Rattle.std.specs.Option.{IfNone};
-ghost use Rattle.lb_ranks.specs.Block.{back_in, front_in, IsFiledIn, IsUnfiledIn, TakesBelow};
+ghost use Rattle.lb_ranks.specs.Block.{back_in, front_in, IsBelow, IsFiledIn, IsUnfiledIn, TakesBelow};
 ghost use Rattle.lb_ranks.specs.Chunk.{all_of, back_of, ends_before as ends_before_of, front_of, IsFence, IsFilled, IsPlace, IsTaken, rest_of};
-ghost use Rattle.lb_ranks.specs.Filed.{AreInOrder};
+ghost use Rattle.lb_ranks.specs.Filed.{AreInOrder, TakesLast};
 
 use crate::chunk::Chunk;
-use crate::edits::{put_at, room_at, take_at};
+use crate::edits::{part_at, put_at, room_at, take_at};
 use crate::filed::Filed;
 use crate::front::Front;
 use crate::key::Probe;
@@ -24,7 +24,8 @@ const MAX_CHUNKS: usize = 256;
 #[derive(Debug, Drop)]
 pub(crate) struct Block {
     chunks: Vec<Chunk>,
-    // The front of the last pair's key: a search among blocks reads a chunk only where it is equal to that which is looked for.
+    // The front of the last pair's key: a search among blocks reads a chunk only where it is equal
+    // to that which is looked for.
     fence: Front,
 }
 
@@ -70,7 +71,8 @@ fn is_last(chunks: &[Chunk], at: usize) -> bool
     chunks.len().saturating_sub(at) <= 1
 }
 
-/// Puts a pair at a spot. The fence is made anew only where the last chunk changes, so that no other put reads that one.
+/// Puts a pair at a spot. The fence is made anew only where the last chunk changes, so that no
+/// other put reads that one.
 fn put_in(
     chunks: &mut Vec<Chunk>,
     fence: &mut Front,
@@ -93,7 +95,8 @@ fn put_in(
     Ok(())
 }
 
-/// Takes the pair at a spot out and gives its rank. The fence is made anew only where the last chunk changes.
+/// Takes the pair at a spot out and gives its rank. The fence is made anew only where the last
+/// chunk changes.
 fn take_out(chunks: &mut Vec<Chunk>, fence: &mut Front, spot: Spot) -> u64
     requires taken { IsTaken chunks.old.items spot.chunk spot.place }
     requires filled { All IsFilled chunks.old.items }
@@ -224,8 +227,8 @@ impl Block {
         }
     }
 
-    /// Takes the first pair out that does not stand before the one but before the other, and gives its rank; none where
-    /// there is no such pair.
+    /// Takes the first pair out that does not stand before the one but before the other, and gives
+    /// its rank; none where there is no such pair.
     pub(crate) fn take_first(&mut self, low: &Probe<'_>, end: &Probe<'_>) -> Option<u64>
         requires { AreInOrder self.old }
         ensures { TakesBelow end.now (front_in low.now self.old) (back_in low.now self.old) result self.new }
@@ -238,7 +241,8 @@ impl Block {
         Some(take_out(&mut self.chunks, &mut self.fence, spot))
     }
 
-    /// Divides it: the chunks from the middle on become a block of their own. None where it has one chunk alone.
+    /// Divides it: the chunks from the middle on become a block of their own. None where it has one
+    /// chunk alone.
     pub(crate) fn divide(&mut self) -> Result<Option<Block>, AllocError>
         ensures some { IfOk result (λ upper. IfSome upper (λ u. IsFilled self.new × IsFilled u × (self.old ≡ self.new ++ u))) }
         ensures none { IfOk result (λ upper. IfNone upper (self.new ≡ self.old)) }
@@ -252,5 +256,42 @@ impl Block {
         self.chunks.shrink_to_fit();
         self.fence = fence_of(self.chunks.as_slice());
         Ok(Some(Block::of(upper)))
+    }
+
+    /// Whether its first pair stands before the pair that is looked for.
+    pub(crate) fn begins_before(&self, at: &Probe<'_>) -> bool
+        ensures { IsTrue result ↔ IsBelow at.now self.now }
+    {
+        is_below(self.chunks.as_slice(), Spot { chunk: 0, place: 0 }, at)
+    }
+
+    /// Parts it: the pairs that do not stand before the one that is looked for become a block of
+    /// their own. None if no pair stands before it, or all do.
+    pub(crate) fn part(&mut self, at: &Probe<'_>) -> Result<Option<Block>, AllocError>
+        requires { AreInOrder self.old }
+        ensures some { IfOk result (λ upper. IfSome upper (λ u. IsFilled self.new × IsFilled u × (self.old ≡ self.new ++ u))) }
+        ensures none { IfOk result (λ upper. IfNone upper (self.new ≡ self.old)) }
+        ensures err { OnErr result (self.new ≡ self.old) }
+    {
+        let spot = spot_of(self.chunks.as_slice(), at);
+        let cut = part_at(&mut self.chunks, spot)?;
+        if cut == 0 || cut >= self.chunks.len() {
+            return Ok(None);
+        }
+        let upper = self.chunks.split_off(cut)?;
+        let kept = self.chunks.as_slice();
+        self.fence = fence_of(kept);
+        Ok(Some(Block::of(upper)))
+    }
+
+    /// Takes the last pair out, and gives its rank.
+    pub(crate) fn take_last(&mut self) -> Option<u64>
+        ensures { TakesLast self.old result self.new }
+    {
+        let chunk = self.chunks.len().checked_sub(1)?;
+        let place = self.chunks[chunk].len().checked_sub(1)?;
+        let spot = Spot { chunk, place };
+        let rank = take_out(&mut self.chunks, &mut self.fence, spot);
+        Some(rank)
     }
 }

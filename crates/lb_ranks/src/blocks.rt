@@ -1,10 +1,11 @@
 //! What is looked for, put and taken among blocks.
 
-ghost use Rattle.std.specs.Prelude.{◌≡◌, ◌<◌, length, slice_get, option_copied, IsTrue, OnOk, OnErr, IfOk};
+ghost use Rattle.std.specs.Prelude.{◌≡◌, ◌<◌, length, ◌≤◌, ◌-◌, ◌++◌, drop, slice_get, take, option_copied, IsTrue, IfSome, OnOk, OnErr, IfOk};
 ghost use Rattle.std.specs.List.{All, remove};
+ghost use Rattle.std.specs.Option.{IfNone};
 ghost use Rattle.lb_ranks.specs.Block.{back_in, front_in, IsFiledIn, IsUnfiledIn, place_in, TakesBelow};
 ghost use Rattle.lb_ranks.specs.Chunk.{all_of, back_of, chunk_at, front_of, IsFilled, IsPlace};
-ghost use Rattle.lb_ranks.specs.Filed.{AreInOrder, IsCut};
+ghost use Rattle.lb_ranks.specs.Filed.{AreInOrder, IsCut, IsCutOut, TakesLast};
 
 use crate::block::Block;
 use crate::cursor::Cursor;
@@ -75,7 +76,8 @@ fn is_full(blocks: &[Block], at: usize) -> bool
     }
 }
 
-/// The block in which the pair that is looked for is to stand; one that is full is divided before. The pairs stay.
+/// The block in which the pair that is looked for is to stand; one that is full is divided before.
+/// The pairs stay.
 fn room_for(blocks: &mut Vec<Block>, at: &Probe<'_>) -> Result<usize, AllocError>
     requires order { AreInOrder (all_of blocks.old.items) }
     requires filled { All IsFilled blocks.old.items }
@@ -134,7 +136,8 @@ fn give_up_empty(blocks: &mut Vec<Block>, at: usize)
     }
 }
 
-/// Takes the pair that is looked for out, where it is there, and its block with it where no pair is left in that.
+/// Takes the pair that is looked for out, where it is there, and its block with it where no pair is
+/// left in that.
 pub(crate) fn unfile_in(blocks: &mut Vec<Block>, at: &Probe<'_>)
     requires order { AreInOrder (all_of blocks.old.items) }
     requires filled { All IsFilled blocks.old.items }
@@ -148,8 +151,8 @@ pub(crate) fn unfile_in(blocks: &mut Vec<Block>, at: &Probe<'_>)
     }
 }
 
-/// Takes the first pair out that does not stand before the one but before the other, and its block with it where no pair
-/// is left in that, and gives its rank; none where there is no such pair.
+/// Takes the first pair out that does not stand before the one but before the other, and its block
+/// with it where no pair is left in that, and gives its rank; none where there is no such pair.
 pub(crate) fn take_in(blocks: &mut Vec<Block>, low: &Probe<'_>, end: &Probe<'_>) -> Option<u64>
     requires order { AreInOrder (all_of blocks.old.items) }
     requires filled { All IsFilled blocks.old.items }
@@ -162,5 +165,107 @@ pub(crate) fn take_in(blocks: &mut Vec<Block>, low: &Probe<'_>, end: &Probe<'_>)
     }
     let rank = blocks[here].take_first(low, end);
     give_up_empty(blocks, here);
+    rank
+}
+
+/// Parts the block in which the pair that is looked for stands or would stand, so that no block has
+/// pairs that stand before it and others. The pairs stay.
+fn part(blocks: &mut Vec<Block>, at: &Probe<'_>) -> Result<(), AllocError>
+    requires order { AreInOrder (all_of blocks.old.items) }
+    requires filled { All IsFilled blocks.old.items }
+    ensures pairs { all_of blocks.new.items ≡ all_of blocks.old.items }
+    ensures filled { All IsFilled blocks.new.items }
+{
+    let here = block_of(blocks.as_slice(), at);
+    if here >= blocks.len() {
+        return Ok(());
+    }
+    blocks.reserve(1)?;
+    let Some(upper) = blocks[here].part(at)? else {
+        return Ok(());
+    };
+    match blocks.insert(here + 1, upper) {
+        Ok(()) => Ok(()),
+        Err(_) => unreachable!(),
+    }
+}
+
+/// The block that begins where the pair that is looked for stands, or would stand; none if the
+/// place is inside a block.
+fn edge(blocks: &[Block], at: &Probe<'_>) -> Option<usize>
+    requires order { AreInOrder (all_of blocks.now) }
+    requires filled { All IsFilled blocks.now }
+    ensures within { IfSome result (λ k. k ≤ length blocks.now) }
+    ensures cut { IfSome result (λ k. IsCut at.now (all_of (take k blocks.now)) (all_of (drop k blocks.now))) }
+{
+    let here = block_of(blocks, at);
+    let Some(block) = blocks.get(here) else {
+        return Some(here);
+    };
+    if !block.begins_before(at) {
+        return Some(here);
+    }
+    if block.ends_before(at) {
+        return Some(here + 1);
+    }
+    None
+}
+
+/// Takes the blocks from one up to another out.
+fn take_blocks(blocks: &mut Vec<Block>, from: usize, to: usize) -> Result<Vec<Block>, AllocError>
+    requires order { from ≤ to }
+    requires within { to ≤ length blocks.old.items }
+    ensures taken { IfOk result (λ cut. cut.items ≡ take (to - from) (drop from blocks.old.items)) }
+    ensures left { OnOk result (blocks.new.items ≡ take from blocks.old.items ++ drop to blocks.old.items) }
+    ensures err { OnErr result (blocks.new.items ≡ blocks.old.items) }
+{
+    let mut cut = Vec::with_capacity(*blocks.allocator(), to - from)?;
+    'moved: for _ in from..to {
+        cut.push_reserved(blocks.remove(from));
+    }
+    Ok(cut)
+}
+
+/// Cuts the pairs out that do not stand before the one but before the other: whole blocks, those at
+/// the ends parted before. None if memory is lacking; then the pairs stay.
+pub(crate) fn cut_in(
+    blocks: &mut Vec<Block>,
+    low: &Probe<'_>,
+    end: &Probe<'_>,
+) -> Option<Vec<Block>>
+    requires order { AreInOrder (all_of blocks.old.items) }
+    requires filled { All IsFilled blocks.old.items }
+    ensures cut { IfSome result (λ cut. IsCutOut low.now end.now (all_of blocks.old.items) (all_of cut.items) (all_of blocks.new.items)) }
+    ensures none { IfNone result (all_of blocks.new.items ≡ all_of blocks.old.items) }
+    ensures filled { All IsFilled blocks.new.items }
+    ensures cut_filled { IfSome result (λ cut. All IsFilled cut.items) }
+{
+    if let Err(_) = part(blocks, low) {
+        return None;
+    }
+    if let Err(_) = part(blocks, end) {
+        return None;
+    }
+    let from = edge(blocks.as_slice(), low)?;
+    let to = edge(blocks.as_slice(), end)?;
+    if to < from {
+        return None;
+    }
+    match take_blocks(blocks, from, to) {
+        Ok(cut) => Some(cut),
+        Err(_) => None,
+    }
+}
+
+/// Takes the last pair out, and its block with it where no pair is left in that, and gives its
+/// rank.
+pub(crate) fn take_last_in(blocks: &mut Vec<Block>) -> Option<u64>
+    requires filled { All IsFilled blocks.old.items }
+    ensures taken { TakesLast (all_of blocks.old.items) result (all_of blocks.new.items) }
+    ensures filled { All IsFilled blocks.new.items }
+{
+    let last = blocks.len().checked_sub(1)?;
+    let rank = blocks[last].take_last();
+    give_up_empty(blocks, last);
     rank
 }

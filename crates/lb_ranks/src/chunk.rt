@@ -19,14 +19,16 @@ const MAX_PAIRS: usize = 64;
 /// How many pairs stay in a chunk that is divided.
 const HALF: usize = MAX_PAIRS / 2;
 
-/// For how many pairs more a chunk takes room where it has none left: no more, so that little of what chunks take is unused.
+/// For how many pairs more a chunk takes room where it has none left: no more, so that little of
+/// what chunks take is unused.
 const STEP: usize = 2;
 
 /// Some pairs in order. A contract sees them as their list.
 #[derive(Debug, Drop)]
 pub(crate) struct Chunk {
     items: Vec<Filed>,
-    // The front of the last pair's key: a search among chunks reads a pair only where it is equal to that which is looked for.
+    // The front of the last pair's key: a search among chunks reads a pair only where it is equal
+    // to that which is looked for.
     fence: Front,
 }
 
@@ -91,7 +93,8 @@ impl Chunk {
         self.items.len() >= MAX_PAIRS
     }
 
-    /// Whether its last pair stands before the pair that is looked for: the pair itself is compared.
+    /// Whether its last pair stands before the pair that is looked for: the pair itself is
+    /// compared.
     fn last_is_before(&self, at: &Probe<'_>) -> bool
         ensures { result ≡ ends_before_of at.now self.now }
     {
@@ -171,6 +174,20 @@ impl Chunk {
         let lower = self.items.as_slice();
         self.fence = fence_of(lower);
         upper.reverse();
+        Ok(Chunk::of(upper))
+    }
+
+    /// Parts it: the pairs from a place on become a chunk of their own.
+    pub(crate) fn part(&mut self, place: usize) -> Result<Chunk, AllocError>
+        requires some { 0 < place }
+        requires within { place < length self.old }
+        ensures ok { OnOk result (IsFilled self.new) }
+        ensures upper { IfOk result (λ upper. IsFilled upper × (self.old ≡ self.new ++ upper)) }
+        ensures err { OnErr result (self.new ≡ self.old) }
+    {
+        let upper = self.items.split_off(place)?;
+        let kept = self.items.as_slice();
+        self.fence = fence_of(kept);
         Ok(Chunk::of(upper))
     }
 }

@@ -37,7 +37,8 @@ fn is_full(chunks: &[Chunk], at: usize) -> bool
     }
 }
 
-/// Divides the chunk of a spot where it is full, and gives the spot of the pair that is looked for. The pairs stay.
+/// Divides the chunk of a spot where it is full, and gives the spot of the pair that is looked for.
+/// The pairs stay.
 pub(crate) fn room_at(
     chunks: &mut Vec<Chunk>,
     spot: Spot,
@@ -87,7 +88,8 @@ fn give_up_empty(chunks: &mut Vec<Chunk>, at: usize)
     }
 }
 
-/// Takes the pair at a spot out, and its chunk with it where no pair is left in that, and gives its rank.
+/// Takes the pair at a spot out, and its chunk with it where no pair is left in that, and gives its
+/// rank.
 pub(crate) fn take_at(chunks: &mut Vec<Chunk>, spot: Spot) -> u64
     requires taken { IsTaken chunks.old.items spot.chunk spot.place }
     requires filled { All IsFilled chunks.old.items }
@@ -98,4 +100,48 @@ pub(crate) fn take_at(chunks: &mut Vec<Chunk>, spot: Spot) -> u64
     let rank = chunks[spot.chunk].take(spot.place);
     give_up_empty(chunks, spot.chunk);
     rank
+}
+
+/// Whether a spot stands between two pairs of a chunk.
+fn is_inside(chunks: &[Chunk], spot: Spot) -> bool
+    ensures { IsTrue result → (spot.chunk < length chunks.now) × (spot.place < length (chunk_at chunks.now spot.chunk)) × (0 < spot.place) }
+{
+    match chunks.get(spot.chunk) {
+        Some(chunk) => 0 < spot.place && spot.place < chunk.len(),
+        None => false,
+    }
+}
+
+/// Parts the chunk of a spot there. The pairs stay.
+fn part(chunks: &mut Vec<Chunk>, spot: Spot) -> Result<(), AllocError>
+    requires within { spot.chunk < length chunks.old.items }
+    requires place { spot.place < length (chunk_at chunks.old.items spot.chunk) }
+    requires some { 0 < spot.place }
+    requires filled { All IsFilled chunks.old.items }
+    ensures pairs { all_of chunks.new.items ≡ all_of chunks.old.items }
+    ensures filled { All IsFilled chunks.new.items }
+{
+    chunks.reserve(1)?;
+    let upper = chunks[spot.chunk].part(spot.place)?;
+    match chunks.insert(spot.chunk + 1, upper) {
+        Ok(()) => Ok(()),
+        Err(_) => unreachable!(),
+    }
+}
+
+/// Parts the chunk of a spot there, if the spot is between two pairs, and gives the chunk that
+/// begins there. The pairs stay.
+pub(crate) fn part_at(chunks: &mut Vec<Chunk>, spot: Spot) -> Result<usize, AllocError>
+    requires filled { All IsFilled chunks.old.items }
+    ensures pairs { all_of chunks.new.items ≡ all_of chunks.old.items }
+    ensures filled { All IsFilled chunks.new.items }
+{
+    if is_inside(chunks.as_slice(), spot) {
+        part(chunks, spot)?;
+    }
+    if spot.place == 0 {
+        Ok(spot.chunk)
+    } else {
+        Ok(spot.chunk.saturating_add(1))
+    }
 }

@@ -1,17 +1,19 @@
 //! Ranks that are filed under keys.
 
-ghost use Rattle.std.specs.Prelude.{◌≡◌, ◌<◌, ◌^◌, ◌++◌, [], length, OnOk, OnErr};
-ghost use Rattle.lb_ranks.specs.Filed.{filed_at, AreInOrder, HasBesides, HasBut, IsFiledAt, IsFrom, TakesFirst};
+ghost use Rattle.std.specs.Prelude.{◌≡◌, ◌<◌, ◌^◌, ◌++◌, [], length, IfSome, OnOk, OnErr};
+ghost use Rattle.std.specs.Option.{IfNone};
+ghost use Rattle.lb_ranks.specs.Filed.{filed_at, AreInOrder, HasBesides, HasBut, IsCutOut, IsFiledAt, IsFrom, TakesFirst, TakesLast};
 ghost use Rattle.lb_ranks.specs.Least.{IsLeastFrom};
 
 use crate::block::Block;
-use crate::blocks::{file_in, first_in, take_in, unfile_in, walk_in};
+use crate::blocks::{cut_in, file_in, first_in, take_in, take_last_in, unfile_in, walk_in};
 use crate::cursor::Cursor;
 use crate::key::Probe;
 use std::alloc::{AllocError, Global};
 use std::marker::Model;
 
-/// Ranks, each filed under a key. A contract sees them as the list of their pairs, by key and then by rank.
+/// Ranks, each filed under a key. A contract sees them as the list of their pairs, by key and then
+/// by rank.
 #[derive(Debug, Drop)]
 pub struct Ranks {
     blocks: Vec<Block>,
@@ -41,8 +43,8 @@ impl Ranks {
         }
     }
 
-    /// Files a rank under a key, where it is not filed there already. The one error is want of memory; it leaves all as
-    /// it was.
+    /// Files a rank under a key, where it is not filed there already. The one error is want of
+    /// memory; it leaves all as it was.
     pub fn file(&mut self, key: &[u8], rank: u64) -> Result<(), AllocError>
         ensures ok { OnOk result (HasBesides self.old (filed_at key.now rank) self.new) }
         ensures err { OnErr result (self.new ≡ self.old) }
@@ -102,14 +104,33 @@ impl Ranks {
         walk_in(self.blocks.as_slice(), &at)
     }
 
-    /// Takes the first pair out whose key stands at or after the one key and before the other, and gives its rank; none
-    /// where no pair has such a key. It takes no memory.
+    /// Takes the first pair out whose key stands at or after the one key and before the other, and
+    /// gives its rank; none where no pair has such a key. It takes no memory.
     pub fn take_first(&mut self, low: &[u8], high: &[u8]) -> Option<u64>
         ensures { TakesFirst low.now high.now self.old result self.new }
     {
         let first = Probe::of(low, 0);
         let end = Probe::of(high, 0);
         take_in(&mut self.blocks, &first, &end)
+    }
+
+    /// Cuts out the pairs whose keys stand at or after the one key and before the other. Whole
+    /// blocks move, so the time goes by the number of blocks. None if memory is lacking to part the
+    /// two at the ends; then nothing has changed.
+    pub fn cut(&mut self, low: &[u8], high: &[u8]) -> Option<Ranks>
+        ensures cut { IfSome result (λ cut. IsCutOut (filed_at low.now 0) (filed_at high.now 0) self.old cut self.new) }
+        ensures none { IfNone result (self.new ≡ self.old) }
+    {
+        let (from, to) = (Probe::of(low, 0), Probe::of(high, 0));
+        let blocks = cut_in(&mut self.blocks, &from, &to)?;
+        Some(Ranks { blocks })
+    }
+
+    /// Takes the last pair out and gives its rank; none where there is no pair. It takes no memory.
+    pub fn take_last(&mut self) -> Option<u64>
+        ensures { TakesLast self.old result self.new }
+    {
+        take_last_in(&mut self.blocks)
     }
 
     /// How many pairs there are, where that can be said in 64 bits. It counts them by chunks.

@@ -1,4 +1,4 @@
-//! Counts of failed sends, by cause, and of probes. No answer depends on them.
+//! Counts of failed sends, by cause, of probes, and of clients over TCP. No answer depends on them.
 #![tactic(auto)]
 
 mod laws;

@@ -3,8 +3,9 @@
 use lb_lines::{Line, Sending, Why};
 use std::sync::atomic::{AtomicU64, Ordering};
 
-/// How many sends failed, by cause, and how many probes were sent. Each loop notes the lines of its
-/// turns here, without a lock. A turn without a failed send and without a probe touches no count.
+/// How many sends failed, by cause, how many probes were sent, and how many clients over TCP came,
+/// left and were closed for their source. Each loop notes the lines of its turns here, without a
+/// lock. The sockets of streams count clients as they come and go.
 #[derive(Debug, Drop)]
 pub struct Sends {
     no_server: AtomicU64,
@@ -15,6 +16,9 @@ pub struct Sends {
     no_memory: AtomicU64,
     probes: AtomicU64,
     failed_probes: AtomicU64,
+    turned_away: AtomicU64,
+    clients: AtomicU64,
+    left: AtomicU64,
 }
 
 impl Sends {
@@ -29,6 +33,9 @@ impl Sends {
             no_memory: AtomicU64::new(0),
             probes: AtomicU64::new(0),
             failed_probes: AtomicU64::new(0),
+            turned_away: AtomicU64::new(0),
+            clients: AtomicU64::new(0),
+            left: AtomicU64::new(0),
         }
     }
 
@@ -52,6 +59,37 @@ impl Sends {
             Sending::Failed(_) => raise(&self.failed_probes),
             Sending::Nothing => {}
         }
+    }
+
+    /// Notes a client of streams that was closed at once, as its source had as many as it may have.
+    pub fn turn_away(&self) {
+        raise(&self.turned_away);
+    }
+
+    /// How many clients of streams were closed at once for their source.
+    pub fn turned_away(&self) -> u64 {
+        read(&self.turned_away)
+    }
+
+    /// Notes a client of streams that was taken in.
+    pub fn enter(&self) {
+        raise(&self.clients);
+    }
+
+    /// Notes that the connection of a client of streams was closed.
+    pub fn leave(&self) {
+        raise(&self.left);
+    }
+
+    /// How many clients of streams were taken in.
+    pub fn clients(&self) -> u64 {
+        read(&self.clients)
+    }
+
+    /// How many clients of streams are connected.
+    pub fn connected(&self) -> u64 {
+        let left = read(&self.left);
+        read(&self.clients).saturating_sub(left)
     }
 
     /// How many sends failed, by cause. Probes are counted apart.

@@ -38,6 +38,9 @@ const FAULTS: u64 = 60_000;
 /// How long to wait before a client is asked for again that could not be taken in, in milliseconds.
 const AGAIN: u64 = 100;
 
+/// How long to wait before more of the memory of expunged replies is given back, in milliseconds.
+const SWEEP: u64 = 2;
+
 /// The console's thread: its listeners, the client that is served, and what answers its lines.
 #[derive(Drop)]
 pub(crate) struct Console<'a, R: Wait + Clock, T: Taker + Hears, O: Outside> {
@@ -58,6 +61,8 @@ pub(crate) struct Console<'a, R: Wait + Clock, T: Taker + Hears, O: Outside> {
     typed: Option<Instant>,
     /// Whether another client may wait.
     has_others: bool,
+    /// Whether memory of expunged replies may have to be given back.
+    has_trash: bool,
     operator: Operator<T, O>,
     notices: Notices,
     halt: Halt,
@@ -91,6 +96,7 @@ impl<'a, R: Wait + Clock, T: Taker + Hears, O: Outside> Console<'a, R, T, O> {
             since: None,
             typed: None,
             has_others: true,
+            has_trash: false,
             operator,
             notices: Notices::new(alloc),
             halt,
@@ -152,11 +158,14 @@ impl<'a, R: Wait + Clock, T: Taker + Hears, O: Outside> Console<'a, R, T, O> {
                 if let Some(words) = client.take_edit() {
                     self.notices.say(words.as_str());
                 }
+                self.has_trash = true;
                 self.note_answer()
             }
             Progress::Faulted => self.look_round(),
             Progress::Blocked => self.wait_for_client(),
             Progress::Ended => {
+                // Its last line may have been carried out, and memory refused for the answer.
+                self.has_trash = true;
                 self.dismiss();
                 Ok(())
             }
@@ -268,12 +277,29 @@ impl<'a, R: Wait + Clock, T: Taker + Hears, O: Outside> Console<'a, R, T, O> {
         self.spare = self.poll.registry().try_clone().ok();
     }
 
-    /// Waits until something comes, or for so long, or until it is time to look what changed.
-    fn wait(&mut self, at_most: Option<Duration>) -> Result<(), Fault> {
+    /// Gives back some of the memory of expunged replies, if there may be some.
+    fn sweep(&mut self) {
+        if self.has_trash {
+            self.has_trash = self.operator.taker().sweep();
+        }
+    }
+
+    /// How long it is until something is to be done that no socket tells of.
+    fn until_next(&self) -> Result<Duration, Fault> {
         let look = self.notices.left(self.rt)?;
+        if self.has_trash {
+            return Ok(look.min(Duration::from_millis(SWEEP)));
+        }
+        Ok(look)
+    }
+
+    /// Waits until something comes, or for so long, or until something is to be done.
+    fn wait(&mut self, at_most: Option<Duration>) -> Result<(), Fault> {
+        self.sweep();
+        let next = self.until_next()?;
         let at_most = match at_most {
-            Some(at_most) => at_most.min(look),
-            None => look,
+            Some(at_most) => at_most.min(next),
+            None => next,
         };
         match self.poll.poll(&mut self.events, Some(at_most)) {
             Err(error) if error.kind() != ErrorKind::Interrupted => return Err(Fault::System(

@@ -15,9 +15,11 @@ const OTHERS: u8 = 4;
 /// any case.
 const LOOKS: u32 = 10_000_000;
 
-/// How many threads serve by so many loops of datagrams.
-pub(crate) fn threads_of(loops: u8) -> u8 {
-    OTHERS.saturating_add(loops)
+/// How many threads serve by so many loops of datagrams, with the service of metrics or without.
+pub(crate) fn threads_of(loops: u8, has_metrics: bool) -> u8 {
+    OTHERS
+        .saturating_add(loops)
+        .saturating_add(u8::from(has_metrics))
 }
 
 /// Makes so many threads at the same time, and lets them end. If the system does not give them,

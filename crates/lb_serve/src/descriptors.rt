@@ -24,6 +24,10 @@ const OF_PROBES: u64 = 2;
 /// three wakers, which the other loops, the console and the front have.
 const OF_LOOP: u64 = 4;
 
+/// What the service of metrics takes: its listener, six of its runtime, eight clients, and one that
+/// is closed at once.
+const OF_METRICS: u64 = 16;
+
 /// How many servers there can be.
 const SERVERS: u64 = 256;
 
@@ -51,17 +55,22 @@ pub(crate) struct Clients {
 
 impl Clients {
     /// As many as descriptors are left of this limit for each kind that is listened for, once the
-    /// listeners, the loops of datagrams and these servers have theirs; 1,024 at most.
+    /// listeners, the loops of datagrams, the service of metrics and these servers have theirs;
+    /// 1,024 at most.
     pub(crate) fn under(
         limit: Option<u64>,
         lines: &[Listener],
         servers: &[ServerPlace],
         loops: u8,
+        has_metrics: bool,
     ) -> Clients {
         let kinds = u64::from(listens(lines, Protocol::Tcp))
             + u64::from(listens(lines, Protocol::Doh));
         let each = match limit {
-            Some(limit) => left_of(limit, lines, servers, loops) / kinds.max(1),
+            Some(limit) => {
+                let limit = limit.saturating_sub(of_metrics(has_metrics));
+                left_of(limit, lines, servers, loops) / kinds.max(1)
+            }
             None => MOST,
         };
         let each = each.clamp(LEAST, MOST);
@@ -92,17 +101,28 @@ impl Clients {
     }
 }
 
-/// How many descriptors 1,024 clients of each kind, 256 servers, the further lanes of these servers
-/// and so many loops of datagrams need.
-pub(crate) fn wanted(lines: &[Listener], servers: &[ServerPlace], loops: u8) -> u64 {
+/// How many descriptors 1,024 clients of each kind, 256 servers, the further lanes of these
+/// servers, so many loops of datagrams and the service of metrics need, if there is one.
+pub(crate) fn wanted(
+    lines: &[Listener],
+    servers: &[ServerPlace],
+    loops: u8,
+    has_metrics: bool,
+) -> u64 {
     let further = u64::from(loops.saturating_sub(1))
         .saturating_mul(SERVERS)
-        .saturating_add(of_further(lines, loops));
+        .saturating_add(of_further(lines, loops))
+        .saturating_add(of_metrics(has_metrics));
     servers
         .iter()
         .fold(ENOUGH.saturating_add(further), |sum, server| {
             sum.saturating_add(of_lanes(server, loops).saturating_sub(of_lane(loops)))
         })
+}
+
+/// How many descriptors the service of metrics takes, if there is one.
+fn of_metrics(has_metrics: bool) -> u64 {
+    if has_metrics { OF_METRICS } else { 0 }
 }
 
 /// How many descriptors are left for clients.

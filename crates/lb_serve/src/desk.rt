@@ -8,7 +8,8 @@ ghost use Rattle.lb_serve.specs.Serving.{Closes, Served, closed_text, output_end
 use crate::fault::Fault;
 use crate::listening::Listening;
 use crate::log::{LogFile, keep};
-use crate::parts::{DeskConsole, DeskFront, Loops, OtherSeats, Runners, prepared};
+use crate::pages::pages_cross_threads;
+use crate::parts::{DeskConsole, DeskServices, Loops, OtherSeats, Runners, prepared};
 use crate::switches::{MOST_LOOPS, Switches};
 use crate::threads::{FrontEnd, LoopsEnd, Over, run_beside};
 use lb_core::Balancer;
@@ -248,9 +249,9 @@ fn run_at_desk<
                 loops,
                 console,
                 over,
-                front,
+                services,
             } = runners;
-            run_prepared(rt, alloc, seats, loops, console, over, front, output)
+            run_prepared(rt, alloc, seats, loops, console, over, services, output)
         }
         Err(fault) => Err(fault),
     }
@@ -274,16 +275,16 @@ fn run_prepared<
     loops: Loops<'a, R, J>,
     console: DeskConsole<'a, R, J>,
     over: Over,
-    front: DeskFront<'a, R, J>,
+    services: DeskServices<'a, R, J>,
     output: &mut W,
 ) -> Result<Left<J>, Fault>
     ensures ready { OnOk result (Appends (W.contents output.old) (W.contents output.new) ready_text) }
     ensures ended { IfErr result (λ fault. Served J.opening J.limit (W.contents output.old) (W.contents output.new) (Err fault)) }
 {
     match write_line(output, b"ready\n") {
-        Ok(()) => left_of(rt, alloc, seats, loops, console, over, front),
+        Ok(()) => left_of(rt, alloc, seats, loops, console, over, services),
         Err(error) => {
-            drop(front);
+            drop(services);
             Err(Fault::Output(error))
         }
     }
@@ -306,14 +307,14 @@ fn left_of<
     loops: Loops<'a, R, J>,
     console: DeskConsole<'a, R, J>,
     over: Over,
-    front: DeskFront<'a, R, J>,
+    services: DeskServices<'a, R, J>,
 ) -> Result<Left<J>, Fault> {
-    let (loops, (console, front)) = run(rt, alloc, loops, console, over, front);
+    let (loops, (console, front)) = run(rt, alloc, loops, console, over, services);
     left_by(seats, loops, console, front)
 }
 
-/// Runs the loops, the console and the front. It stands alone, so that the search for what lets
-/// them cross to threads ends.
+/// Runs the loops, the console and the services by HTTP. It stands alone, so that the search for
+/// what lets them cross to threads ends.
 fn run<
     'a,
     J: Naming + Send + Sync,
@@ -329,7 +330,7 @@ fn run<
     loops: Loops<'a, R, J>,
     console: DeskConsole<'a, R, J>,
     over: Over,
-    front: DeskFront<'a, R, J>,
+    services: DeskServices<'a, R, J>,
 ) -> Ran<'a, R, J> {
     // Laws, which do nothing.
     callers_cross_threads::<J, R>();
@@ -338,7 +339,8 @@ fn run<
     moments_cross_threads::<R>();
     wakers_are_shared();
     posts_cross_threads::<R>();
-    run_beside(rt, alloc, loops, over, console, front)
+    pages_cross_threads::<J, R>();
+    run_beside(rt, alloc, loops, over, console, services)
 }
 
 /// What the loops, the console and the front leave; the first fault of theirs, if one ended by

@@ -18,6 +18,9 @@ pub(crate) trait Hears {
 
     /// What changed since this watch looked last. The one error is lack of memory.
     fn changes(&self, watch: &mut Watch) -> Result<Vec<String>, AllocError>;
+
+    /// Gives back some of the memory of what was expunged. Whether more is to be given back.
+    fn sweep(&self) -> bool;
 }
 
 impl<R: Wait + Clock, J: Naming> Hears for Caller<'_, R, J> {
@@ -27,5 +30,9 @@ impl<R: Wait + Clock, J: Naming> Hears for Caller<'_, R, J> {
 
     fn changes(&self, watch: &mut Watch) -> Result<Vec<String>, AllocError> {
         watch.changes(self.runtime(), self.desk())
+    }
+
+    fn sweep(&self) -> bool {
+        self.desk().sweep(self.runtime())
     }
 }

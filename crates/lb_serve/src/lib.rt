@@ -16,6 +16,7 @@ mod log;
 mod notices;
 mod opening;
 mod operator;
+mod pages;
 mod parts;
 mod sentences;
 mod serving;

@@ -4,6 +4,7 @@ ghost use Rattle.std.specs.Prelude.{IfOk, map, ◌≡◌};
 ghost use Rattle.lb_serve.specs.Listening as spec;
 
 use crate::fault::Fault;
+use crate::switches::Switch;
 use lb_command::{Listener, Protocol, begins_listen};
 use lb_front::Bound;
 use lb_loops::{Endpoint, Front};
@@ -13,6 +14,7 @@ use lb_sockets::{
 };
 use mio::net::TcpListener;
 use std::alloc::{AllocError, Global};
+use std::net;
 use std::net::Net;
 use std::sync::Arc;
 
@@ -26,28 +28,56 @@ pub(crate) struct Listening {
     pub(crate) streams: TcpListeners,
     pub(crate) http: Vec<Bound>,
     pub(crate) consoles: Vec<TcpListener>,
+    /// That of the service of metrics, if there is to be one.
+    pub(crate) metrics: Option<net::TcpListener>,
 }
 
 /// Binds all addresses of a setup file's lines, which this text has, with sockets of datagrams for
-/// so many loops. If the system refuses an address, or if no line listens, it is an error and none
-/// stays bound.
+/// so many loops, and the one of the service of metrics, if there is one. If the system refuses an
+/// address, or if no line listens, it is an error and none stays bound.
 pub(crate) fn listen<N: Net>(
     net: &N,
     alloc: Global,
     text: &str,
     lines: &[Listener],
     loops: u8,
+    metrics: Option<Endpoint>,
 ) -> Result<Listening, Fault> {
     if lines.is_empty() {
         return Err(Fault::NoListener);
     }
     match bound(net, alloc, lines, loops) {
-        Ok(listening) => Ok(listening),
+        Ok(mut listening) => {
+            listening.metrics = metrics_listener(net, metrics)?;
+            Ok(listening)
+        }
         Err(fault) => Err(refused(text, fault)),
     }
 }
 
-/// Binds the addresses.
+/// The listener of the service of metrics, if there is to be one.
+fn metrics_listener<N: Net>(
+    net: &N,
+    end: Option<Endpoint>,
+) -> Result<Option<net::TcpListener>, Fault> {
+    let Some(end) = end else {
+        return Ok(None);
+    };
+    match std_listener_at(net, 0, end) {
+        Ok(listener) => Ok(Some(listener)),
+        Err(fault) => Err(refused_for_metrics(fault)),
+    }
+}
+
+/// The fault of the switch whose address was not bound.
+fn refused_for_metrics(fault: BindFault) -> Fault {
+    match fault {
+        BindFault::Bind { error, .. } => Fault::Switch(Switch::MetricsListener(error.kind())),
+        BindFault::NoMemory => Fault::Bind(0, fault),
+    }
+}
+
+/// Binds the addresses of the lines.
 fn bound<N: Net>(
     net: &N,
     alloc: Global,
@@ -67,6 +97,7 @@ fn bound<N: Net>(
         streams: stream_listeners(net, alloc, streams.as_slice())?,
         http: fronts_of_http(net, alloc, lines)?,
         consoles: consoles(net, alloc, lines)?,
+        metrics: None,
     })
 }
 

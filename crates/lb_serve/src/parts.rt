@@ -11,20 +11,24 @@ use crate::gate::OpenGate;
 use crate::halt::Halt;
 use crate::listening::{Listening, fronts};
 use crate::operator::{Operator, roster_of};
-use crate::threads::{Fronting, LoopParts, Over};
+use crate::pages::DeskPage;
+use crate::switches::Switches;
+use crate::threads::{Fronting, LoopParts, Over, Services};
 use lb_desk::{Desk, Naming, Seat};
 use lb_doh::{HttpPosts, Requests, Waiting};
 use lb_front::{Bound, FrontParts, front_runtime};
 use lb_loops::{
     Caller, ClockParts, DatagramParts, Front, Outbox, Parts, Receiver, Roster, Sender, StreamParts,
 };
-use lb_program::{ServerList, ServerPlace};
+use lb_metrics::{MetricsParts, metrics_runtime};
+use lb_program::{ServerList, ServerPlace, Setup};
 use lb_recent::Rings;
 use lb_sends::Sends;
-use lb_sockets::{ListenSockets, SystemOutside, TcpListeners, TcpSockets, UdpSockets};
+use lb_sockets::{Limits, ListenSockets, SystemOutside, TcpListeners, TcpSockets, UdpSockets};
 use lb_words::Words;
 use mio::net::TcpListener;
 use std::alloc::{AllocError, Global};
+use std::net;
 use std::net::Net;
 use std::random::RandomSource;
 use std::sync::atomic::AtomicBool;
@@ -60,7 +64,17 @@ pub(crate) type Loops<'a, R, J> = LoopParts<
 pub(crate) type DeskConsole<'a, R, J> = Console<'a, R, Caller<'a, R, J>, SystemOutside<'a, R>>;
 
 /// The front of a desk.
-pub(crate) type DeskFront<'a, R, J> = Fronting<Caller<'a, R, J>, SystemOutside<'a, R>>;
+type DeskFront<'a, R, J> = Fronting<Caller<'a, R, J>, SystemOutside<'a, R>>;
+
+/// The service of metrics of a desk.
+type DeskMetrics<'a, R, J> = MetricsParts<DeskPage<'a, R, J>>;
+
+/// The services of a desk by HTTP.
+pub(crate) type DeskServices<'a, R, J> = Services<
+    Caller<'a, R, J>,
+    SystemOutside<'a, R>,
+    DeskPage<'a, R, J>,
+>;
 
 /// What runs at a desk.
 #[derive(Drop)]
@@ -69,7 +83,7 @@ pub(crate) struct Runners<'a, R: Wait + Net + Clock + RandomSource, J: Naming> {
     pub(crate) console: DeskConsole<'a, R, J>,
     /// What wakes the console.
     pub(crate) over: Over,
-    pub(crate) front: DeskFront<'a, R, J>,
+    pub(crate) services: DeskServices<'a, R, J>,
 }
 
 /// The sockets of the loops.
@@ -90,7 +104,8 @@ impl<'a, R: Net + Clock> Sockets<'a, R> {
         first: Arc<ListenSockets>,
         beside: Vec<Arc<ListenSockets>>,
         streams: TcpListeners,
-        clients: Clients,
+        limits: Limits,
+        sends: Arc<Sends>,
     ) -> Result<Sockets<'a, R>, Fault> {
         let mut datagrams = Vec::with_capacity(alloc, beside.len().saturating_add(1))?;
         datagrams.push(UdpSockets::reading(rt, alloc, Arc::try_clone(&first)?)?)?;
@@ -99,7 +114,7 @@ impl<'a, R: Net + Clock> Sockets<'a, R> {
         }
         Ok(Sockets {
             datagrams,
-            streams: TcpSockets::listening(rt, alloc, streams, clients.room())?,
+            streams: TcpSockets::listening(rt, alloc, streams, limits, sends)?,
             clock: UdpSockets::sending(rt, alloc, first)?,
         })
     }
@@ -161,7 +176,7 @@ impl Shared {
     }
 }
 
-/// What the loops, the console and the front are made of.
+/// What the loops, the console and the services by HTTP are made of.
 pub(crate) fn prepared<'a, J: Naming, R: Wait + Net + Clock + RandomSource>(
     rt: &'a R,
     alloc: Global,
@@ -185,20 +200,25 @@ pub(crate) fn prepared<'a, J: Naming, R: Wait + Net + Clock + RandomSource>(
         streams,
         http,
         consoles,
+        metrics,
     } = listening;
-    let clients = Clients::under(limit(), setup.listeners(), setup.servers(), switches.loops);
-    let sockets = Sockets::made(rt, alloc, datagrams, beside, streams, clients)?;
-    let outside = SystemOutside::new(rt)?;
+    let clients = clients_of(&setup, &switches);
     let shared = Shared::made(alloc, setup.servers())?;
+    let limits = limits_of(clients, &switches);
+    let sends = Arc::try_clone(&shared.sends)?;
+    let sockets = Sockets::made(rt, alloc, datagrams, beside, streams, limits, sends)?;
+    let outside = SystemOutside::new(rt)?;
     let (sender, second_sender, receiver) = Outbox::made(alloc, JOBS)?;
     let http = (http, of_front, sender, outside.beside());
-    let front = front_of_http(rt, alloc, http, &sockets, &shared, clients)?;
+    let services = Services {
+        front: front_of_http(rt, alloc, http, &sockets, &shared, clients)?,
+        metrics: metrics_at(rt, alloc, desk, &setup, &shared, metrics)?,
+    };
     let fronts = (
         fronts(alloc, setup.listeners())?,
         fronts(alloc, setup.listeners())?,
     );
-    let sends = Arc::try_clone(&shared.sends)?;
-    let words = Words::new(rt, alloc, setup.listeners(), setup.log(), rings, sends)?;
+    let words = words_of(rt, alloc, &setup, &shared, rings)?;
     let console = (
         consoles,
         words,
@@ -209,14 +229,52 @@ pub(crate) fn prepared<'a, J: Naming, R: Wait + Net + Clock + RandomSource>(
     let (console, over) = console_of(rt, alloc, console, &sockets, &shared)?;
     let posts = (shared.posts(rt, alloc)?, shared.posts(rt, alloc)?);
     let halt = sockets.halt(alloc, &shared.stop)?;
-    let around = (shared.roster, shared.sends, halt);
+    let around = (shared.roster, shared.sends, halt, idle_of(&switches));
     let jobs = (second_sender, receiver);
     Ok(Runners {
         loops: parts_of(alloc, sockets, outside, takers, fronts, posts, jobs, around)?,
         console,
         over,
-        front,
+        services,
     })
+}
+
+/// How many clients of each kind there are descriptors for.
+fn clients_of(setup: &Setup, switches: &Switches) -> Clients {
+    Clients::under(
+        limit(),
+        setup.listeners(),
+        setup.servers(),
+        switches.loops,
+        switches.metrics.is_some(),
+    )
+}
+
+/// How many clients over TCP may be connected.
+fn limits_of(clients: Clients, switches: &Switches) -> Limits {
+    Limits {
+        clients: clients.room(),
+        of_source: switches.of_source.map(|most| most as usize),
+    }
+}
+
+/// For how many milliseconds a client over TCP may send no query, if that is limited.
+fn idle_of(switches: &Switches) -> Option<u64> {
+    switches
+        .idle
+        .map(|seconds| u64::from(seconds).saturating_mul(1_000))
+}
+
+/// The words of the console, with these rings of the last queries.
+fn words_of<R: Clock>(
+    rt: &R,
+    alloc: Global,
+    setup: &Setup,
+    shared: &Shared,
+    rings: Rings,
+) -> Result<Words, AllocError> {
+    let sends = Arc::try_clone(&shared.sends)?;
+    Words::new(rt, alloc, setup.listeners(), setup.log(), rings, sends)
 }
 
 /// The handlers of events of the loops, of the console and of the front, each by a seat of its own.
@@ -349,6 +407,29 @@ fn front_of_http<'a, J: Naming, R: Wait + Net + Clock + RandomSource>(
     })
 }
 
+/// The service of metrics of a desk, if it has a listener.
+fn metrics_at<'a, J: Naming, R: Wait + Net + Clock + RandomSource>(
+    rt: &'a R,
+    alloc: Global,
+    desk: &'a Desk<J>,
+    setup: &Setup,
+    shared: &Shared,
+    listener: Option<net::TcpListener>,
+) -> Result<Option<DeskMetrics<'a, R, J>>, Fault> {
+    let Some(listener) = listener else {
+        return Ok(None);
+    };
+    // A page lists no query, so its words have no ring.
+    let rings = Rings::made(alloc, 0, 0)?;
+    let words = words_of(rt, alloc, setup, shared, rings)?;
+    Ok(Some(MetricsParts {
+        listener,
+        runtime: metrics_runtime(&(rt, alloc))?,
+        page: DeskPage { rt, desk, words },
+        stop: Arc::try_clone(&shared.stop)?,
+    }))
+}
+
 /// The handlers of events of the loops: of those of datagrams, of that of streams and of the clock.
 type Callers<'a, R, J> = (Vec<Caller<'a, R, J>>, Caller<'a, R, J>, Caller<'a, R, J>);
 
@@ -386,12 +467,12 @@ fn parts_of<'a, J: Naming, R: Wait + Net + Clock + RandomSource>(
     fronts: (Vec<Front>, Vec<Front>),
     posts: (HttpPosts<'a, R>, HttpPosts<'a, R>),
     jobs: (Sender, Receiver),
-    around: (Arc<Mutex<Roster>>, Arc<Sends>, Halt),
+    around: (Arc<Mutex<Roster>>, Arc<Sends>, Halt, Option<u64>),
 ) -> Result<Loops<'a, R, J>, AllocError>
     ensures { IfOk result (λ loops. (loops.streams.fronts ≡ fronts.0) × (loops.clock.fronts ≡ fronts.1)) }
 {
     let (sender, receiver) = jobs;
-    let (roster, sends, halt) = around;
+    let (roster, sends, halt, idle) = around;
     let row = row_of(alloc, sockets.datagrams, takers.0, &outside)?;
     let (streams_outside, clock_outside) = (outside.beside(), outside.beside());
     let Halt {
@@ -409,6 +490,7 @@ fn parts_of<'a, J: Naming, R: Wait + Net + Clock + RandomSource>(
             posts: posts.0,
             taker: takers.1,
             outside: streams_outside,
+            idle,
         },
         clock: ClockParts {
             sockets: sockets.clock,

@@ -8,6 +8,7 @@ use crate::fault::Fault;
 use crate::listening::line_of;
 use crate::switches::{Switch, Unknown};
 use lb_command::Protocol;
+use lb_lines::Endpoint;
 use lb_program::Setup;
 use lb_sockets::BindFault;
 use lb_wire::Addr;
@@ -15,6 +16,9 @@ use std::alloc::{AllocError, Global};
 use std::env::Env;
 use std::fmt::Write;
 use std::io;
+
+/// The loopback address of IPv6.
+const LOOPBACK: [u8; 16] = [0, 0, 0, 0, 0, 0, 0, 0, 0, 0, 0, 0, 0, 0, 0, 1];
 
 /// The most unknown words of the environment that are reported.
 const MOST_WORDS: u32 = 16;
@@ -56,9 +60,10 @@ impl Sentences {
         text: &str,
         setup: &Setup,
         loops: u8,
+        has_metrics: bool,
     ) -> Result<(), AllocError> {
         let lines = setup.listeners();
-        let wanted = wanted(lines, setup.servers(), loops);
+        let wanted = wanted(lines, setup.servers(), loops, has_metrics);
         if let Some(limit) = limit()
             && limit < wanted
         {
@@ -67,6 +72,7 @@ impl Sentences {
                 lines,
                 setup.servers(),
                 loops,
+                has_metrics,
             );
             let words = format!(in alloc;
                 "the system allows {limit} descriptors: {streams} clients by TCP and {http} by HTTP at a time; 1,024 of each and 256 servers need {wanted} (ulimit -n {wanted})"
@@ -83,6 +89,38 @@ impl Sentences {
             }
         }
         Ok(())
+    }
+
+    /// That all counts are given to other machines, if they are given at such an address.
+    pub(crate) fn warn_of_metrics(
+        &mut self,
+        alloc: Global,
+        end: Option<Endpoint>,
+    ) -> Result<(), AllocError> {
+        match end {
+            Some(end) if !is_loopback(end.addr) => {
+                let words =
+                    "LB_METRICS is not on the loopback: who reaches its address reads all counts";
+                self.add(alloc, String::from_str(alloc, words)?)
+            }
+            _ => Ok(()),
+        }
+    }
+
+    /// That clients over TCP have no limits, if other machines reach a listener.
+    pub(crate) fn warn_of_streams(
+        &mut self,
+        alloc: Global,
+        setup: &Setup,
+    ) -> Result<(), AllocError> {
+        let is_reached = setup.listeners().iter().any(|line| line.protocol == Protocol::Tcp
+            && !is_loopback(line.addr));
+        if !is_reached {
+            return Ok(());
+        }
+        let words =
+            "clients over TCP may stay idle forever, and one address may have all connections: set LB_STREAMS_PER_SOURCE and LB_STREAM_IDLE";
+        self.add(alloc, String::from_str(alloc, words)?)
     }
 
     /// The words of the environment that begin as a switch does and are none.
@@ -122,6 +160,21 @@ impl Sentences {
             Fault::Switch(Switch::Loops) => {
                 String::from_str(alloc, "LB_LOOPS is no number from 1 to 16")?
             }
+            Fault::Switch(Switch::Metrics) => {
+                String::from_str(
+                    alloc,
+                    "LB_METRICS is no ADDR:PORT, as 127.0.0.1:9453 or [::1]:9453",
+                )?
+            }
+            Fault::Switch(Switch::MetricsListener(kind)) => {
+                format!(in alloc; "LB_METRICS: cannot listen there: {kind}")?
+            }
+            Fault::Switch(Switch::OfSource) => {
+                String::from_str(alloc, "LB_STREAMS_PER_SOURCE is no number from 1 to 1,024")?
+            }
+            Fault::Switch(Switch::Idle) => {
+                String::from_str(alloc, "LB_STREAM_IDLE is no number from 1 to 86,400")?
+            }
             Fault::NoThreads(count) => {
                 format!(in alloc; "the system does not give {count} threads at a time")?
             }
@@ -148,6 +201,14 @@ impl Sentences {
     ) -> Result<(), AllocError> {
         let words = format!(in alloc; "cannot read {file}: {error}")?;
         self.add(alloc, words)
+    }
+}
+
+/// Whether only this machine reaches an address (RFC 1122 section 3.2.1.3, RFC 4291 section 2.5.3).
+fn is_loopback(addr: Addr) -> bool {
+    match addr {
+        Addr::V4(octets) => octets[0] == 127,
+        Addr::V6(_) => addr == Addr::V6(LOOPBACK),
     }
 }
 

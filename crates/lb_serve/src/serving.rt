@@ -14,7 +14,7 @@ use crate::fault::Fault;
 use crate::listening::listen;
 use crate::log;
 use crate::sentences::Sentences;
-use crate::switches::{Switches, loops_of};
+use crate::switches::{Switches, limits_streams, loops_of, metrics_of};
 use lb_core::Balancer;
 use lb_program::{Ended, Setup, Stop, read_setup, write_line};
 use std::alloc::Global;
@@ -114,8 +114,16 @@ fn ready<R: Net<Listener = TcpListener, Stream = TcpStream> + Env + Files + Thre
     ensures { IfOk result (λ ready. ready.setup ≡ setup) }
 {
     let switches = Switches::read(rt, alloc)?;
-    spare_threads(rt, alloc, threads_of(switches.loops))?;
-    let listening = listen(rt, alloc, text, setup.listeners(), switches.loops)?;
+    let threads = threads_of(switches.loops, switches.metrics.is_some());
+    spare_threads(rt, alloc, threads)?;
+    let listening = listen(
+        rt,
+        alloc,
+        text,
+        setup.listeners(),
+        switches.loops,
+        switches.metrics,
+    )?;
     let log = log::made(rt, alloc, text, &switches)?;
     Ok(Ready {
         setup,
@@ -137,7 +145,13 @@ fn warn<R: Env + Threads, F: Write>(
     ensures { Says (F.contents faults.old) (F.contents faults.new) }
 {
     let mut sentences = Sentences::none(alloc);
-    let _ = sentences.warn(alloc, text, setup, loops_of(rt).unwrap_or(1));
+    let metrics = metrics_of(rt).unwrap_or(None);
+    let loops = loops_of(rt).unwrap_or(1);
+    let _ = sentences.warn(alloc, text, setup, loops, metrics.is_some());
+    let _ = sentences.warn_of_metrics(alloc, metrics);
+    if !limits_streams(rt) {
+        let _ = sentences.warn_of_streams(alloc, setup);
+    }
     let _ = sentences.warn_of_words(alloc, rt);
     let _ = write_line(faults, sentences.as_bytes());
 }

@@ -1,6 +1,9 @@
 //! Switches: words of the environment that begin with `LB_`, read once before the program serves.
 
 use crate::fault::Fault;
+use lb_lines::Endpoint;
+use lb_masks::{decimal_up_to, parse_addr};
+use lb_wire::Addr;
 use std::alloc::Global;
 use std::env::{Env, FillError};
 use std::io::ErrorKind;
@@ -22,8 +25,17 @@ const ANSWERS: &str = "LB_LOG_ANSWERS";
 /// How many loops take datagrams.
 const LOOPS: &str = "LB_LOOPS";
 
+/// Where all counts are given by HTTP.
+const METRICS: &str = "LB_METRICS";
+
+/// How many clients over TCP a source may have.
+const OF_SOURCE: &str = "LB_STREAMS_PER_SOURCE";
+
+/// For how many seconds a client over TCP may send no query.
+const IDLE: &str = "LB_STREAM_IDLE";
+
 /// The names of all switches.
-const NAMES: [&str; 4] = [RECENT, LOG, ANSWERS, LOOPS];
+const NAMES: [&str; 7] = [RECENT, LOG, ANSWERS, LOOPS, METRICS, OF_SOURCE, IDLE];
 
 /// The most bytes of a file's name.
 const NAME: usize = 4_096;
@@ -37,8 +49,17 @@ pub(crate) const MOST_LOOPS: u8 = 16;
 /// The most of them if none are asked for.
 const MOST_BY_DEFAULT: usize = 4;
 
+/// The most clients over TCP that a source may be given.
+const MOST_OF_SOURCE: u32 = 1_024;
+
+/// The most seconds that a client over TCP may be given: a day.
+const MOST_IDLE: u32 = 86_400;
+
 /// The most bytes of a number.
 const DIGITS: usize = 16;
+
+/// The most bytes of an address with a port.
+const PLACE: usize = 64;
 
 /// The most bytes of a word of the environment that is looked at, its value counted in.
 const ENTRY: usize = 256;
@@ -57,6 +78,12 @@ pub(crate) struct Switches {
     pub(crate) has_answers: bool,
     /// How many loops take datagrams, from 1 to 16.
     pub(crate) loops: u8,
+    /// Where all counts are given by HTTP, if anywhere.
+    pub(crate) metrics: Option<Endpoint>,
+    /// How many clients over TCP a source may have, if that is limited.
+    pub(crate) of_source: Option<u32>,
+    /// For how many seconds a client over TCP may send no query, if that is limited.
+    pub(crate) idle: Option<u32>,
 }
 
 /// A switch that asks for what can't be.
@@ -72,6 +99,14 @@ pub enum Switch {
     LogAnswers,
     /// `LB_LOOPS` is no number from 1 to 16.
     Loops,
+    /// `LB_METRICS` is no address with a port.
+    Metrics,
+    /// The address of `LB_METRICS` can't be listened at.
+    MetricsListener(ErrorKind),
+    /// `LB_STREAMS_PER_SOURCE` is no number from 1 to 1,024.
+    OfSource,
+    /// `LB_STREAM_IDLE` is no number from 1 to 86,400.
+    Idle,
 }
 
 impl Switches {
@@ -86,11 +121,23 @@ impl Switches {
         let Some(loops) = loops_of(rt) else {
             return Err(Fault::Switch(Switch::Loops));
         };
+        let Some(metrics) = metrics_of(rt) else {
+            return Err(Fault::Switch(Switch::Metrics));
+        };
+        let Some(of_source) = limit_in(rt, OF_SOURCE, MOST_OF_SOURCE) else {
+            return Err(Fault::Switch(Switch::OfSource));
+        };
+        let Some(idle) = limit_in(rt, IDLE, MOST_IDLE) else {
+            return Err(Fault::Switch(Switch::Idle));
+        };
         Ok(Switches {
             recent,
             log: log_name(rt, alloc)?,
             has_answers: answers == 1,
             loops,
+            metrics,
+            of_source,
+            idle,
         })
     }
 }
@@ -106,6 +153,61 @@ pub(crate) fn loops_of<R: Env + Threads>(rt: &R) -> Option<u8> {
             let processors = available_parallelism(rt).map_or(1, NonZeroUsize::get);
             u8::try_from((processors / 2).clamp(1, MOST_BY_DEFAULT)).ok()
         }
+    }
+}
+
+/// Where all counts are given by HTTP, if the switch is set.
+pub(crate) fn metrics_of<R: Env>(rt: &R) -> Option<Option<Endpoint>> {
+    let mut bytes = [0u8; PLACE];
+    match rt.var(METRICS, &mut bytes) {
+        Ok(len) => {
+            let text = str::from_utf8(bytes.get(..len).unwrap_or_default()).ok()?;
+            Some(Some(end_of(text)?))
+        }
+        Err(FillError::NotPresent) => Some(None),
+        Err(FillError::TooLong) => None,
+    }
+}
+
+/// The end that a text spells: an address, which stands in brackets if it is one of IPv6, a colon,
+/// and a port from 1 to 65,535.
+fn end_of(text: &str) -> Option<Endpoint> {
+    let (addr, port) = text.rsplit_once(':')?;
+    let port = decimal_up_to(port.as_bytes(), 65_535)? as u16;
+    if port == 0 {
+        return None;
+    }
+    Some(Endpoint {
+        addr: addr_of(addr)?,
+        port,
+    })
+}
+
+/// The address that a text spells: one of IPv6 in brackets, or one of IPv4 without.
+fn addr_of(text: &str) -> Option<Addr> {
+    let Some(rest) = text.strip_prefix('[') else {
+        return match parse_addr(text) {
+            Some(Addr::V4(octets)) => Some(Addr::V4(octets)),
+            _ => None,
+        };
+    };
+    match parse_addr(rest.strip_suffix(']')?) {
+        Some(Addr::V6(octets)) => Some(Addr::V6(octets)),
+        _ => None,
+    }
+}
+
+/// Whether clients over TCP are limited by their source or by the time that they may be idle.
+pub(crate) fn limits_streams<R: Env>(rt: &R) -> bool {
+    matches!(limit_in(rt, OF_SOURCE, MOST_OF_SOURCE), Some(Some(_)))
+        || matches!(limit_in(rt, IDLE, MOST_IDLE), Some(Some(_)))
+}
+
+/// The number of a switch, which is at least 1 and at most so great, if it is set.
+fn limit_in<R: Env>(rt: &R, name: &str, most: u32) -> Option<Option<u32>> {
+    match asked_in(rt, name, most)? {
+        Some(0) => None,
+        asked => Some(asked),
     }
 }
 

@@ -1,4 +1,5 @@
-//! The loops in their threads, and the console and the front of DNS on HTTP each in one of its own.
+//! The loops in their threads, and the console, the front of DNS on HTTP and the service of metrics
+//! each in one of its own.
 
 ghost use Rattle.std.specs.Thread.{IsSend, IsSync};
 
@@ -11,6 +12,7 @@ use lb_loops::{
     ClockParts, DatagramParts, Datagrams, Ended, LoopFault, Outside, Parts, Posts, StreamParts,
     Streams, Taker, Waker, run_loops,
 };
+use lb_metrics::{MetricsParts, Page, metrics_cross_threads, run_metrics};
 use lb_recent::rings_cross_threads;
 use lb_sends::sends_cross_threads;
 use lb_sockets::{PollWaker, wakers_are_shared};
@@ -50,9 +52,16 @@ pub(crate) struct Fronting<T, O> {
     pub(crate) halt: Halt,
 }
 
-/// Runs the loops of `parts`, and beside them the console and the front, each in a thread of its
-/// own. Once the loops have ended, the console is woken.
-#[tactic(auto, using(crate::proofs::Crosses::console_send, crate::proofs::Crosses::front_send))]
+/// The services by HTTP: the front of DNS, and that of metrics, if there is one.
+#[derive(Drop)]
+pub(crate) struct Services<T, O, G> {
+    pub(crate) front: Fronting<T, O>,
+    pub(crate) metrics: Option<MetricsParts<G>>,
+}
+
+/// Runs the loops of `parts`, and beside them the console and the services by HTTP, each in a
+/// thread of its own. Once the loops have ended, the console is woken.
+#[tactic(auto, using(crate::proofs::Crosses::console_send, crate::proofs::Crosses::services_send))]
 pub(crate) fn run_beside<
     'a,
     R: Threads
@@ -66,13 +75,14 @@ pub(crate) fn run_beside<
     T: Taker + Hears + Send,
     O: Outside + Send,
     P: Posts + Send,
+    G: Page + Send,
 >(
     rt: &R,
     alloc: Global,
     parts: LoopParts<D, S, T, O, P>,
     over: Over,
     console: Console<'a, R, T, O>,
-    front: Fronting<T, O>,
+    services: Services<T, O, G>,
 ) -> (LoopsEnd<T>, (Console<'a, R, T, O>, FrontEnd<T>)) {
     // Laws, which do nothing.
     wakers_are_shared();
@@ -83,7 +93,7 @@ pub(crate) fn run_beside<
         move ||
             requires parts { IsSync R.row × IsSend D.row × IsSend S.row × IsSend T.row × IsSend O.row × IsSend P.row }
         { run_them(rt, alloc, parts, over) },
-        move || run_asked(rt, alloc, console, front),
+        move || run_asked(rt, alloc, console, services),
     )
 }
 
@@ -103,8 +113,8 @@ fn run_them<
     ended
 }
 
-/// Runs the console and the front, each in a thread of its own.
-#[tactic(auto, using(crate::proofs::Crosses::console_send, crate::proofs::Crosses::front_send))]
+/// Runs the console and the services by HTTP, each in a thread of its own.
+#[tactic(auto, using(crate::proofs::Crosses::console_send, crate::proofs::Crosses::services_send))]
 fn run_asked<
     'a,
     R: Threads
@@ -115,11 +125,12 @@ fn run_asked<
         + Sync,
     T: Taker + Hears + Send,
     O: Outside + Send,
+    G: Page + Send,
 >(
     rt: &R,
     alloc: Global,
     console: Console<'a, R, T, O>,
-    front: Fronting<T, O>,
+    services: Services<T, O, G>,
 ) -> (Console<'a, R, T, O>, FrontEnd<T>) {
     // Laws, which do nothing.
     wakers_are_shared();
@@ -129,9 +140,42 @@ fn run_asked<
         rt,
         move || console.run(),
         move ||
+            requires parts { IsSync R.row × IsSend T.row × IsSend O.row × IsSend G.row }
+        { run_services(rt, alloc, services) },
+    )
+}
+
+/// Runs the front, and the service of metrics, if there is one, in a thread of its own. What that
+/// ends with is not kept: serving goes on without it.
+#[tactic(auto, using(crate::proofs::Crosses::front_send))]
+fn run_services<
+    R: Threads
+        + Wait
+        + Net<Listener = TcpListener, Stream = TcpStream>
+        + Clock
+        + RandomSource
+        + Sync,
+    T: Taker + Send,
+    O: Outside + Send,
+    G: Page + Send,
+>(rt: &R, alloc: Global, services: Services<T, O, G>) -> FrontEnd<T> {
+    // Laws, which do nothing.
+    wakers_are_shared();
+    metrics_cross_threads::<G>();
+    let Services { front, metrics } = services;
+    let Some(metrics) = metrics else {
+        return run_http(rt, alloc, front);
+    };
+    let (ended, _metrics) = join(
+        rt,
+        move ||
             requires parts { IsSync R.row × IsSend T.row × IsSend O.row }
         { run_http(rt, alloc, front) },
-    )
+        move ||
+            requires parts { IsSync R.row × IsSend G.row }
+        { run_metrics((rt, alloc), alloc, metrics) },
+    );
+    ended
 }
 
 /// Runs the front. If it ends by itself, the loops end too.

@@ -8,9 +8,11 @@ use crate::connections::{Connection, Connections, place_of};
 use crate::fronts::{LISTENERS, TcpListeners};
 use crate::pieces::{Intake, PIECE};
 use crate::queue::Queue;
+use crate::streams::Limits;
 use crate::watch::Watch;
 use lb_lines::{Endpoint, Ready};
-use lb_wire::Octets;
+use lb_sends::Sends;
+use lb_wire::{Addr, Octets};
 use mio::event::Event;
 use mio::net::TcpStream;
 use mio::{Events, Interest};
@@ -18,6 +20,7 @@ use std::alloc::{AllocError, Global};
 use std::io;
 use std::io::ErrorKind;
 use std::net::Net;
+use std::sync::Arc;
 
 /// How long a wait is at most where clients wait that could not be taken in, in milliseconds.
 const STARVED: u64 = 100;
@@ -44,7 +47,8 @@ impl Kind {
     }
 }
 
-/// The connections, the listeners, and what events said of them: which connections may be read and written, and whether clients wait.
+/// The connections, the listeners, and what events said of them: which connections may be read and
+/// written, and whether clients wait.
 #[derive(Drop)]
 pub(crate) struct Arrivals {
     connections: Connections,
@@ -56,16 +60,17 @@ pub(crate) struct Arrivals {
 }
 
 impl Arrivals {
-    /// No connection, and these listeners, of which at most so many clients are connected at a
-    /// time. The one error is refused memory.
+    /// No connection, and these listeners; the limits say how many clients are connected at a time.
+    /// The one error is refused memory.
     pub(crate) fn made(
         alloc: Global,
         listeners: TcpListeners,
-        room: usize,
+        limits: Limits,
+        sends: Arc<Sends>,
     ) -> Result<Arrivals, AllocError> {
         Ok(Arrivals {
             connections: Connections::made(alloc)?,
-            clients: Clients::made(alloc, listeners, room)?,
+            clients: Clients::made(alloc, listeners, limits, sends)?,
             reading: Queue::made(alloc)?,
             writing: Queue::made(alloc)?,
             kind: Kind::Writing,
@@ -98,7 +103,8 @@ impl Arrivals {
         }
     }
 
-    /// How long to wait: not at all where there is something to do, and not long where clients wait that could not be taken in.
+    /// How long to wait: not at all where there is something to do, and not long where clients wait
+    /// that could not be taken in.
     pub(crate) fn patience(&self, at_most: u64) -> u64 {
         if self.reading.len() > 0 || self.writing.len() > 0 || self.clients.may_wait() {
             0
@@ -149,18 +155,18 @@ impl Arrivals {
         }
     }
 
-    /// Takes in the next client with this number: the place of its listener, and its end. None waits, or none can be taken in now, where it is
-    /// none.
+    /// Takes in the next client with this number: the place of its listener, and its end. If it
+    /// gives none: none waits, none can be taken in now, or one was closed for its source.
     pub(crate) fn welcome(
         &mut self,
         watch: &Watch,
         number: u64,
     ) -> io::Result<Option<(u8, Endpoint)>> {
-        let Some(client) = self.clients.next()? else {
+        let Some(client) = self.clients.admitted()? else {
             return Ok(None);
         };
-        self.enter(watch, number, true, client.stream)?;
-        self.clients.entered();
+        self.enter(watch, number, Some(client.from.addr), client.stream)?;
+        self.clients.entered(client.from.addr);
         Ok(Some((client.front, client.from)))
     }
 
@@ -181,7 +187,7 @@ impl Arrivals {
         to: Endpoint,
     ) -> io::Result<()> {
         let stream = TcpStream::connect(net, socket_addr(to))?;
-        self.enter(watch, number, false, stream)
+        self.enter(watch, number, None, stream)
     }
 
     /// Puts a stream in with this number. What it is given to write goes out at once.
@@ -189,19 +195,19 @@ impl Arrivals {
         &mut self,
         watch: &Watch,
         number: u64,
-        is_client: bool,
+        client: Option<Addr>,
         stream: TcpStream,
     ) -> io::Result<()> {
         let _ = stream.set_nodelay(true);
         let both = Interest::READABLE | Interest::WRITABLE;
         watch.add(&stream, number as usize, both)?;
         self.connections
-            .put(Connection::new(number, is_client, stream));
+            .put(Connection::new(number, client, stream));
         Ok(())
     }
 
-    /// Reads a piece of a connection; none, where the peer has closed its side. One that is not there has nothing. Where the piece was not
-    /// all that waits, the connection is told once more.
+    /// Reads a piece of a connection; none, where the peer has closed its side. One that is not
+    /// there has nothing. Where the piece was not all that waits, the connection is told once more.
     pub(crate) fn read(&mut self, number: u64, intake: &mut Intake) -> io::Result<Option<Octets>>
         requires { 16384 ≤ vec_capacity intake.old.room }
     {
@@ -215,8 +221,8 @@ impl Arrivals {
         read
     }
 
-    /// Writes from the front of these octets, at most 65,536; how many were taken. One that is not there takes no more. Where the connection
-    /// may take more at once, it is told.
+    /// Writes from the front of these octets, at most 65,536; how many were taken. One that is not
+    /// there takes no more. Where the connection may take more at once, it is told.
     pub(crate) fn write(&mut self, number: u64, octets: &[u8]) -> io::Result<usize>
         ensures { IfOk result (λ n. (n ≤ length octets.now) × (n ≤ 65536)) }
     {
@@ -241,8 +247,8 @@ impl Arrivals {
 
     /// Closes a connection. Its descriptor is free for a client that waits.
     pub(crate) fn close(&mut self, number: u64) {
-        if self.connections.close(number) {
-            self.clients.left();
+        if let Some(client) = self.connections.close(number) {
+            self.clients.left(client);
         }
         self.clients.feed();
     }
@@ -259,7 +265,8 @@ fn next_in(queue: &mut Queue, connections: &Connections) -> Option<u64> {
     None
 }
 
-/// Whether a read may have left something, of which no event tells: it filled the buffer, or the end stands behind it, or it was broken off.
+/// Whether a read may have left something, of which no event tells: it filled the buffer, or the
+/// end stands behind it, or it was broken off.
 fn may_have_more(read: &io::Result<Option<Octets>>, is_read_closed: bool) -> bool {
     match read {
         Ok(Some(octets)) => is_read_closed || octets.as_slice().len() == PIECE,

@@ -3,11 +3,16 @@
 use crate::addresses::endpoint_of;
 use crate::fronts::TcpListeners;
 use crate::readiness::first_from;
+use crate::sources::Sources;
+use crate::streams::Limits;
 use lb_lines::Endpoint;
+use lb_sends::Sends;
+use lb_wire::Addr;
 use mio::net::TcpStream;
 use std::alloc::{AllocError, Global};
 use std::io;
 use std::io::ErrorKind;
+use std::sync::Arc;
 
 /// The most listeners that are tried for one client.
 const TRIES: u16 = 512;
@@ -39,15 +44,19 @@ pub(crate) struct Clients {
     is_starved: bool,
     /// How many more clients may be connected.
     room: usize,
+    sources: Sources,
+    /// Where clients are counted that come, leave, or are closed for their source.
+    sends: Arc<Sends>,
 }
 
 impl Clients {
-    /// At these listeners, of which nothing is known yet. At most so many clients are connected at
-    /// a time. The one error is refused memory.
+    /// At these listeners, of which nothing is known yet. The limits say how many clients are
+    /// connected at a time. The one error is refused memory.
     pub(crate) fn made(
         alloc: Global,
         fronts: TcpListeners,
-        room: usize,
+        limits: Limits,
+        sends: Arc<Sends>,
     ) -> Result<Clients, AllocError> {
         let may_wait = Vec::from_elem(alloc, false, fronts.listeners.len())?;
         Ok(Clients {
@@ -55,7 +64,9 @@ impl Clients {
             may_wait,
             next: 0,
             is_starved: false,
-            room,
+            room: limits.clients,
+            sources: Sources::made(alloc, limits.of_source)?,
+            sends,
         })
     }
 
@@ -76,14 +87,31 @@ impl Clients {
         self.is_starved = false;
     }
 
-    /// Notes that a client is connected.
-    pub(crate) fn entered(&mut self) {
+    /// Notes that a client with this address is connected.
+    pub(crate) fn entered(&mut self, addr: Addr) {
         self.room = self.room.saturating_sub(1);
+        self.sources.entered(addr);
+        self.sends.enter();
     }
 
-    /// Notes that a client's connection was closed.
-    pub(crate) fn left(&mut self) {
+    /// Notes that the connection of a client with this address was closed.
+    pub(crate) fn left(&mut self, addr: Addr) {
         self.room = self.room.saturating_add(1);
+        self.sources.left(addr);
+        self.sends.leave();
+    }
+
+    /// Takes in the next client. One whose source has as many as it may have is closed at once:
+    /// then it is none, and further ones may wait.
+    pub(crate) fn admitted(&mut self) -> io::Result<Option<Client>> {
+        match self.next()? {
+            Some(client) if self.sources.may_enter(client.from.addr) => Ok(Some(client)),
+            Some(_) => {
+                self.sends.turn_away();
+                Ok(None)
+            }
+            None => Ok(None),
+        }
     }
 
     /// Whether a client may wait and be taken in.
@@ -99,7 +127,8 @@ impl Clients {
         first_from(&self.may_wait, self.next)
     }
 
-    /// Takes in the next client, at one of the listeners in turn. None waits, or none can be taken in now, where it is none.
+    /// Takes in the next client, at one of the listeners in turn. None waits, or none can be taken
+    /// in now, where it is none.
     pub(crate) fn next(&mut self) -> io::Result<Option<Client>> {
         for _ in 0..TRIES {
             let Some(place) = self.place() else {
@@ -130,8 +159,8 @@ impl Clients {
         })
     }
 
-    /// Notes why no client was taken in at a place: none waits there, one left while it waited, or descriptors were wanting. Another error
-    /// is handed back.
+    /// Notes why no client was taken in at a place: none waits there, one left while it waited, or
+    /// descriptors were wanting. Another error is handed back.
     fn pass_over(&mut self, place: usize, error: io::Error) -> io::Result<()> {
         match error.kind() {
             ErrorKind::WouldBlock => self.dry(place),
@@ -154,7 +183,8 @@ impl Clients {
     }
 }
 
-/// Whether an error says that descriptors or room for one more socket were wanting, and not that a device failed.
+/// Whether an error says that descriptors or room for one more socket were wanting, and not that a
+/// device failed.
 fn is_want(error: &io::Error) -> bool {
     match error.raw_os_error() {
         Some(code) => {

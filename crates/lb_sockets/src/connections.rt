@@ -2,6 +2,7 @@
 
 ghost use Rattle.std.specs.Prelude.{IfOk, length, ◌<◌, ◌≡◌, ◌≤◌};
 
+use lb_wire::Addr;
 use mio::event::Event;
 use mio::net::TcpStream;
 use std::alloc::{AllocError, Global};
@@ -15,21 +16,22 @@ pub(crate) const PLACES: usize = 4096;
 #[derive(Drop)]
 pub(crate) struct Connection {
     pub(crate) number: u64,
-    /// Whether a client opened it.
-    is_client: bool,
+    /// The address of the client that opened it; none if it goes to a server.
+    client: Option<Addr>,
     pub(crate) stream: TcpStream,
     /// Whether an event said that nothing comes behind what waits to be read.
     pub(crate) is_read_closed: bool,
-    /// Whether it is to be told that it may be written: it was not told so yet, or took less than it was given.
+    /// Whether it is to be told that it may be written: it was not told so yet, or took less than
+    /// it was given.
     awaits_room: bool,
 }
 
 impl Connection {
     /// One that was begun, by a client or to a server.
-    pub(crate) fn new(number: u64, is_client: bool, stream: TcpStream) -> Connection {
+    pub(crate) fn new(number: u64, client: Option<Addr>, stream: TcpStream) -> Connection {
         Connection {
             number,
-            is_client,
+            client,
             stream,
             is_read_closed: false,
             awaits_room: true,
@@ -43,7 +45,8 @@ impl Connection {
         is_over || event.is_readable()
     }
 
-    /// Notes what an event says of writing; whether it is to be told that the connection may be written.
+    /// Notes what an event says of writing; whether it is to be told that the connection may be
+    /// written.
     pub(crate) fn notes_writing(&mut self, event: &Event) -> bool {
         let may_be_written = event.is_writable() && self.awaits_room;
         if may_be_written {
@@ -52,7 +55,8 @@ impl Connection {
         may_be_written
     }
 
-    /// Writes from the front of these octets; how many were taken. None is taken where the connection does not stand yet.
+    /// Writes from the front of these octets; how many were taken. None is taken where the
+    /// connection does not stand yet.
     pub(crate) fn write(&mut self, octets: &[u8]) -> io::Result<usize>
         ensures { IfOk result (λ n. n ≤ length octets.now) }
     {
@@ -124,15 +128,13 @@ impl Connections {
         }
     }
 
-    /// Closes the connection with a number, if it is there. Whether it was a client's.
-    pub(crate) fn close(&mut self, number: u64) -> bool {
-        let Some(connection) = self.at(number) else {
-            return false;
-        };
-        let is_client = connection.is_client;
+    /// Closes the connection with a number, if it is there. The address of its client, if it is
+    /// one's.
+    pub(crate) fn close(&mut self, number: u64) -> Option<Addr> {
+        let client = self.at(number)?.client;
         if let Some(slot) = self.slots.get_mut(place_of(number)) {
             *slot = None;
         }
-        is_client
+        client
     }
 }

@@ -9,19 +9,24 @@ ghost use Rattle.lb_sockets.specs.contracts.outside.SystemOutside as outside;
 ghost use Rattle.lb_sockets.specs.contracts.streams.TcpSockets as tcp;
 ghost use Rattle.lb_sockets.specs.contracts.waker.PollWaker as waker;
 
+use lb_sends::sends_cross_threads;
 use std::net::Net;
 use std::random::RandomSource;
 use std::time::Clock;
 
-/// Sockets may go to another thread, where the handle of the network and the clock may be shared by threads.
+/// Sockets may go to another thread, where the handle of the network and the clock may be shared by
+/// threads.
 pub fn sockets_cross_threads<R: Net + Clock + Sync>()
     ensures { (a : NamedLft) → IsSend (udp.the_row a R.row R.Listener.row R.Stream.row) }
 {}
 
-/// Sockets of streams may go to another thread, where the handle of the network may be shared by threads.
+/// Sockets of streams may go to another thread, where the handle of the network may be shared by
+/// threads.
 pub fn streams_cross_threads<R: Net + Sync>()
     ensures { (a : NamedLft) → IsSend (tcp.the_row a R.row R.Listener.row R.Stream.row) }
-{}
+{
+    sends_cross_threads();
+}
 
 /// Listeners of datagrams may be shared by threads, and those of streams may go to another thread.
 pub fn listeners_cross_threads()
@@ -30,7 +35,8 @@ pub fn listeners_cross_threads()
     ensures streams { IsSend fronts.the_row }
 {}
 
-/// A source of moments and words may go to another thread, where its handle may be shared by threads.
+/// A source of moments and words may go to another thread, where its handle may be shared by
+/// threads.
 pub fn moments_cross_threads<R: Clock + RandomSource + Sync>()
     ensures { (a : NamedLft) → IsSend (outside.the_row a R.row) }
 {}

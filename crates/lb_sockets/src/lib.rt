@@ -1,4 +1,5 @@
-//! The system's sockets of datagrams and of streams, over mio, and its moments and random words: what the loops stand on where they serve.
+//! The system's sockets of datagrams and of streams, over mio, and its moments and random words:
+//! what the loops stand on where they serve.
 #![tactic(auto)]
 
 mod addresses;
@@ -17,6 +18,7 @@ mod reader;
 mod readiness;
 mod sender;
 mod servers;
+mod sources;
 mod streams;
 mod told;
 mod waker;
@@ -32,5 +34,5 @@ pub use laws::{
 pub use listening::{BindFault, ListenSockets, listeners};
 pub use options::Share;
 pub use outside::SystemOutside;
-pub use streams::TcpSockets;
+pub use streams::{Limits, TcpSockets};
 pub use waker::PollWaker;

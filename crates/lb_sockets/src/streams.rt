@@ -10,13 +10,26 @@ use crate::told::Told;
 use crate::waker::PollWaker;
 use crate::watch::Watch;
 use lb_lines::{Accepted, Endpoint, Read, Ready, Streams, WaitFailed, Why};
+use lb_sends::Sends;
 use std::alloc::{AllocError, Global};
 use std::io;
 use std::io::ErrorKind;
 use std::net::Net;
+use std::sync::Arc;
 
-/// The system's sockets of streams of a loop: its listeners, and at most 4,096 connections by the numbers that the loop gives them, of which
-/// no two that are open may be equal modulo 4,096. All that they need but the octets of a piece is taken at the start.
+/// How many clients of streams may be connected at a time.
+#[derive(Clone, Copy, Debug, PartialEq, Eq)]
+pub struct Limits {
+    /// In all: others wait until one of them has left.
+    pub clients: usize,
+    /// Of one source, which is an IPv4 address or an IPv6 network of 64 bits, if that is bounded: a
+    /// further one is closed at once and counted.
+    pub of_source: Option<usize>,
+}
+
+/// The system's sockets of streams of a loop: its listeners, and at most 4,096 connections by the
+/// numbers that the loop gives them, of which no two that are open may be equal modulo 4,096. All
+/// that they need but the octets of a piece is taken at the start.
 #[derive(Drop)]
 pub struct TcpSockets<'a, R: Net> {
     rt: &'a R,
@@ -27,13 +40,14 @@ pub struct TcpSockets<'a, R: Net> {
 }
 
 impl<'a, R: Net> TcpSockets<'a, R> {
-    /// Sockets that take in the clients of these listeners, at most so many at a time: others wait
-    /// until one of them has left. The errors are the system's, and refused memory.
+    /// Sockets that take in the clients of these listeners within these limits. A client that is
+    /// closed for its source is counted here. The errors are the system's, and refused memory.
     pub fn listening(
         rt: &'a R,
         alloc: Global,
         listeners: TcpListeners,
-        clients: usize,
+        limits: Limits,
+        sends: Arc<Sends>,
     ) -> io::Result<TcpSockets<'a, R>>
         ensures told { IfOk result (λ s. s.told ≡ nothing) }
     {
@@ -42,7 +56,7 @@ impl<'a, R: Net> TcpSockets<'a, R> {
         Ok(TcpSockets {
             rt,
             watch,
-            arrivals: Arrivals::made(alloc, listeners, clients)?,
+            arrivals: Arrivals::made(alloc, listeners, limits, sends)?,
             intake: Intake::made(alloc)?,
             told: Told::made(alloc)?,
         })

@@ -11,7 +11,8 @@ use lb_wire::ServerId;
 use std::alloc::Global;
 
 impl<S: Streams> Links<S> {
-    /// The connection to a server at this end, by one of its upstream sockets: the one that is open, or one that is begun now.
+    /// The connection to a server at this end, by one of its upstream sockets: the one that is
+    /// open, or one that is begun now.
     pub(crate) fn dialed(
         &mut self,
         alloc: Global,
@@ -38,7 +39,7 @@ impl<S: Streams> Links<S> {
         match self.sockets.dial(number, at) {
             Ok(()) => {
                 let peer = Peer::Server(server, lane, at);
-                self.table.add(Connection::new(alloc, number, peer));
+                self.table.add(Connection::new(alloc, number, peer, None));
                 Ok(number)
             }
             Err(why) => {

@@ -40,8 +40,8 @@ impl<S: Streams> Links<S> {
         self.table.put(connection);
     }
 
-    /// Where the roster was changed: a server's connection that is not at the roster's end of the server any more is read on for a while,
-    /// and one that is there again is kept.
+    /// Where the roster was changed: a server's connection that is not at the roster's end of the
+    /// server any more is read on for a while, and one that is there again is kept.
     #[tactic(auto, using(crate::proofs::Opening::goes_nothing, crate::proofs::Then::goes_before))]
     pub(crate) fn follow(&mut self, roster: &Roster, now: u64)
         ensures goes { Goes self.old self.new none none }
@@ -99,7 +99,7 @@ impl<S: Streams> Links<S> {
             self.sockets.close(number);
             return;
         }
-        self.table.look_by(connection.closes_at());
+        self.table.look_again(&connection, now);
         self.table.put(connection);
     }
 }

@@ -9,9 +9,9 @@ use lb_lines::{Accepted, Peer, Read, Streams};
 use std::alloc::Global;
 
 impl<S: Streams> Links<S> {
-    /// Takes in a client that waits. One is closed at once where 1,024 are connected, or where no number is left. Where memory is
-    /// wanting, it waits on.
-    pub(crate) fn admit(&mut self, alloc: Global)
+    /// Takes in a client that waits at this moment. One is closed at once if 1,024 are connected,
+    /// or if no number is left. If memory is lacking, it waits on.
+    pub(crate) fn admit(&mut self, alloc: Global, now: u64)
         ensures goes { Goes self.old self.new none none }
         ensures reads { reads_of self.new ≤ reads_of self.old + 1 }
     {
@@ -26,7 +26,8 @@ impl<S: Streams> Links<S> {
         match self.sockets.accept(number) {
             Ok(Accepted::Client(front, at)) => {
                 let peer = Peer::Client(front, at);
-                self.table.add(Connection::new(alloc, number, peer));
+                let until = self.table.idle_after(now);
+                self.table.add(Connection::new(alloc, number, peer, until));
             }
             Ok(Accepted::Nothing) | Err(_) => {}
             Ok(Accepted::Failed) => self.fails(),
@@ -44,8 +45,9 @@ impl<S: Streams> Links<S> {
         }
     }
 
-    /// Reads a piece of a connection. One that may not be read is passed over. A server's connection is closed where the server has
-    /// closed its side, and each where its socket failed, or no room was found for what came.
+    /// Reads a piece of a connection. One that may not be read is passed over. A server's
+    /// connection is closed where the server has closed its side, and each where its socket failed,
+    /// or no room was found for what came.
     pub(crate) fn pull(&mut self, number: u64, now: u64)
         ensures goes { Goes self.old self.new none none }
         ensures reads { reads_of self.new ≤ reads_of self.old + 1 }
@@ -59,7 +61,7 @@ impl<S: Streams> Links<S> {
             return;
         }
         match self.sockets.read_from(number) {
-            Ok(Read::Piece(octets)) => match self.table.hear(&mut connection, &octets) {
+            Ok(Read::Piece(octets)) => match self.table.hear(&mut connection, &octets, now) {
                 Ok(()) => self.table.put(connection),
                 Err(refused) => {
                     self.sockets.close(number);
@@ -85,8 +87,8 @@ impl<S: Streams> Links<S> {
         }
     }
 
-    /// Closes a connection whose peer has closed its side and has all that it waits for. One that was passed over and may be read now is
-    /// told to be read once more.
+    /// Closes a connection whose peer has closed its side and has all that it waits for. One that
+    /// was passed over and may be read now is told to be read once more.
     #[tactic(auto, using(crate::proofs::Opening::goes_nothing))]
     pub(crate) fn settle(&mut self, number: u64)
         ensures goes { Goes self.old self.new none none }

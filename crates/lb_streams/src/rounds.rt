@@ -86,14 +86,15 @@ impl<S: Streams, T: Taker, O: Outside, P: Posts> StreamLoop<S, T, O, P> {
     {
         match self.links.sockets.ready() {
             Ready::Nothing => return false,
-            Ready::Incoming => self.links.admit(self.alloc),
+            Ready::Incoming => self.links.admit(self.alloc, now),
             Ready::Readable(number) => self.links.read(number, now),
             Ready::Writable(number) => self.links.write(number),
         }
         true
     }
 
-    /// Hands the first message of the connection whose turn it is to the desk, and sends what it answers.
+    /// Hands the first message of the connection whose turn it is to the desk, and sends what it
+    /// answers.
     #[tactic(auto, using(crate::proofs::Turning::turns_none, crate::proofs::Turning::turns_said, crate::proofs::Turning::turns_blind))]
     pub(crate) fn one_event<G: Gate>(&mut self, roster: &Roster, gate: &G) -> Step
         ensures turns { Turns roster.now.listed 1 0 self.old self.new (lines_of result) (is_blind result) }
@@ -143,8 +144,8 @@ impl<S: Streams, T: Taker, O: Outside, P: Posts> StreamLoop<S, T, O, P> {
         Step::Told(self.answered(roster, now, word, number, peer, event, copy))
     }
 
-    /// Takes the message of an event off its connection, hands the event to the desk, and sends what comes of it. The line has an event
-    /// of the message's copy.
+    /// Takes the message of an event off its connection, hands the event to the desk, and sends
+    /// what comes of it. The line has an event of the message's copy.
     fn answered(
         &mut self,
         roster: &Roster,

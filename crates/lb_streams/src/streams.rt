@@ -11,8 +11,9 @@ use std::alloc::{AllocError, Global};
 use std::marker::Model;
 use std::mem;
 
-/// What the loop of streams holds: its sockets and connections, the jobs that come to it, what listens at each place of the listen
-/// lines, the HTTP requests that wait, its event handler, and its source of moments and words. A contract sees what each of them tells.
+/// What the loop of streams holds: its sockets and connections, the jobs that come to it, what
+/// listens at each place of the listen lines, the HTTP requests that wait, its event handler, and
+/// its source of moments and words. A contract sees what each of them tells.
 #[derive(Drop)]
 pub struct StreamLoop<S: Streams, T: Taker, O: Outside, P: Posts> {
     pub(crate) alloc: Global,
@@ -73,6 +74,14 @@ impl<S: Streams, T: Taker, O: Outside, P: Posts> StreamLoop<S, T, O, P> {
         })
     }
 
+    /// Sets for how many milliseconds a client may send no message while none of its queries is
+    /// pending: after that it is closed (RFC 7766 section 6.2.3). Without a limit none is closed.
+    pub fn close_idle(&mut self, idle: Option<u64>)
+        ensures { self.new ≡ self.old }
+    {
+        self.links.table.close_idle(idle);
+    }
+
     /// Takes the room of a report's lines back for the next turn. The lines go.
     pub fn take_back(&mut self, mut lines: Vec<Line>)
         ensures { self.new ≡ self.old }
@@ -89,7 +98,8 @@ impl<S: Streams, T: Taker, O: Outside, P: Posts> StreamLoop<S, T, O, P> {
         mem::replace(&mut self.lines, Vec::new(self.alloc))
     }
 
-    /// Waits until a socket has something to do, or somebody wakes it, or so many milliseconds have passed.
+    /// Waits until a socket has something to do, or somebody wakes it, or so many milliseconds have
+    /// passed.
     pub fn wait(&mut self, at_most: u64) -> Result<(), WaitFailed>
         ensures { self.new ≡ self.old }
     {

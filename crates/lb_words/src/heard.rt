@@ -226,7 +226,7 @@ impl Words {
                 listeners,
                 &self.sends,
             )?,
-            Word::Metrics => self.metrics(rt, desk)?,
+            Word::Metrics => self.counts(rt, desk)?.ended()?,
             Word::Setup => setup(rt, alloc, desk, listeners, self.log)?,
             Word::Recent => {
                 let now = self.ran(rt);
@@ -244,12 +244,22 @@ impl Words {
         }))
     }
 
-    /// All counts.
-    fn metrics<R: Wait + Clock, J: Naming>(
+    /// All counts, as a page for Prometheus: what the word `metrics` says without its last line,
+    /// and with a line feed after each line. The one error is lack of memory.
+    pub fn metrics<R: Wait + Clock, J: Naming>(
         &self,
         rt: &R,
         desk: &Desk<J>,
     ) -> Result<String, AllocError> {
+        Ok(self.counts(rt, desk)?.whole())
+    }
+
+    /// All counts.
+    fn counts<R: Wait + Clock, J: Naming>(
+        &self,
+        rt: &R,
+        desk: &Desk<J>,
+    ) -> Result<Lines, AllocError> {
         let told = look(rt, self.alloc, desk)?;
         let ended = ended(rt, self.alloc, desk, told.totals.rules)?;
         metrics(

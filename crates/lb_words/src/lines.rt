@@ -28,6 +28,12 @@ impl Lines {
         Ok(())
     }
 
+    /// The lines, each with its line feed.
+    pub(crate) fn whole(self) -> String {
+        let Lines { text, .. } = self;
+        text
+    }
+
     /// The lines, and after them `# end N`, in which N is their number. The last line has no line
     /// feed.
     pub(crate) fn ended(self) -> Result<String, AllocError> {

@@ -270,15 +270,7 @@ pub(crate) fn counters(
         let line = format!(in alloc; "lb_answers_total{{why=\"{name}\"}} {count}")?;
         lines.add(line.as_str())?;
     }
-    for (name, count) in sends.failed() {
-        let line = format!(in alloc; "lb_sends_failed_total{{why=\"{name}\"}} {count}")?;
-        lines.add(line.as_str())?;
-    }
-    let (sent, failed) = (sends.probes(), sends.failed_probes());
-    let line = format!(in alloc; "lb_probes_total {sent}")?;
-    lines.add(line.as_str())?;
-    let line = format!(in alloc; "lb_probes_failed_total {failed}")?;
-    lines.add(line.as_str())?;
+    add_sends(alloc, &mut lines, sends)?;
     let totals = told.totals;
     let (rules, outstanding, kept) = (totals.rules, totals.outstanding, totals.kept);
     let line = format!(in alloc; "lb_rules {rules}")?;
@@ -291,6 +283,27 @@ pub(crate) fn counters(
     let line = format!(in alloc; "lb_counts_lacking {lacks}")?;
     lines.add(line.as_str())?;
     lines.ended()
+}
+
+/// Adds what the loops count beside the desk: failed sends, probes, and clients over TCP.
+fn add_sends(alloc: Global, lines: &mut Lines, sends: &Sends) -> Result<(), AllocError> {
+    for (name, count) in sends.failed() {
+        let line = format!(in alloc; "lb_sends_failed_total{{why=\"{name}\"}} {count}")?;
+        lines.add(line.as_str())?;
+    }
+    let (sent, failed) = (sends.probes(), sends.failed_probes());
+    let line = format!(in alloc; "lb_probes_total {sent}")?;
+    lines.add(line.as_str())?;
+    let line = format!(in alloc; "lb_probes_failed_total {failed}")?;
+    lines.add(line.as_str())?;
+    let (clients, connected) = (sends.clients(), sends.connected());
+    let line = format!(in alloc; "lb_clients_total{{kind=\"tcp\"}} {clients}")?;
+    lines.add(line.as_str())?;
+    let line = format!(in alloc; "lb_connections{{kind=\"tcp\"}} {connected}")?;
+    lines.add(line.as_str())?;
+    let turned_away = sends.turned_away();
+    let line = format!(in alloc; "lb_clients_refused_total{{why=\"source\"}} {turned_away}")?;
+    lines.add(line.as_str())
 }
 
 /// A listener as its line of the setup file has it.

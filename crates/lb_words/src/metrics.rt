@@ -77,7 +77,7 @@ pub(crate) fn metrics(
     listeners: &[Listener],
     sends: &Sends,
     seconds: u64,
-) -> Result<String, AllocError> {
+) -> Result<Lines, AllocError> {
     let mut page = Page::new(alloc);
     of_listeners(&mut page, told, listeners)?;
     of_events(&mut page, told)?;
@@ -86,7 +86,7 @@ pub(crate) fn metrics(
     of_servers(&mut page, told)?;
     of_caches(&mut page, told)?;
     of_the_whole(&mut page, told, seconds)?;
-    page.lines.ended()
+    Ok(page.lines)
 }
 
 fn of_listeners(page: &mut Page, told: &Told, listeners: &[Listener]) -> Result<(), AllocError> {
@@ -140,7 +140,20 @@ fn of_sends(page: &mut Page, sends: &Sends) -> Result<(), AllocError> {
     page.figure(name, sends.probes())?;
     let name = "lb_probes_failed_total";
     page.family(name, Kind::Counter, "Probes that could not be sent.")?;
-    page.figure(name, sends.failed_probes())
+    page.figure(name, sends.failed_probes())?;
+    let name = "lb_clients_total";
+    page.family(name, Kind::Counter, "Clients over TCP that were taken in.")?;
+    page.labelled(name, "kind", "tcp", sends.clients())?;
+    let name = "lb_connections";
+    page.family(name, Kind::Gauge, "Clients over TCP that are connected.")?;
+    page.labelled(name, "kind", "tcp", sends.connected())?;
+    let name = "lb_clients_refused_total";
+    page.family(
+        name,
+        Kind::Counter,
+        "Clients over TCP that were closed at once, by the reason.",
+    )?;
+    page.labelled(name, "why", "source", sends.turned_away())
 }
 
 fn of_rules(page: &mut Page, ended: &[Ended]) -> Result<(), AllocError> {

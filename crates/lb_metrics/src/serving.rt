@@ -1,0 +1,127 @@
+//! The service of metrics, in a thread.
+
+use crate::page::Page;
+use crate::service::Metrics;
+use bytes::Bytes;
+use http_body_util::Full;
+use hyper::rt::TokioTimer;
+use hyper::server::conn::http1::{Builder, Connection};
+use lb_front::{Client, FrontFault, Make, Paced, Served, serve_connections, settings};
+use std::alloc::{AllocGlobal, Global};
+use std::net::Net;
+use std::random::RandomSource;
+use std::sync::atomic::AtomicBool;
+use std::sync::{Arc, Wait};
+use std::time::{Clock, Duration};
+use std::{io, net};
+use tokio::net::{TcpListener, TcpStream};
+use tokio::runtime::LocalRuntime;
+use tokio::sync::OwnedSemaphorePermit;
+use tokio::time;
+
+/// How many connections stand at most.
+const CONNECTIONS: usize = 8;
+
+/// How many seconds a head may take to come, and a connection may be idle.
+const HEAD_SECONDS: u64 = 1;
+
+/// How long the runtime may take to end, in milliseconds.
+const END: u64 = 300;
+
+/// What the service of metrics is made of.
+#[derive(Drop)]
+pub struct MetricsParts<P> {
+    /// Its listener.
+    pub listener: net::TcpListener,
+    /// Its runtime, of `metrics_runtime`.
+    pub runtime: LocalRuntime,
+    /// What writes the page.
+    pub page: P,
+    /// Set, it ends the service within half a second.
+    pub stop: Arc<AtomicBool>,
+}
+
+/// A runtime for the service. It takes descriptors: made before any client is answered, it finds
+/// them, where a process may have few.
+pub fn metrics_runtime<R: Clock + Net + RandomSource + AllocGlobal>(
+    rt: &R,
+) -> io::Result<LocalRuntime> {
+    LocalRuntime::new(rt)
+}
+
+/// Serves the page until the flag is set. At most eight connections stand; a further one is closed
+/// at once.
+pub fn run_metrics<R: Wait + Clock + Net + RandomSource + AllocGlobal + Copy + Drop, P: Page>(
+    rt: R,
+    alloc: Global,
+    parts: MetricsParts<P>,
+) -> Result<(), FrontFault> {
+    let MetricsParts {
+        listener,
+        mut runtime,
+        page,
+        stop,
+    } = parts;
+    runtime.set_shutdown_timeout(Some(Duration::from_millis(END)));
+    let maker = maker_of(rt, alloc, runtime.handle().time(), page)?;
+    let mut listeners = Vec::with_capacity(alloc, 1)?;
+    listeners.push((
+        0,
+        TcpListener::from_std(listener, runtime.handle().reactor())?,
+    ))?;
+    serve_connections(
+        &rt,
+        alloc,
+        &mut runtime,
+        (listeners, CONNECTIONS),
+        stop,
+        maker,
+    )
+}
+
+/// Makes connections that are answered with a page.
+#[derive(Drop)]
+struct Maker<R: Clock + Copy, P: Page> {
+    rt: R,
+    alloc: Global,
+    page: Arc<P>,
+    timers: time::Handle,
+    http: Builder<TokioTimer<R>>,
+}
+
+/// What makes connections that are answered with this page.
+fn maker_of<R: Clock + RandomSource + Copy + Drop, P: Page>(
+    rt: R,
+    alloc: Global,
+    timers: &time::Handle,
+    page: P,
+) -> Result<Maker<R, P>, FrontFault> {
+    Ok(Maker {
+        rt,
+        alloc,
+        page: Arc::new(alloc, page)?,
+        timers: timers.clone()?,
+        http: settings(rt, alloc, timers.clone()?, HEAD_SECONDS)?,
+    })
+}
+
+impl<R: Clock + Copy + Drop, P: Page> Make for Maker<R, P> {
+    type Served = Served<Connection<Paced<R, TcpStream>, Metrics<P>, Full<Bytes>, TokioTimer<R>>>;
+
+    fn make(
+        &self,
+        socket: TcpStream,
+        _client: Client,
+        place: OwnedSemaphorePermit,
+    ) -> Self::Served {
+        let service = Metrics {
+            alloc: self.alloc,
+            page: Arc::try_clone(&self.page).ok(),
+        };
+        let socket = Paced::new(self.rt, self.timers.clone().ok(), socket);
+        Served {
+            connection: self.http.serve_connection(socket, service),
+            place,
+        }
+    }
+}
