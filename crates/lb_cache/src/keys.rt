@@ -57,6 +57,7 @@ impl Keys {
     }
 
     /// The slot of a key. It takes no memory.
+    #[inline(always)]
     pub(crate) fn get(&self, kind: Kind, octets: &[u8]) -> Option<u64>
         ensures { result ≡ find cmp_key (key_with kind octets.now) self.now }
     {

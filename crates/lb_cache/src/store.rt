@@ -397,9 +397,9 @@ impl Store {
         true
     }
 
-    /// Whether so little is kept, and waits to be given back, that it can go at once.
+    /// Whether it never had more than `FEW` slots, so that it can go at once.
     pub(crate) fn is_small(&self) -> bool {
-        self.gone.is_empty() && self.len <= FEW
+        self.gone.is_empty() && self.top <= FEW as u64
     }
 
     /// Whether nothing waits to be given back.

@@ -211,7 +211,7 @@ impl Connections {
 
     /// Sets for how many milliseconds a client may send no message while none of its queries is
     /// pending, if that is to be limited.
-    pub fn close_idle(&mut self, idle: Option<u64>)
+    pub fn limit_idle(&mut self, idle: Option<u64>)
         ensures same { self.new ≡ self.old }
     {
         self.idle = idle;

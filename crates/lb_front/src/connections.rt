@@ -16,6 +16,7 @@ use hyper::rt::TokioTimer;
 use hyper::server::conn::http1;
 use hyper::server::conn::http1::Connection;
 use lb_lines::{Outside, Taker, Waker};
+use lb_sends::{Refusal, Sends};
 use std::alloc::Global;
 use std::net::SocketAddr;
 use std::sync::atomic::{AtomicBool, Ordering};
@@ -32,6 +33,12 @@ pub trait Make: Drop {
     /// The future of a connection of a client, which has one of the places.
     fn make(&self, socket: TcpStream, client: Client, place: OwnedSemaphorePermit) -> Self::Served
         ensures { Self.Served.can_poll result };
+
+    /// Notes that a connection of this making is served from now on.
+    fn entered(&self);
+
+    /// Notes a client that was closed at once, as no place was left for it.
+    fn turned_away(&self);
 }
 
 /// A connection that is served, and its place. Whatever ends it, nobody is told.
@@ -39,6 +46,8 @@ pub trait Make: Drop {
 pub struct Served<F> {
     pub connection: F,
     pub place: OwnedSemaphorePermit,
+    /// Where it is counted that the client left, if it is counted.
+    pub sends: Option<Arc<Sends>>,
 }
 
 impl<F: Future> Future for Served<F>
@@ -51,7 +60,12 @@ where
 
     fn poll(&mut self, cx: &mut Context<'_>) -> Poll<()> {
         match self.connection.poll(cx) {
-            Poll::Ready(_) => Poll::Ready(()),
+            Poll::Ready(_) => {
+                if let Some(sends) = &self.sends {
+                    sends.http().leave();
+                }
+                Poll::Ready(())
+            }
             Poll::Pending => Poll::Pending,
         }
     }
@@ -64,6 +78,8 @@ pub(crate) struct Maker<R: Clock + Copy, T: Taker, O: Outside, W: Waker> {
     pub(crate) alloc: Global,
     pub(crate) shared: Arc<Shared<T, O, W>>,
     pub(crate) http: http1::Builder<TokioTimer<R>>,
+    /// Where clients are counted.
+    pub(crate) sends: Arc<Sends>,
 }
 
 impl<R: Wait + Clock + Copy + Drop, T: Taker, O: Outside, W: Waker> Make for Maker<R, T, O, W> {
@@ -82,7 +98,16 @@ impl<R: Wait + Clock + Copy + Drop, T: Taker, O: Outside, W: Waker> Make for Mak
         Served {
             connection: self.http.serve_connection(socket, front),
             place,
+            sends: Arc::try_clone(&self.sends).ok(),
         }
+    }
+
+    fn entered(&self) {
+        self.sends.http().enter();
+    }
+
+    fn turned_away(&self) {
+        self.sends.http().refuse(Refusal::Full);
     }
 }
 
@@ -125,6 +150,19 @@ impl<M: Make> Accepting<'_, M> {
         let permit = Semaphore::try_acquire_owned(places).ok()?;
         Some(self.maker.make(socket, Client::at(place, end), permit))
     }
+
+    /// Serves a client from now on, if there is a place for it.
+    fn serve(&self, place: u8, socket: TcpStream, end: SocketAddr) {
+        match self.take_in(place, socket, end) {
+            Some(served) => {
+                // What comes back found no memory, and is closed.
+                if self.tasks.spawn(served).is_ok() {
+                    self.maker.entered();
+                }
+            }
+            None => self.maker.turned_away(),
+        }
+    }
 }
 
 impl<M: Make> Future for Accepting<'_, M> {
@@ -136,10 +174,7 @@ impl<M: Make> Future for Accepting<'_, M> {
         }
         match next_client(&mut self.listeners, cx) {
             Some((place, socket, end)) => {
-                if let Some(served) = self.take_in(place, socket, end) {
-                    // What comes back found no memory, and is closed.
-                    let _ = self.tasks.spawn(served);
-                }
+                self.serve(place, socket, end);
                 cx.yield_now()
             }
             None => match self.looks.poll_tick(cx) {

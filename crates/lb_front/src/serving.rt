@@ -11,6 +11,7 @@ use hyper::server::conn::http1::Builder;
 use lb_doh::{Asker, Requests};
 use lb_lines::{Outside, Taker, Waker};
 use lb_outbox::Sender;
+use lb_sends::Sends;
 use std::alloc::{AllocError, AllocGlobal, Global};
 use std::hash::RandomState;
 use std::net::Net;
@@ -66,6 +67,8 @@ pub struct FrontParts<T, O, W> {
     pub requests: Arc<Requests>,
     /// How many clients are connected at most. More than 1,024 count as 1,024.
     pub clients: usize,
+    /// Where clients are counted.
+    pub sends: Arc<Sends>,
     /// Set, it ends the front within half a second.
     pub stop: Arc<AtomicBool>,
 }
@@ -125,14 +128,16 @@ fn serve_by<
         streams,
         requests,
         clients,
+        sends,
         stop,
     } = parts;
     let asker = Asker::new(taker, sender, outside, streams);
     let mut runtime = runtime_of(&rt, runtime)?;
     let shared = shared_by(alloc, runtime.handle().time(), asker, requests)?;
     let listeners = registered(alloc, listeners, runtime.handle().reactor())?;
+    sends.http().bound(clients.min(CONNECTIONS) as u64);
     let room = (listeners, clients);
-    serve_shared(rt, alloc, &mut runtime, room, stop, &shared)?;
+    serve_shared(rt, alloc, &mut runtime, room, stop, (&shared, sends))?;
     ended(&rt, &shared)
 }
 
@@ -170,7 +175,8 @@ fn shared_by<T: Taker, O: Outside, W: Waker>(
 /// Listeners, each with its place, and how many clients are connected at most.
 pub type Room = (Vec<(u8, TcpListener)>, usize);
 
-/// Serves the connections of the listeners, which share this, until the flag is set.
+/// Serves the connections of the listeners, which share this and are counted there, until the flag
+/// is set.
 fn serve_shared<
     R: Wait + Clock + Net + RandomSource + AllocGlobal + Copy + Drop,
     T: Taker,
@@ -182,7 +188,7 @@ fn serve_shared<
     runtime: &mut LocalRuntime,
     room: Room,
     stop: Arc<AtomicBool>,
-    shared: &Arc<Shared<T, O, W>>,
+    shared: (&Arc<Shared<T, O, W>>, Arc<Sends>),
 ) -> Result<(), FrontFault> {
     let maker = maker_of(rt, alloc, runtime.handle().time(), shared)?;
     serve_connections(&rt, alloc, runtime, room, stop, maker)
@@ -217,19 +223,21 @@ pub fn serve_connections<R: Wait + Clock + Net + RandomSource + AllocGlobal, M: 
     Ok(runtime.block_on_with(rt, &tasks, accepting)?)
 }
 
-/// What makes connections that share this.
+/// What makes connections that share this and are counted there.
 fn maker_of<R: Clock + RandomSource + Copy + Drop, T: Taker, O: Outside, W: Waker>(
     rt: R,
     alloc: Global,
     timers: &time::Handle,
-    shared: &Arc<Shared<T, O, W>>,
+    shared: (&Arc<Shared<T, O, W>>, Arc<Sends>),
 ) -> Result<Maker<R, T, O, W>, FrontFault> {
+    let (shared, sends) = shared;
     let http = settings(rt, alloc, timers.clone()?, HEAD_SECONDS)?;
     Ok(Maker {
         rt,
         alloc,
         shared: Arc::try_clone(shared)?,
         http,
+        sends,
     })
 }
 

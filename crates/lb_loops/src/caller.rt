@@ -7,6 +7,7 @@ use lb_core::{Answer, Event, Noted};
 use lb_desk::{Desk, DeskFault, Naming, Seat};
 use lb_lines::Taker;
 use lb_recent::{Before, Ring};
+use lb_sends::Sends;
 use std::sync::{Arc, Wait};
 
 /// Hands the events of a loop to a desk, by a seat of its own. It may wait for other callers.
@@ -17,6 +18,8 @@ pub struct Caller<'a, R: Wait, J: Naming> {
     seat: Seat<J>,
     /// Where queries are noted that end by its calls.
     ring: Option<Arc<Ring>>,
+    /// Where it notes how long servers took to reply, and its number there.
+    times: Option<(Arc<Sends>, usize)>,
 }
 
 impl<'a, R: Wait, J: Naming> Caller<'a, R, J> {
@@ -41,6 +44,18 @@ impl<'a, R: Wait, J: Naming> Caller<'a, R, J> {
             desk,
             seat,
             ring,
+            times: None,
+        }
+    }
+
+    /// The same handler, which notes how long servers took for the replies that it hands in, under
+    /// a number that no other handler has.
+    pub fn timing(self, sends: Arc<Sends>, number: usize) -> Caller<'a, R, J>
+        ensures { result.seat ≡ self.entry.seat }
+    {
+        Caller {
+            times: Some((sends, number)),
+            ..self
         }
     }
 
@@ -74,32 +89,56 @@ impl<R: Wait, J: Naming> Taker for Caller<'_, R, J> {
     ghost pairs = { λ c. pairs_of c.seat.receipts };
 
     fn take(&mut self, event: Event) -> Result<Answer, (DeskFault, Event)> {
-        match &self.ring {
-            Some(ring) => take_noting(self.rt, self.desk, &mut self.seat, event, ring),
-            None => self.desk.call(self.rt, &mut self.seat, event),
+        if let Some(ring) = &self.ring {
+            let notes = (ring, &self.times);
+            return take_noting(self.rt, self.desk, &mut self.seat, event, notes);
         }
+        let now = event.now();
+        let mut noted = Noted::none();
+        let answer = self
+            .desk
+            .call_noted(self.rt, &mut self.seat, event, &mut noted);
+        if let Ok(answer) = &answer {
+            note_time(&self.times, now, answer, &noted);
+        }
+        answer
     }
 }
 
-/// A call from a seat. If a query ends by it, it is noted in a ring.
+/// Notes how long a server took, if its reply is delivered.
+#[inline(always)]
+fn note_time(times: &Option<(Arc<Sends>, usize)>, now: u64, answer: &Answer, noted: &Noted) {
+    if let Answer::Deliver(..) = answer
+        && let Some((sends, number)) = times
+        && let Some(served) = noted.served
+    {
+        let took = now.saturating_sub(served.began);
+        sends.note_reply(*number, served.server, took);
+    }
+}
+
+/// A call from a seat. If a query ends by it, it is noted in a ring, and how long the server took.
 #[inline(never)]
 fn take_noting<R: Wait, J: Naming>(
     rt: &R,
     desk: &Desk<J>,
     seat: &mut Seat<J>,
     event: Event,
-    ring: &Ring,
+    notes: (&Arc<Ring>, &Option<(Arc<Sends>, usize)>),
 ) -> Result<Answer, (DeskFault, Event)>
     ensures calls { OnOk result (seat.new.calls ≡ seat.old.calls + 1) }
     ensures receipts { IfOk result (λ answer. (seat.new.receipts ≡ seat.old.receipts) ⊎ ((place : ℕ) × (place < J.limit) × (seat.new.receipts ≡ seat.old.receipts ++ receipt place event answer ∷ []))) }
     ensures back { IfErr result (λ fault. fault.1 ≡ event) }
     ensures same { OnErr result (seat.new ≡ seat.old) }
 {
+    let (ring, times) = notes;
+    let now = event.now();
     let before = Before::of(&event);
     let mut noted = Noted::none();
     let answer = desk.call_noted(rt, seat, event, &mut noted)?;
     if let Some(record) = before.ended(&answer, &noted) {
         ring.write(rt, record);
     }
+    note_time(times, now, &answer, &noted);
     Ok(answer)
 }

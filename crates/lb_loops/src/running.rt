@@ -144,7 +144,7 @@ fn loop_of_streams<R: Wait, S: Streams, T: Taker, O: Outside, P: Posts, G: Gate,
         idle,
     } = parts;
     let mut part = StreamLoop::made(alloc, sockets, receiver, fronts, posts, taker, outside)?;
-    part.close_idle(idle);
+    part.limit_idle(idle);
     all_streams(rt, alloc, around, &mut part)?;
     Ok(part.into_parts())
 }

@@ -366,7 +366,7 @@ fn run_at_desk<'a, J: Naming + Send + Sync, R: Threads + Wait + Clock + Sync>(
             order: Arc::try_clone(&shared.order)?,
             is_open,
         },
-        sends: Arc::new(alloc, Sends::none())?,
+        sends: Arc::new(alloc, Sends::made(alloc, 0)?)?,
         stop: Arc::try_clone(&shared.stop)?,
         datagrams_wakers: wakers,
         streams_waker: NoWaker,

@@ -122,6 +122,11 @@ impl<R: Clock + Copy + Drop, P: Page> Make for Maker<R, P> {
         Served {
             connection: self.http.serve_connection(socket, service),
             place,
+            sends: None,
         }
     }
+
+    fn entered(&self) {}
+
+    fn turned_away(&self) {}
 }

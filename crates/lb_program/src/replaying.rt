@@ -62,6 +62,9 @@ fn replay_lines<R: Read + Drop, W: Write>(
     player.run(alloc, input, output)
 }
 
+/// Of so many replies the memory is given back in one call.
+const SWEPT: usize = 1024;
+
 /// A replay under way: its balancer, and the lines of answers that are held back.
 #[derive(Drop)]
 struct Player {
@@ -141,9 +144,25 @@ impl Player {
         ensures answered { OnOk result ((answer : Answer) × Answers self.old.balancer event answer self.new.balancer × (self.new.held.items ≡ self.old.held.items ++ (line_of answer ++ codes "\n"))) }
         ensures same { OnErr result (self.new.held.items ≡ self.old.held.items) }
     {
+        let is_edit = matches!(event, Event::Edit { .. });
         let answer = self.balancer.step(event);
+        if is_edit {
+            self.sweep();
+        }
         let mut text = answer_line(alloc, &answer)?;
         text.push('\n')?;
         self.held.extend_from_slice(text.as_bytes())
+    }
+
+    /// Gives back the memory of all replies that were expunged: nobody waits for an answer
+    /// meanwhile.
+    fn sweep(&mut self)
+        ensures { self.new ≡ self.old }
+    {
+        for _ in 0..u64::MAX {
+            if !self.balancer.sweep(SWEPT).more {
+                return;
+            }
+        }
     }
 }

@@ -1,11 +1,18 @@
 //! Counts that all loops raise.
 
+use crate::clients::{Clients, raise, read};
+use crate::probed::{Probed, Results};
+use crate::times::{ReplyTimes, Times};
+use lb_core::Event;
 use lb_lines::{Line, Sending, Why};
-use std::sync::atomic::{AtomicU64, Ordering};
+use lb_wire::ServerId;
+use std::alloc::{AllocError, Global};
+use std::sync::atomic::AtomicU64;
 
-/// How many sends failed, by cause, how many probes were sent, and how many clients over TCP came,
-/// left and were closed for their source. Each loop notes the lines of its turns here, without a
-/// lock. The sockets of streams count clients as they come and go.
+/// How many sends failed, by cause, how many probes were sent, with the last result of each server,
+/// how long servers take to reply, and counts of clients. Each loop notes the lines of its turns
+/// here, and its event handler notes replies, without a lock. The sockets of streams and the front
+/// of DNS on HTTP count clients as they come and go.
 #[derive(Debug, Drop)]
 pub struct Sends {
     no_server: AtomicU64,
@@ -16,15 +23,23 @@ pub struct Sends {
     no_memory: AtomicU64,
     probes: AtomicU64,
     failed_probes: AtomicU64,
-    turned_away: AtomicU64,
-    clients: AtomicU64,
-    left: AtomicU64,
+    no_descriptor: AtomicU64,
+    results: Results,
+    /// Of each event handler that hands in replies.
+    times: Vec<Times>,
+    tcp: Clients,
+    http: Clients,
 }
 
 impl Sends {
-    /// All are 0.
-    pub fn none() -> Sends {
-        Sends {
+    /// All are 0, and no probe was answered. So many event handlers can note replies. The one error
+    /// is refused memory.
+    pub fn made(alloc: Global, handlers: usize) -> Result<Sends, AllocError> {
+        let mut times = Vec::with_capacity(alloc, handlers)?;
+        for _ in 0..handlers {
+            times.push(Times::made(alloc)?)?;
+        }
+        Ok(Sends {
             no_server: AtomicU64::new(0),
             gone: AtomicU64::new(0),
             limit: AtomicU64::new(0),
@@ -33,10 +48,12 @@ impl Sends {
             no_memory: AtomicU64::new(0),
             probes: AtomicU64::new(0),
             failed_probes: AtomicU64::new(0),
-            turned_away: AtomicU64::new(0),
-            clients: AtomicU64::new(0),
-            left: AtomicU64::new(0),
-        }
+            no_descriptor: AtomicU64::new(0),
+            results: Results::made(alloc)?,
+            times,
+            tcp: Clients::none(),
+            http: Clients::none(),
+        })
     }
 
     /// Notes the lines of a turn.
@@ -45,6 +62,9 @@ impl Sends {
             match line {
                 Line::Event(_, _, _, Sending::Failed(why)) | Line::Job(_, Sending::Failed(why)) => {
                     raise(self.of(*why));
+                }
+                Line::Event(_, Event::HealthResult { now, server, ok }, _, _) => {
+                    self.results.note(*server, *now, *ok);
                 }
                 Line::Event(..) | Line::Job(..) => {}
                 Line::Probe(_, _, sending) => self.note_probe(*sending),
@@ -61,35 +81,43 @@ impl Sends {
         }
     }
 
-    /// Notes a client of streams that was closed at once, as its source had as many as it may have.
-    pub fn turn_away(&self) {
-        raise(&self.turned_away);
+    /// Notes a reply for a client, for which a server took so many milliseconds. The event handler
+    /// with this number has handed it in, and notes its replies alone.
+    pub fn note_reply(&self, handler: usize, server: ServerId, took: u64) {
+        if let Some(times) = self.times.get(handler) {
+            times.note(server, took);
+        }
     }
 
-    /// How many clients of streams were closed at once for their source.
-    pub fn turned_away(&self) -> u64 {
-        read(&self.turned_away)
+    /// How long the replies of a server took, if there was one. Of two servers whose numbers are
+    /// equal modulo 256, the later one alone is counted.
+    pub fn reply_times(&self, server: ServerId) -> Option<ReplyTimes> {
+        let mut all = ReplyTimes::none();
+        let mut has_replied = false;
+        for times in &self.times {
+            has_replied |= times.add_to(server, &mut all);
+        }
+        if has_replied { Some(all) } else { None }
     }
 
-    /// Notes a client of streams that was taken in.
-    pub fn enter(&self) {
-        raise(&self.clients);
+    /// Notes that the system had no descriptor for a client, or for a connection to a server.
+    pub fn lack_descriptor(&self) {
+        raise(&self.no_descriptor);
     }
 
-    /// Notes that the connection of a client of streams was closed.
-    pub fn leave(&self) {
-        raise(&self.left);
+    /// How often the system had no descriptor for a client, or for a connection to a server.
+    pub fn lacked_descriptors(&self) -> u64 {
+        read(&self.no_descriptor)
     }
 
-    /// How many clients of streams were taken in.
-    pub fn clients(&self) -> u64 {
-        read(&self.clients)
+    /// The clients over TCP.
+    pub fn tcp(&self) -> &Clients {
+        &self.tcp
     }
 
-    /// How many clients of streams are connected.
-    pub fn connected(&self) -> u64 {
-        let left = read(&self.left);
-        read(&self.clients).saturating_sub(left)
+    /// The clients of DNS on HTTP.
+    pub fn http(&self) -> &Clients {
+        &self.http
     }
 
     /// How many sends failed, by cause. Probes are counted apart.
@@ -104,6 +132,11 @@ impl Sends {
         ]
     }
 
+    /// How many messages for clients over TCP found the outbox to their loop full.
+    pub fn full(&self) -> u64 {
+        read(&self.full)
+    }
+
     /// How many probes were sent.
     pub fn probes(&self) -> u64 {
         read(&self.probes)
@@ -112,6 +145,11 @@ impl Sends {
     /// How many probes could not be sent.
     pub fn failed_probes(&self) -> u64 {
         read(&self.failed_probes)
+    }
+
+    /// The last result of the probes of a server, if there was one.
+    pub fn probed(&self, server: ServerId) -> Option<Probed> {
+        self.results.of(server)
     }
 
     /// The count of a cause.
@@ -125,14 +163,4 @@ impl Sends {
             Why::NoMemory => &self.no_memory,
         }
     }
-}
-
-/// A count.
-fn read(count: &AtomicU64) -> u64 {
-    count.load(Ordering::Relaxed)
-}
-
-/// Raises a count by one.
-fn raise(count: &AtomicU64) {
-    count.fetch_add(1, Ordering::Relaxed);
 }

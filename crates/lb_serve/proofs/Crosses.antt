@@ -18,16 +18,16 @@ use Rattle.lb_serve.specs.contracts.threads.Services as Services
 
 module _ (a : NamedLft) (R T O : RattleType) where
   pub console_send : IsSend Ring.the_row → IsSync Ring.the_row → IsSend Sends.the_row → IsSync Sends.the_row → IsSync R → IsSend T → IsSend O → IsSend (Console.the_row a R T O)
-  console_send ring_send ring_sync sends_send sends_sync r_sync t_send o_send = search (the_send, sendable, crosses) depth 40 fits 10000
+  console_send ring_send ring_sync sends_send sends_sync r_sync t_send o_send = search (the_send, sendable, crosses) depth 40 fits 60000
 
 module _ (T O : RattleType) where
-  pub front_send : IsSend T → IsSend O → IsSend (Fronting.the_row T O)
-  front_send t_send o_send = search (the_front_send, sendable, crosses) depth 40 fits 10000
+  pub front_send : IsSend Sends.the_row → IsSync Sends.the_row → IsSend T → IsSend O → IsSend (Fronting.the_row T O)
+  front_send sends_send sends_sync t_send o_send = search (the_front_send, sendable, crosses) depth 40 fits 60000
 
 module _ (T O G : RattleType) where
-  pub services_send : IsSend T → IsSend O → IsSend G → IsSend (Services.the_row T O G)
-  services_send t_send o_send g_send = search (the_services_send, sendable, crosses) depth 40 fits 10000
+  pub services_send : IsSend Sends.the_row → IsSync Sends.the_row → IsSend T → IsSend O → IsSend G → IsSend (Services.the_row T O G)
+  services_send sends_send sends_sync t_send o_send g_send = search (the_services_send, sendable, crosses) depth 40 fits 60000
 
 module _ (a : NamedLft) (R T : RattleType) (n : Naming.Ghosts T.Denot) (l : Ledger.Ghosts T.Denot) where
   pub page_send : IsSync R → IsSync (Desk.the_row T n l) → IsSend Ring.the_row → IsSync Ring.the_row → IsSend Sends.the_row → IsSync Sends.the_row → IsSend (DeskPage.the_row a R T n l)
-  page_send r_sync desk_sync ring_send ring_sync sends_send sends_sync = search (sendable, crosses) depth 40 fits 10000
+  page_send r_sync desk_sync ring_send ring_sync sends_send sends_sync = search (sendable, crosses) depth 40 fits 60000

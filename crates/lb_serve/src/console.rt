@@ -141,7 +141,7 @@ impl<'a, R: Wait + Clock, T: Taker + Hears, O: Outside> Console<'a, R, T, O> {
             if self.halt.is_over() {
                 return Ok(());
             }
-            self.notices.look(rt, self.operator.taker())?;
+            self.notices.look(rt, &mut self.operator)?;
             self.serve_on()?;
         }
         unreachable!()

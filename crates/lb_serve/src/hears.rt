@@ -5,7 +5,7 @@ ghost use Rattle.lb_words.specs.Heard.{IsHeard};
 
 use lb_desk::Naming;
 use lb_loops::Caller;
-use lb_words::{Heard, Watch, Words};
+use lb_words::{Heard, Words};
 use std::alloc::AllocError;
 use std::sync::Wait;
 use std::time::Clock;
@@ -16,8 +16,8 @@ pub(crate) trait Hears {
     fn hear(&self, words: &Words, line: &str) -> Result<Heard, AllocError>
         ensures { IfOk result (λ heard. IsHeard line.now heard) };
 
-    /// What changed since this watch looked last. The one error is lack of memory.
-    fn changes(&self, watch: &mut Watch) -> Result<Vec<String>, AllocError>;
+    /// What changed since these words were asked last. The one error is lack of memory.
+    fn changes(&self, words: &mut Words) -> Result<Vec<String>, AllocError>;
 
     /// Gives back some of the memory of what was expunged. Whether more is to be given back.
     fn sweep(&self) -> bool;
@@ -28,8 +28,8 @@ impl<R: Wait + Clock, J: Naming> Hears for Caller<'_, R, J> {
         words.hear(self.runtime(), self.desk(), line)
     }
 
-    fn changes(&self, watch: &mut Watch) -> Result<Vec<String>, AllocError> {
-        watch.changes(self.runtime(), self.desk())
+    fn changes(&self, words: &mut Words) -> Result<Vec<String>, AllocError> {
+        words.changes(self.runtime(), self.desk())
     }
 
     fn sweep(&self) -> bool {

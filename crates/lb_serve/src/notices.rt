@@ -1,7 +1,8 @@
 //! Sentences on standard error while it serves.
 
 use crate::hears::Hears;
-use lb_words::Watch;
+use crate::operator::Operator;
+use lb_loops::{Outside, Taker};
 use libc;
 use libc::types::pollfd;
 use std::alloc::{AllocError, Global};
@@ -26,7 +27,6 @@ const EACH: u64 = 1_000;
 #[derive(Debug, Drop)]
 pub(crate) struct Notices {
     alloc: Global,
-    watch: Watch,
     /// When it last looked.
     looked: Option<Instant>,
     /// How many sentences were said since then, and how many were left out.
@@ -39,7 +39,6 @@ impl Notices {
     pub(crate) fn new(alloc: Global) -> Notices {
         Notices {
             alloc,
-            watch: Watch::new(alloc),
             looked: None,
             said: 0,
             left_out: 0,
@@ -56,14 +55,18 @@ impl Notices {
     }
 
     /// Looks, if it is time, and says what changed.
-    pub(crate) fn look<R: Clock, T: Hears>(&mut self, rt: &R, taker: &T) -> io::Result<()> {
+    pub(crate) fn look<R: Clock, T: Taker + Hears, O: Outside>(
+        &mut self,
+        rt: &R,
+        operator: &mut Operator<T, O>,
+    ) -> io::Result<()> {
         if !self.left(rt)?.is_zero() {
             return Ok(());
         }
         self.looked = Some(Instant::now(rt)?);
         self.said = 0;
         // If memory is refused, the next look says what is left.
-        match self.say_changes(taker) {
+        match self.say_changes(operator) {
             Ok(()) => {}
             Err(refused) => self.leave_out(refused),
         }
@@ -71,14 +74,17 @@ impl Notices {
     }
 
     /// Says how many sentences were left out, and what changed. The one error is lack of memory.
-    fn say_changes<T: Hears>(&mut self, taker: &T) -> Result<(), AllocError> {
+    fn say_changes<T: Taker + Hears, O: Outside>(
+        &mut self,
+        operator: &mut Operator<T, O>,
+    ) -> Result<(), AllocError> {
         let left_out = self.left_out;
         if left_out > 0 && takes() {
             let words = format!(in self.alloc; "sentences left out: {left_out}")?;
             self.left_out = 0;
             self.say(words.as_str());
         }
-        for words in &taker.changes(&mut self.watch)? {
+        for words in &operator.changes()? {
             self.say(words.as_str());
         }
         Ok(())

@@ -84,6 +84,13 @@ impl<T: Taker + Hears, O: Outside> Operator<T, O> {
         &self.taker
     }
 
+    /// What changed since this was asked last. The one error is lack of memory.
+    pub(crate) fn changes(&mut self) -> Result<Vec<String>, AllocError>
+        ensures { (self.new.taker ≡ self.old.taker) × (self.new.outside ≡ self.old.outside) × (self.new.servers ≡ self.old.servers) }
+    {
+        self.taker.changes(&mut self.words)
+    }
+
     /// The handler of events, when the console has ended.
     pub(crate) fn into_taker(self) -> T
         ensures { result ≡ self.taker }

@@ -150,13 +150,13 @@ struct Shared {
 }
 
 impl Shared {
-    /// A roster of these servers; nothing waits yet.
-    fn made(alloc: Global, servers: &[ServerPlace]) -> Result<Shared, Fault> {
+    /// A roster of these servers; nothing waits yet. So many event handlers hand in replies.
+    fn made(alloc: Global, servers: &[ServerPlace], handlers: usize) -> Result<Shared, Fault> {
         Ok(Shared {
             stop: Arc::new(alloc, AtomicBool::new(false))?,
             roster: Arc::new(alloc, Mutex::new(roster_of(alloc, servers)?))?,
             requests: Arc::new(alloc, Mutex::new(Waiting::new(alloc)))?,
-            sends: Arc::new(alloc, Sends::none())?,
+            sends: Arc::new(alloc, Sends::made(alloc, handlers)?)?,
         })
     }
 
@@ -193,7 +193,6 @@ pub(crate) fn prepared<'a, J: Naming, R: Wait + Net + Clock + RandomSource>(
         seats.len().saturating_add(OTHER_RINGS),
         switches.recent,
     )?;
-    let (takers, of_console, of_front) = callers(rt, alloc, desk, seats, others, &rings)?;
     let Listening {
         datagrams,
         beside,
@@ -203,7 +202,10 @@ pub(crate) fn prepared<'a, J: Naming, R: Wait + Net + Clock + RandomSource>(
         metrics,
     } = listening;
     let clients = clients_of(&setup, &switches);
-    let shared = Shared::made(alloc, setup.servers())?;
+    // Those of datagrams, and that of streams.
+    let shared = Shared::made(alloc, setup.servers(), seats.len().saturating_add(1))?;
+    let notes = (&rings, &shared.sends);
+    let (takers, of_console, of_front) = callers(rt, alloc, desk, seats, others, notes)?;
     let limits = limits_of(clients, &switches);
     let sends = Arc::try_clone(&shared.sends)?;
     let sockets = Sockets::made(rt, alloc, datagrams, beside, streams, limits, sends)?;
@@ -277,6 +279,9 @@ fn words_of<R: Clock>(
     Words::new(rt, alloc, setup.listeners(), setup.log(), rings, sends)
 }
 
+/// Where queries are noted that end, and how long servers took to reply.
+type Notes<'b> = (&'b Rings, &'b Arc<Sends>);
+
 /// The handlers of events of the loops, of the console and of the front, each by a seat of its own.
 /// The console's ends no query.
 fn callers<'a, J: Naming, R: Wait>(
@@ -285,7 +290,7 @@ fn callers<'a, J: Naming, R: Wait>(
     desk: &'a Desk<J>,
     seats: &mut Vec<Seat<J>>,
     others: OtherSeats<J>,
-    rings: &Rings,
+    notes: Notes<'_>,
 ) -> Result<(Callers<'a, R, J>, Caller<'a, R, J>, Caller<'a, R, J>), AllocError> {
     let OtherSeats {
         streams,
@@ -293,14 +298,14 @@ fn callers<'a, J: Naming, R: Wait>(
         console,
         front,
     } = others;
-    let datagrams = callers_of_datagrams(rt, alloc, desk, seats, rings)?;
+    let datagrams = callers_of_datagrams(rt, alloc, desk, seats, notes)?;
     let place = datagrams.len();
     let takers = (
         datagrams,
-        noting(rt, desk, streams, rings, place)?,
-        noting(rt, desk, clock, rings, place.saturating_add(1))?,
+        noting(rt, desk, streams, notes, place)?,
+        noting(rt, desk, clock, notes, place.saturating_add(1))?,
     );
-    let of_front = noting(rt, desk, front, rings, place.saturating_add(2))?;
+    let of_front = noting(rt, desk, front, notes, place.saturating_add(2))?;
     Ok((takers, Caller::new(rt, desk, console), of_front))
 }
 
@@ -311,32 +316,35 @@ fn callers_of_datagrams<'a, J: Naming, R: Wait>(
     alloc: Global,
     desk: &'a Desk<J>,
     seats: &mut Vec<Seat<J>>,
-    rings: &Rings,
+    notes: Notes<'_>,
 ) -> Result<Vec<Caller<'a, R, J>>, AllocError> {
     let mut takers = Vec::with_capacity(alloc, seats.len())?;
     for place in 0..seats.len() {
         if let Some(seat) = seats.pop() {
             takers
-                .push(noting(rt, desk, seat, rings, place)?)
+                .push(noting(rt, desk, seat, notes, place)?)
                 .map_err(AllocError::from)?;
         }
     }
     Ok(takers)
 }
 
-/// The handler that calls a desk from a seat, and notes the queries that end by its calls in the
-/// ring at a place, if any are noted.
+/// The handler that calls a desk from a seat. It notes how long servers took to reply, and the
+/// queries that end by its calls in the ring at a place, if any are noted.
 fn noting<'a, J: Naming, R: Wait>(
     rt: &'a R,
     desk: &'a Desk<J>,
     seat: Seat<J>,
-    rings: &Rings,
+    notes: Notes<'_>,
     place: usize,
 ) -> Result<Caller<'a, R, J>, AllocError> {
-    if rings.room() == 0 {
-        return Ok(Caller::new(rt, desk, seat));
-    }
-    Ok(Caller::noting(rt, desk, seat, rings.ring(place)?))
+    let (rings, sends) = notes;
+    let ring = if rings.room() == 0 {
+        None
+    } else {
+        rings.ring(place)?
+    };
+    Ok(Caller::noting(rt, desk, seat, ring).timing(Arc::try_clone(sends)?, place))
 }
 
 /// What the console has alone: its listeners, the words that it answers by itself, its handler of
@@ -399,6 +407,7 @@ fn front_of_http<'a, J: Naming, R: Wait + Net + Clock + RandomSource>(
         streams: sockets.streams.waker()?,
         requests: Arc::try_clone(&shared.requests)?,
         clients: clients.http as usize,
+        sends: Arc::try_clone(&shared.sends)?,
         stop: Arc::try_clone(&shared.stop)?,
     };
     Ok(Fronting {

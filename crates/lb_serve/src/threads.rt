@@ -7,6 +7,7 @@ use crate::console::Console;
 use crate::gate::OpenGate;
 use crate::halt::Halt;
 use crate::hears::Hears;
+use crate::notices::say_last;
 use lb_front::{FrontEnded, FrontFault, FrontParts, run_front};
 use lb_loops::{
     ClockParts, DatagramParts, Datagrams, Ended, LoopFault, Outside, Parts, Posts, StreamParts,
@@ -145,8 +146,8 @@ fn run_asked<
     )
 }
 
-/// Runs the front, and the service of metrics, if there is one, in a thread of its own. What that
-/// ends with is not kept: serving goes on without it.
+/// Runs the front, and the service of metrics, if there is one, in a thread of its own. If that
+/// ends by itself, a sentence says so, and serving goes on without it.
 #[tactic(auto, using(crate::proofs::Crosses::front_send))]
 fn run_services<
     R: Threads
@@ -161,21 +162,32 @@ fn run_services<
 >(rt: &R, alloc: Global, services: Services<T, O, G>) -> FrontEnd<T> {
     // Laws, which do nothing.
     wakers_are_shared();
+    sends_cross_threads();
     metrics_cross_threads::<G>();
     let Services { front, metrics } = services;
     let Some(metrics) = metrics else {
         return run_http(rt, alloc, front);
     };
-    let (ended, _metrics) = join(
+    let (ended, ()) = join(
         rt,
         move ||
             requires parts { IsSync R.row × IsSend T.row × IsSend O.row }
         { run_http(rt, alloc, front) },
         move ||
             requires parts { IsSync R.row × IsSend G.row }
-        { run_metrics((rt, alloc), alloc, metrics) },
+        { run_page(rt, alloc, metrics) },
     );
     ended
+}
+
+/// Runs the service of metrics.
+fn run_page<
+    R: Wait + Net<Listener = TcpListener, Stream = TcpStream> + Clock + RandomSource,
+    G: Page,
+>(rt: &R, alloc: Global, metrics: MetricsParts<G>) {
+    if run_metrics((rt, alloc), alloc, metrics).is_err() {
+        say_last(alloc, "the page of metrics is served no longer");
+    }
 }
 
 /// Runs the front. If it ends by itself, the loops end too.

@@ -173,7 +173,10 @@ impl Arrivals {
     /// The same, and its connection is closed at once.
     pub(crate) fn dismiss(&mut self) -> io::Result<Option<(u8, Endpoint)>> {
         match self.clients.next()? {
-            Some(client) => Ok(Some((client.front, client.from))),
+            Some(client) => {
+                self.clients.turned_away();
+                Ok(Some((client.front, client.from)))
+            }
             None => Ok(None),
         }
     }
@@ -186,8 +189,13 @@ impl Arrivals {
         number: u64,
         to: Endpoint,
     ) -> io::Result<()> {
-        let stream = TcpStream::connect(net, socket_addr(to))?;
-        self.enter(watch, number, None, stream)
+        match TcpStream::connect(net, socket_addr(to)) {
+            Ok(stream) => self.enter(watch, number, None, stream),
+            Err(error) => {
+                self.clients.lacks(&error);
+                Err(error)
+            }
+        }
     }
 
     /// Puts a stream in with this number. What it is given to write goes out at once.
@@ -215,6 +223,7 @@ impl Arrivals {
             return Err(io::Error::from(ErrorKind::WouldBlock));
         };
         let read = intake.read(&mut connection.stream);
+        connection.notes_read(&read);
         if may_have_more(&read, connection.is_read_closed) {
             self.reading.put(place_of(number));
         }
@@ -247,8 +256,8 @@ impl Arrivals {
 
     /// Closes a connection. Its descriptor is free for a client that waits.
     pub(crate) fn close(&mut self, number: u64) {
-        if let Some(client) = self.connections.close(number) {
-            self.clients.left(client);
+        if let Some(left) = self.connections.close(number) {
+            self.clients.left(left);
         }
         self.clients.feed();
     }

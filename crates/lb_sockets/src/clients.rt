@@ -1,12 +1,13 @@
 //! Clients that wait at listeners of streams.
 
 use crate::addresses::endpoint_of;
+use crate::connections::Left;
 use crate::fronts::TcpListeners;
 use crate::readiness::first_from;
 use crate::sources::Sources;
 use crate::streams::Limits;
 use lb_lines::Endpoint;
-use lb_sends::Sends;
+use lb_sends::{Refusal, Sends};
 use lb_wire::Addr;
 use mio::net::TcpStream;
 use std::alloc::{AllocError, Global};
@@ -16,6 +17,9 @@ use std::sync::Arc;
 
 /// The most listeners that are tried for one client.
 const TRIES: u16 = 512;
+
+/// The loop of streams turns further clients away.
+const MOST: usize = 1_024;
 
 /// The system has no descriptor left.
 const ENFILE: i32 = 23;
@@ -45,7 +49,7 @@ pub(crate) struct Clients {
     /// How many more clients may be connected.
     room: usize,
     sources: Sources,
-    /// Where clients are counted that come, leave, or are closed for their source.
+    /// Where clients are counted that come, leave or are closed, and descriptors that were lacking.
     sends: Arc<Sends>,
 }
 
@@ -59,6 +63,7 @@ impl Clients {
         sends: Arc<Sends>,
     ) -> Result<Clients, AllocError> {
         let may_wait = Vec::from_elem(alloc, false, fronts.listeners.len())?;
+        sends.tcp().bound(limits.clients.min(MOST) as u64);
         Ok(Clients {
             fronts,
             may_wait,
@@ -91,14 +96,29 @@ impl Clients {
     pub(crate) fn entered(&mut self, addr: Addr) {
         self.room = self.room.saturating_sub(1);
         self.sources.entered(addr);
-        self.sends.enter();
+        self.sends.tcp().enter();
     }
 
-    /// Notes that the connection of a client with this address was closed.
-    pub(crate) fn left(&mut self, addr: Addr) {
+    /// Notes that the connection of a client was closed.
+    pub(crate) fn left(&mut self, left: Left) {
         self.room = self.room.saturating_add(1);
-        self.sources.left(addr);
-        self.sends.leave();
+        self.sources.left(left.addr);
+        self.sends.tcp().leave();
+        if let Some(why) = left.why {
+            self.sends.tcp().close(why);
+        }
+    }
+
+    /// Notes that a client was closed at once as no place was left.
+    pub(crate) fn turned_away(&self) {
+        self.sends.tcp().refuse(Refusal::Full);
+    }
+
+    /// Notes an error of a connection that was to be begun, if descriptors were lacking.
+    pub(crate) fn lacks(&self, error: &io::Error) {
+        if is_want(error) {
+            self.sends.lack_descriptor();
+        }
     }
 
     /// Takes in the next client. One whose source has as many as it may have is closed at once:
@@ -107,7 +127,7 @@ impl Clients {
         match self.next()? {
             Some(client) if self.sources.may_enter(client.from.addr) => Ok(Some(client)),
             Some(_) => {
-                self.sends.turn_away();
+                self.sends.tcp().refuse(Refusal::Source);
                 Ok(None)
             }
             None => Ok(None),
@@ -167,6 +187,7 @@ impl Clients {
             ErrorKind::ConnectionAborted | ErrorKind::Interrupted => {}
             _ => {
                 self.is_starved = true;
+                self.lacks(&error);
                 if !is_want(&error) {
                     return Err(error);
                 }

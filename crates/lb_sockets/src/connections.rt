@@ -2,7 +2,8 @@
 
 ghost use Rattle.std.specs.Prelude.{IfOk, length, ◌<◌, ◌≡◌, ◌≤◌};
 
-use lb_wire::Addr;
+use lb_sends::Closing;
+use lb_wire::{Addr, Octets};
 use mio::event::Event;
 use mio::net::TcpStream;
 use std::alloc::{AllocError, Global};
@@ -11,6 +12,13 @@ use std::io::{ErrorKind, Write};
 
 /// How many places there are.
 pub(crate) const PLACES: usize = 4096;
+
+/// A client that left: its address, and why it was closed if it had not closed its side.
+#[derive(Clone, Copy, Debug)]
+pub(crate) struct Left {
+    pub(crate) addr: Addr,
+    pub(crate) why: Option<Closing>,
+}
 
 /// A connection.
 #[derive(Drop)]
@@ -21,6 +29,8 @@ pub(crate) struct Connection {
     pub(crate) stream: TcpStream,
     /// Whether an event said that nothing comes behind what waits to be read.
     pub(crate) is_read_closed: bool,
+    /// Whether a read or a write said that the peer ended it, or that it failed.
+    is_over: bool,
     /// Whether it is to be told that it may be written: it was not told so yet, or took less than
     /// it was given.
     awaits_room: bool,
@@ -34,6 +44,7 @@ impl Connection {
             client,
             stream,
             is_read_closed: false,
+            is_over: false,
             awaits_room: true,
         }
     }
@@ -55,6 +66,34 @@ impl Connection {
         may_be_written
     }
 
+    /// Notes what a read gave.
+    pub(crate) fn notes_read(&mut self, read: &io::Result<Option<Octets>>) {
+        match read {
+            Ok(Some(_)) => {}
+            Ok(None) => self.is_over = true,
+            Err(error) => self.notes_error(error),
+        }
+    }
+
+    /// Notes an error, unless it is one that passes.
+    fn notes_error(&mut self, error: &io::Error) {
+        if !matches!(error.kind(), ErrorKind::WouldBlock | ErrorKind::Interrupted) {
+            self.is_over = true;
+        }
+    }
+
+    /// Why it is closed now, if its peer has not ended it and it has not failed: either it takes no
+    /// octets, or nothing came.
+    fn closing(&self) -> Option<Closing> {
+        if self.is_over || self.is_read_closed {
+            None
+        } else if self.awaits_room {
+            Some(Closing::Unread)
+        } else {
+            Some(Closing::Idle)
+        }
+    }
+
     /// Writes from the front of these octets; how many were taken. None is taken where the
     /// connection does not stand yet.
     pub(crate) fn write(&mut self, octets: &[u8]) -> io::Result<usize>
@@ -69,7 +108,10 @@ impl Connection {
                 self.awaits_room = true;
                 Ok(0)
             }
-            Err(error) => Err(error),
+            Err(error) => {
+                self.notes_error(&error);
+                Err(error)
+            }
         }
     }
 }
@@ -128,13 +170,13 @@ impl Connections {
         }
     }
 
-    /// Closes the connection with a number, if it is there. The address of its client, if it is
-    /// one's.
-    pub(crate) fn close(&mut self, number: u64) -> Option<Addr> {
-        let client = self.at(number)?.client;
+    /// Closes the connection with a number, if it is there. The client that left, if it was one's.
+    pub(crate) fn close(&mut self, number: u64) -> Option<Left> {
+        let connection = self.at(number)?;
+        let (client, why) = (connection.client, connection.closing());
         if let Some(slot) = self.slots.get_mut(place_of(number)) {
             *slot = None;
         }
-        client
+        client.map(|addr| Left { addr, why })
     }
 }

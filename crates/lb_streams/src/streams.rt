@@ -76,10 +76,10 @@ impl<S: Streams, T: Taker, O: Outside, P: Posts> StreamLoop<S, T, O, P> {
 
     /// Sets for how many milliseconds a client may send no message while none of its queries is
     /// pending: after that it is closed (RFC 7766 section 6.2.3). Without a limit none is closed.
-    pub fn close_idle(&mut self, idle: Option<u64>)
+    pub fn limit_idle(&mut self, idle: Option<u64>)
         ensures { self.new ≡ self.old }
     {
-        self.links.table.close_idle(idle);
+        self.links.table.limit_idle(idle);
     }
 
     /// Takes the room of a report's lines back for the next turn. The lines go.

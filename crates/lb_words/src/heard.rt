@@ -7,10 +7,12 @@ use crate::lines::Lines;
 use crate::lists;
 use crate::metrics::metrics;
 use crate::recent::{Wanted, fault, recent};
+use crate::seen::Beside;
 use crate::setup::setup;
-use crate::told::{ended, look};
+use crate::told::{Told, ended, look};
 use crate::top::{By, top};
 use crate::typed::{next_word, number_of};
+use crate::watch::Watch;
 use crate::word::{Word, word_of};
 use lb_command::{CommandFault, FaultKind, Listener};
 use lb_desk::{Desk, Naming};
@@ -22,14 +24,15 @@ use std::sync::{Arc, Wait};
 use std::time::{Clock, Instant};
 
 /// What `help` says, a line each.
-const HELP: [&str; 37] = [
+const HELP: [&str; 38] = [
     "help                                 these lines",
     "version                              the program, and for how many seconds it has run",
     "quit                                 closes this connection",
     "stop                                 ends serving, and says how many calls the desk had",
     "rules                                each rule: its number, its place, how many walks it ended, its text",
     "rules ID                             the rule with this number, whole",
-    "servers                              each server: its number, name and address, its state and counts",
+    "servers                              each server: its number, name and address, its state and counts,",
+    "                                     for how many seconds it is up or down, and its last probe",
     "pools                                each pool: its policy, its servers that are up, its cache",
     "caches                               each cache: what it keeps of what it may keep, its hits",
     "counters                             counts of events, answers and failed sends",
@@ -76,8 +79,8 @@ pub enum Heard {
 }
 
 /// What the words of the console need beside the desk: what the setup file states of listeners and
-/// the log, when serving began, the last queries that ended, and the counts of
-/// failed sends and of probes.
+/// the log, when serving began, the last queries that ended, what the loops count, and what the
+/// last look saw.
 #[derive(Drop)]
 pub struct Words {
     alloc: Global,
@@ -86,6 +89,7 @@ pub struct Words {
     began: Option<Instant>,
     rings: Rings,
     sends: Arc<Sends>,
+    watch: Watch,
 }
 
 impl Words {
@@ -105,7 +109,21 @@ impl Words {
             began: Instant::now(rt).ok(),
             rings,
             sends,
+            watch: Watch::new(alloc),
         })
+    }
+
+    /// What changed since this was asked last, as sentences: servers that went down or came up, and
+    /// what was lacking. The first time nothing did. The one error is lack of memory: then the next
+    /// time says it.
+    pub fn changes<R: Wait + Clock, J: Naming>(
+        &mut self,
+        rt: &R,
+        desk: &Desk<J>,
+    ) -> Result<Vec<String>, AllocError> {
+        let told = look(rt, self.alloc, desk)?;
+        let now = self.ran(rt);
+        self.watch.changes(&told, &self.sends, now)
     }
 
     /// What a line that is no command says. The one error is want of memory.
@@ -217,7 +235,7 @@ impl Words {
             Word::Help => help(alloc)?,
             Word::Version => self.version(rt)?,
             Word::Rules => lists::rules(rt, alloc, desk)?,
-            Word::Servers => lists::servers(alloc, &look(rt, alloc, desk)?)?,
+            Word::Servers => self.servers(rt, &look(rt, alloc, desk)?)?,
             Word::Pools => lists::pools(alloc, &look(rt, alloc, desk)?)?,
             Word::Caches => lists::caches(alloc, &look(rt, alloc, desk)?)?,
             Word::Counters => lists::counters(
@@ -242,6 +260,16 @@ impl Words {
             }
             Word::Top => return Ok(Heard::Fault(fault(end, FaultKind::Missing))),
         }))
+    }
+
+    /// What `servers` says.
+    fn servers<R: Clock>(&self, rt: &R, told: &Told) -> Result<String, AllocError> {
+        let beside = Beside {
+            watch: &self.watch,
+            sends: &self.sends,
+            now: self.ran(rt),
+        };
+        lists::servers(self.alloc, told, beside)
     }
 
     /// All counts, as a page for Prometheus: what the word `metrics` says without its last line,

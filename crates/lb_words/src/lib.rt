@@ -9,8 +9,10 @@ mod heard;
 mod lines;
 mod lists;
 mod metrics;
+mod process;
 mod recent;
 mod rules;
+mod seen;
 mod setup;
 mod texts;
 mod told;
@@ -21,5 +23,4 @@ mod word;
 
 pub use event::{event_line, has_lacked};
 pub use heard::{Heard, Words};
-pub use watch::Watch;
 pub use word::{Word, word_of};

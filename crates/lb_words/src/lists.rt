@@ -2,12 +2,13 @@
 
 use crate::lines::Lines;
 use crate::rules::{Extent, rule_text};
+use crate::seen::Beside;
 use crate::texts::{mode_word, policy_word, pool_named, pool_word, push_addr, push_number};
 use crate::told::{Backend, Counted, Store, Told, look, place_of, rule_at};
 use lb_command::{Listener, Protocol};
 use lb_core::{CacheCounts, Count, ServerCounts};
 use lb_desk::{Desk, Naming};
-use lb_sends::Sends;
+use lb_sends::{Clients, Closing, Refusal, Sends};
 use lb_servers::{Mode, Pool};
 use lb_wire::{Addr, RuleId};
 use std::alloc::{AllocError, Global};
@@ -63,16 +64,21 @@ fn rule_line(
 }
 
 /// Servers.
-pub(crate) fn servers(alloc: Global, told: &Told) -> Result<String, AllocError> {
+pub(crate) fn servers(alloc: Global, told: &Told, beside: Beside) -> Result<String, AllocError> {
     let mut lines = Lines::new(alloc);
     for backend in &told.servers {
-        let line = server_line(alloc, backend, told.pools.as_slice())?;
+        let line = server_line(alloc, backend, told.pools.as_slice(), beside)?;
         lines.add(line.as_str())?;
     }
     lines.ended()
 }
 
-fn server_line(alloc: Global, backend: &Backend, pools: &[Pool]) -> Result<String, AllocError> {
+fn server_line(
+    alloc: Global,
+    backend: &Backend,
+    pools: &[Pool],
+    beside: Beside,
+) -> Result<String, AllocError> {
     let server = &backend.loaded.server;
     let number = server.id.0;
     let name = server.name.as_str();
@@ -90,8 +96,9 @@ fn server_line(alloc: Global, backend: &Backend, pools: &[Pool]) -> Result<Strin
         replied,
         expired,
     } = backend.counts;
+    let seen = beside.seen_text(alloc, server.id)?;
     format!(in alloc;
-        "server {number} {name} {at} {port} {state} mode {mode} order {order} lanes {lanes} pools {pools} outstanding {outstanding} forwarded {forwarded} replied {replied} expired {expired}"
+        "server {number} {name} {at} {port} {state} mode {mode} order {order} lanes {lanes} pools {pools} outstanding {outstanding} forwarded {forwarded} replied {replied} expired {expired} {seen}"
     )
 }
 
@@ -296,14 +303,51 @@ fn add_sends(alloc: Global, lines: &mut Lines, sends: &Sends) -> Result<(), Allo
     lines.add(line.as_str())?;
     let line = format!(in alloc; "lb_probes_failed_total {failed}")?;
     lines.add(line.as_str())?;
-    let (clients, connected) = (sends.clients(), sends.connected());
-    let line = format!(in alloc; "lb_clients_total{{kind=\"tcp\"}} {clients}")?;
+    let lacked = sends.lacked_descriptors();
+    let line = format!(in alloc; "lb_descriptors_lacking_total {lacked}")?;
     lines.add(line.as_str())?;
-    let line = format!(in alloc; "lb_connections{{kind=\"tcp\"}} {connected}")?;
-    lines.add(line.as_str())?;
-    let turned_away = sends.turned_away();
-    let line = format!(in alloc; "lb_clients_refused_total{{why=\"source\"}} {turned_away}")?;
-    lines.add(line.as_str())
+    for (kind, clients) in kinds(sends) {
+        let (taken, connected) = (clients.taken(), clients.connected());
+        let line = format!(in alloc; "lb_clients_total{{kind=\"{kind}\"}} {taken}")?;
+        lines.add(line.as_str())?;
+        let line = format!(in alloc; "lb_connections{{kind=\"{kind}\"}} {connected}")?;
+        lines.add(line.as_str())?;
+    }
+    for (kind, why, count) in refusals(sends) {
+        let name = "lb_clients_refused_total";
+        let line = format!(in alloc; "{name}{{kind=\"{kind}\",why=\"{why}\"}} {count}")?;
+        lines.add(line.as_str())?;
+    }
+    for (kind, why, count) in closings(sends) {
+        let name = "lb_clients_closed_total";
+        let line = format!(in alloc; "{name}{{kind=\"{kind}\",why=\"{why}\"}} {count}")?;
+        lines.add(line.as_str())?;
+    }
+    Ok(())
+}
+
+/// The clients of each protocol that holds connections.
+pub(crate) fn kinds(sends: &Sends) -> [(&'static str, &Clients); 2] {
+    [("tcp", sends.tcp()), ("http", sends.http())]
+}
+
+/// How many clients were closed at once, by protocol and reason.
+pub(crate) fn refusals(sends: &Sends) -> [(&'static str, &'static str, u64); 3] {
+    let (tcp, http) = (sends.tcp(), sends.http());
+    [
+        ("tcp", "source", tcp.refused(Refusal::Source)),
+        ("tcp", "full", tcp.refused(Refusal::Full)),
+        ("http", "full", http.refused(Refusal::Full)),
+    ]
+}
+
+/// How many clients were closed that had not closed their own side, by protocol and reason.
+pub(crate) fn closings(sends: &Sends) -> [(&'static str, &'static str, u64); 2] {
+    let tcp = sends.tcp();
+    [
+        ("tcp", "idle", tcp.closed(Closing::Idle)),
+        ("tcp", "unread", tcp.closed(Closing::Unread)),
+    ]
 }
 
 /// A listener as its line of the setup file has it.

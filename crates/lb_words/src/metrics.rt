@@ -1,10 +1,11 @@
 //! All counts in the text format of Prometheus, each with its type and a sentence.
 
 use crate::lines::Lines;
-use crate::lists::{ANSWERS, EVENTS, is_up, listener_text, pool_with};
+use crate::lists::{ANSWERS, EVENTS, closings, is_up, kinds, listener_text, pool_with, refusals};
+use crate::process::Process;
 use crate::told::{Ended, Told};
 use lb_command::{Listener, Protocol};
-use lb_sends::Sends;
+use lb_sends::{ReplyTimes, Sends};
 use std::alloc::{AllocError, Global};
 
 /// The type of a family of figures.
@@ -14,7 +15,15 @@ enum Kind {
     Counter,
     /// It is a current number.
     Gauge,
+    /// It has counts by bounds, with their number and their sum.
+    Histogram,
 }
+
+/// The bounds of the times of replies, in seconds.
+const BOUNDS: [&str; 14] = [
+    "0.001", "0.002", "0.004", "0.008", "0.016", "0.032", "0.064", "0.128", "0.256", "0.512",
+    "1.024", "2.048", "4.096", "+Inf",
+];
 
 /// The figures that are collected, family by family.
 #[derive(Debug, Drop)]
@@ -37,6 +46,7 @@ impl Page {
         let kind = match kind {
             Kind::Counter => "counter",
             Kind::Gauge => "gauge",
+            Kind::Histogram => "histogram",
         };
         let line = format!(in self.alloc; "# HELP {name} {help}")?;
         self.lines.add(line.as_str())?;
@@ -62,6 +72,35 @@ impl Page {
         self.lines.add(line.as_str())
     }
 
+    /// A figure of a family, with its protocol and its reason.
+    fn explained(
+        &mut self,
+        name: &str,
+        kind: &str,
+        why: &str,
+        value: u64,
+    ) -> Result<(), AllocError> {
+        let line = format!(in self.alloc; "{name}{{kind=\"{kind}\",why=\"{why}\"}} {value}")?;
+        self.lines.add(line.as_str())
+    }
+
+    /// The times of a server: how many replies took no longer than each bound, and all of them.
+    fn times(&mut self, name: &str, server: &str, times: &ReplyTimes) -> Result<(), AllocError> {
+        let mut count = 0u64;
+        for (counted, bound) in times.counts.iter().zip(BOUNDS) {
+            count = count.saturating_add(*counted);
+            let line = format!(in self.alloc;
+                "{name}_bucket{{server=\"{server}\",le=\"{bound}\"}} {count}"
+            )?;
+            self.lines.add(line.as_str())?;
+        }
+        let (seconds, rest) = (times.sum / 1_000, times.sum % 1_000);
+        let line = format!(in self.alloc; "{name}_sum{{server=\"{server}\"}} {seconds}.{rest:03}")?;
+        self.lines.add(line.as_str())?;
+        let line = format!(in self.alloc; "{name}_count{{server=\"{server}\"}} {count}")?;
+        self.lines.add(line.as_str())
+    }
+
     /// A figure of a family, with the number of what it is of.
     fn numbered(&mut self, name: &str, label: &str, of: u64, value: u64) -> Result<(), AllocError> {
         let line = format!(in self.alloc; "{name}{{{label}=\"{of}\"}} {value}")?;
@@ -82,10 +121,13 @@ pub(crate) fn metrics(
     of_listeners(&mut page, told, listeners)?;
     of_events(&mut page, told)?;
     of_sends(&mut page, sends)?;
+    of_clients(&mut page, sends)?;
     of_rules(&mut page, ended)?;
     of_servers(&mut page, told)?;
+    of_replies(&mut page, told, sends)?;
     of_caches(&mut page, told)?;
     of_the_whole(&mut page, told, seconds)?;
+    of_process(&mut page, Process::look())?;
     Ok(page.lines)
 }
 
@@ -141,19 +183,53 @@ fn of_sends(page: &mut Page, sends: &Sends) -> Result<(), AllocError> {
     let name = "lb_probes_failed_total";
     page.family(name, Kind::Counter, "Probes that could not be sent.")?;
     page.figure(name, sends.failed_probes())?;
+    let name = "lb_descriptors_lacking_total";
+    page.family(
+        name,
+        Kind::Counter,
+        "How often no descriptor was left for a client over TCP or a connection to a server.",
+    )?;
+    page.figure(name, sends.lacked_descriptors())
+}
+
+fn of_clients(page: &mut Page, sends: &Sends) -> Result<(), AllocError> {
     let name = "lb_clients_total";
-    page.family(name, Kind::Counter, "Clients over TCP that were taken in.")?;
-    page.labelled(name, "kind", "tcp", sends.clients())?;
+    page.family(
+        name,
+        Kind::Counter,
+        "Clients that were taken in, by the protocol.",
+    )?;
+    for (kind, clients) in kinds(sends) {
+        page.labelled(name, "kind", kind, clients.taken())?;
+    }
     let name = "lb_connections";
-    page.family(name, Kind::Gauge, "Clients over TCP that are connected.")?;
-    page.labelled(name, "kind", "tcp", sends.connected())?;
+    page.family(
+        name,
+        Kind::Gauge,
+        "Clients that are connected, by the protocol.",
+    )?;
+    for (kind, clients) in kinds(sends) {
+        page.labelled(name, "kind", kind, clients.connected())?;
+    }
     let name = "lb_clients_refused_total";
     page.family(
         name,
         Kind::Counter,
-        "Clients over TCP that were closed at once, by the reason.",
+        "Clients that were closed at once, by the reason.",
     )?;
-    page.labelled(name, "why", "source", sends.turned_away())
+    for (kind, why, count) in refusals(sends) {
+        page.explained(name, kind, why, count)?;
+    }
+    let name = "lb_clients_closed_total";
+    page.family(
+        name,
+        Kind::Counter,
+        "Clients that were closed before they closed their side, by the reason.",
+    )?;
+    for (kind, why, count) in closings(sends) {
+        page.explained(name, kind, why, count)?;
+    }
+    Ok(())
 }
 
 fn of_rules(page: &mut Page, ended: &[Ended]) -> Result<(), AllocError> {
@@ -203,6 +279,23 @@ fn of_servers(page: &mut Page, told: &Told) -> Result<(), AllocError> {
     for backend in &told.servers {
         let server = backend.loaded.server.name.as_str();
         page.labelled(name, "server", server, backend.counts.expired)?;
+    }
+    Ok(())
+}
+
+/// The times of replies, of each server that has replied.
+fn of_replies(page: &mut Page, told: &Told, sends: &Sends) -> Result<(), AllocError> {
+    let name = "lb_reply_seconds";
+    page.family(
+        name,
+        Kind::Histogram,
+        "How long a server took for replies for clients.",
+    )?;
+    for backend in &told.servers {
+        let server = &backend.loaded.server;
+        if let Some(times) = sends.reply_times(server.id) {
+            page.times(name, server.name.as_str(), &times)?;
+        }
     }
     Ok(())
 }
@@ -265,6 +358,21 @@ fn of_the_whole(page: &mut Page, told: &Told, seconds: u64) -> Result<(), AllocE
     let name = "lb_running_seconds";
     page.family(name, Kind::Gauge, "For how many seconds it has run.")?;
     page.figure(name, seconds)
+}
+
+/// What the system says of the process; what can't be read is left out.
+fn of_process(page: &mut Page, process: Process) -> Result<(), AllocError> {
+    if let Some(octets) = process.resident {
+        let name = "process_resident_memory_bytes";
+        page.family(name, Kind::Gauge, "Resident memory size in bytes.")?;
+        page.figure(name, octets)?;
+    }
+    if let Some(descriptors) = process.descriptors {
+        let name = "process_open_fds";
+        page.family(name, Kind::Gauge, "Number of open file descriptors.")?;
+        page.figure(name, descriptors)?;
+    }
+    Ok(())
 }
 
 /// 1 if it is so, else 0.

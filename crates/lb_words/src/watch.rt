@@ -1,13 +1,12 @@
 //! What changed since the last look, as sentences.
 
 use crate::lists::{at_text, is_up};
-use crate::told::{Backend, Told, look};
+use crate::told::{Backend, Told};
 use lb_core::Count;
-use lb_desk::{Desk, Naming};
+use lb_sends::{Refusal, Sends};
 use lb_servers::Mode;
 use lb_wire::ServerId;
 use std::alloc::{AllocError, Global};
-use std::sync::Wait;
 
 /// What was seen of a server.
 #[derive(Clone, Copy, Debug)]
@@ -15,61 +14,106 @@ struct Seen {
     id: ServerId,
     mode: Mode,
     is_up: bool,
+    /// When it was first seen so, in milliseconds.
+    since: u64,
+}
+
+/// What had been lacking by the last look.
+#[derive(Clone, Copy, Debug, PartialEq, Eq)]
+struct Lacked {
+    /// Replies that found their cache full of live ones.
+    room: u64,
+    /// Events for which memory was refused.
+    memory: u64,
+    descriptors: u64,
+    /// Messages that found the outbox full.
+    outbox: u64,
+    /// Clients of DNS on HTTP that were closed at once.
+    http: u64,
+    /// Whether as many clients over TCP were connected as may be.
+    is_full: bool,
+}
+
+impl Lacked {
+    /// What has been lacking until now.
+    fn by_now(told: &Told, sends: &Sends) -> Lacked {
+        let queries = told.counts.get(Count::LackedMemory);
+        Lacked {
+            room: told.counts.get(Count::NoRoom),
+            memory: queries.saturating_add(told.counts.get(Count::NotKeptForMemory)),
+            descriptors: sends.lacked_descriptors(),
+            outbox: sends.full(),
+            http: sends.http().refused(Refusal::Full),
+            is_full: sends.tcp().is_full(),
+        }
+    }
 }
 
 /// What was seen at the last look.
 #[derive(Debug, Drop)]
-pub struct Watch {
+pub(crate) struct Watch {
     alloc: Global,
     servers: Vec<Seen>,
-    /// Replies that found their cache full of live ones, and events for which memory was refused.
-    no_room: u64,
-    no_memory: u64,
-    has_looked: bool,
+    /// None before the first look.
+    lacked: Option<Lacked>,
 }
 
 impl Watch {
     /// Nothing was seen yet. It takes no memory.
-    pub fn new(alloc: Global) -> Watch {
+    pub(crate) fn new(alloc: Global) -> Watch {
         Watch {
             alloc,
             servers: Vec::new(alloc),
-            no_room: 0,
-            no_memory: 0,
-            has_looked: false,
+            lacked: None,
         }
     }
 
-    /// Looks, and says what changed since the last look: servers that went down or came up, the
-    /// first reply that a full cache had no room for, and refused memory. The first look says
-    /// nothing. The one error is want of memory: then the next look says it.
-    pub fn changes<R: Wait, J: Naming>(
+    /// Says what changed since the last look: servers that went down or came up, and what was
+    /// lacking. The first look says nothing. The one error is lack of memory: then the next look
+    /// says it.
+    pub(crate) fn changes(
         &mut self,
-        rt: &R,
-        desk: &Desk<J>,
+        told: &Told,
+        sends: &Sends,
+        now: u64,
     ) -> Result<Vec<String>, AllocError> {
-        let told = look(rt, self.alloc, desk)?;
         let mut said = Vec::new(self.alloc);
+        let servers = self.seen(told, now, &mut said)?;
+        let lacked = Lacked::by_now(told, sends);
+        if let Some(before) = self.lacked {
+            say_lacks(self.alloc, &before, &lacked, &mut said)?;
+            say_full(self.alloc, &before, sends, &mut said)?;
+        }
+        self.servers = servers;
+        self.lacked = Some(lacked);
+        Ok(said)
+    }
+
+    /// What is seen of the servers now. Says of which of them that is new.
+    fn seen(&self, told: &Told, now: u64, said: &mut Vec<String>) -> Result<Vec<Seen>, AllocError> {
         let mut servers = Vec::with_capacity(self.alloc, told.servers.len())?;
         for backend in &told.servers {
-            let now = Seen {
+            let mut seen = Seen {
                 id: backend.loaded.server.id,
                 mode: backend.loaded.server.mode,
                 is_up: is_up(backend),
+                since: now,
             };
-            if let Some(was) = self.was(now.id)
-                && was.is_up != now.is_up
-            {
-                said.push(change(self.alloc, backend, was.mode == now.mode)?)?;
+            if let Some(was) = self.was(seen.id) {
+                if was.is_up == seen.is_up {
+                    seen.since = was.since;
+                } else {
+                    said.push(change(self.alloc, backend, was.mode == seen.mode)?)?;
+                }
             }
-            servers.push(now)?;
+            servers.push(seen)?;
         }
-        self.say_lacks(&told, &mut said)?;
-        self.servers = servers;
-        self.no_room = told.counts.get(Count::NoRoom);
-        self.no_memory = refused_memory(&told);
-        self.has_looked = true;
-        Ok(said)
+        Ok(servers)
+    }
+
+    /// Since when a server is up or down as it was at the last look, in milliseconds.
+    pub(crate) fn since(&self, id: ServerId) -> Option<u64> {
+        Some(self.was(id)?.since)
     }
 
     /// What was seen of a server at the last look, if it was there.
@@ -81,28 +125,67 @@ impl Watch {
         }
         None
     }
-
-    /// Says what was lacking since the last look.
-    fn say_lacks(&self, told: &Told, said: &mut Vec<String>) -> Result<(), AllocError> {
-        if self.has_looked && self.no_room == 0 && told.counts.get(Count::NoRoom) > 0 {
-            let words = "a cache is full of replies that are still valid, and turns new ones away";
-            said.push(String::from_str(self.alloc, words)?)?;
-        }
-        let lacked = refused_memory(told).saturating_sub(self.no_memory);
-        if self.has_looked && lacked > 0 {
-            let words = format!(in self.alloc;
-                "memory was refused for {lacked} queries and replies"
-            )?;
-            said.push(words)?;
-        }
-        Ok(())
-    }
 }
 
-/// How many queries and replies lacked memory.
-fn refused_memory(told: &Told) -> u64 {
-    let queries = told.counts.get(Count::LackedMemory);
-    queries.saturating_add(told.counts.get(Count::NotKeptForMemory))
+/// Says what has been lacking since a look.
+fn say_lacks(
+    alloc: Global,
+    before: &Lacked,
+    now: &Lacked,
+    said: &mut Vec<String>,
+) -> Result<(), AllocError> {
+    if before.room == 0 && now.room > 0 {
+        let words = "a cache is full of replies that are still valid, and turns new ones away";
+        said.push(String::from_str(alloc, words)?)?;
+    }
+    let lacked = now.memory.saturating_sub(before.memory);
+    if lacked > 0 {
+        said.push(format!(in alloc; "memory was refused for {lacked} queries and replies")?)?;
+    }
+    let lacked = now.descriptors.saturating_sub(before.descriptors);
+    if lacked > 0 {
+        said.push(format!(in alloc;
+            "no descriptor was left, {lacked} times, for a client over TCP or a connection to a server"
+        )?)?;
+    }
+    let lost = now.outbox.saturating_sub(before.outbox);
+    if lost > 0 {
+        said.push(format!(in alloc;
+            "the outbox to the loop of TCP was full, and {lost} answers are lost"
+        )?)?;
+    }
+    Ok(())
+}
+
+/// Says that no more clients are taken in, or that they are again.
+fn say_full(
+    alloc: Global,
+    before: &Lacked,
+    sends: &Sends,
+    said: &mut Vec<String>,
+) -> Result<(), AllocError> {
+    let is_full = sends.tcp().is_full();
+    if is_full && !before.is_full {
+        let most = sends.tcp().most();
+        said.push(format!(in alloc;
+            "{most} clients over TCP are connected, as many as may be: others wait or are closed"
+        )?)?;
+    }
+    if before.is_full && !is_full {
+        let words = "clients over TCP are taken in again";
+        said.push(String::from_str(alloc, words)?)?;
+    }
+    let closed = sends
+        .http()
+        .refused(Refusal::Full)
+        .saturating_sub(before.http);
+    if closed > 0 {
+        let most = sends.http().most();
+        said.push(format!(in alloc;
+            "{closed} clients of DNS on HTTP were closed at once, as {most} were connected"
+        )?)?;
+    }
+    Ok(())
 }
 
 /// How a server changed: by its probes, or with its mode.
