@@ -1,7 +1,7 @@
 //! How long turns of streams and of the clock take, over sockets in memory and a desk.
 
-use crate::desk::{Figures, Work, at_desk};
-use crate::turns::{Open, PEER, QUERY, is_ruled, less, query};
+use crate::asked::{Open, PEER, QUERY, is_ruled, less, query};
+use crate::desk::{Figures, at_desk};
 use lb_core::Balancer;
 use lb_desk::{Desk, Naming, Seat};
 use lb_loops::{
@@ -18,7 +18,6 @@ use std::alloc::{AllocError, Global};
 use std::collections::VecDeque;
 use std::io;
 use std::sync::{Arc, Mutex, Wait};
-use std::thread::Threads;
 use std::time::{Clock, Instant};
 
 /// How many turns are timed together.
@@ -43,12 +42,9 @@ const IDLE: u64 = 1_024;
 const SERVERS: u64 = 256;
 
 /// Times refused queries by calls and by turns of streams, clients that come and go, idle clients, and the clock.
-pub(crate) fn time_loops<R: Threads + Wait + Clock + Sync>(
-    rt: &HostRuntime,
-    starts: &R,
-) -> io::Result<()> {
+pub(crate) fn time_loops<R: Wait + Clock>(rt: &HostRuntime, waits: &R) -> io::Result<()> {
     let balancer = Balancer::new(rt.alloc())?;
-    let times = at_desk(starts, rt.alloc(), balancer, 0, Work::Loops)?;
+    let times = at_desk(waits, rt.alloc(), balancer)?;
     let (call, query, client) = (times.call, times.query, times.client);
     let (empty, idle, clock) = (times.empty, times.idle, times.clock);
     eprintln!(rt; "a refused query by a call: {call} ns, by a turn of streams: {query} ns")?;

@@ -50,8 +50,59 @@ pub(crate) struct Span {
 }
 
 impl Head {
-    /// The labels of a name on the wire from the root in lower case, each after its length, and these octets behind them.
+    /// Room for octets, and none yet.
     #[inline(always)]
+    pub(crate) fn empty() -> Head
+        ensures { result ≡ [] }
+    {
+        Head {
+            octets: [0; HEAD],
+            start: HEAD,
+        }
+    }
+
+    /// Lays the labels of a name on the wire from the root in lower case, each after its length, and
+    /// these octets after them.
+    #[inline(always)]
+    fn lay(&mut self, wire: &[u8], tail: &[u8])
+        requires name { IsWire wire.now }
+        requires few { length tail.now ≤ 4 }
+        ensures octets { self.new ≡ key_of_name (labels_of wire.now) ++ tail.now }
+        ensures name { IsName (lower_name (labels_of wire.now)) }
+        ensures back { SplitsBack }
+        ensures on { LabelsGoOn }
+    {
+        let end = HEAD - tail.len();
+        self.octets[end..].copy_from_slice(tail);
+        self.start = put_key(&mut self.octets, end, wire);
+    }
+
+    /// Lays what stands before a key that has no question.
+    fn lay_unasked(&mut self)
+        ensures { self.new ≡ 255 ∷ [] }
+    {
+        *self = Head {
+            octets: [NO_QUESTION; HEAD],
+            start: HEAD - 1,
+        };
+    }
+
+    /// Lays what stands before a key's octets where it is filed. It is laid in place, as each move of
+    /// a head copies all of its room.
+    #[inline(always)]
+    pub(crate) fn lay_before(&mut self, octets: &[u8])
+        ensures { self.new ≡ head_of_question (question_of_key octets.now) }
+    {
+        match question_of(octets) {
+            Some((name, rtype)) => self.lay(
+                name,
+                &[0, (rtype / 256) as u8, (rtype % 256) as u8, 0],
+            ),
+            None => self.lay_unasked(),
+        }
+    }
+
+    /// The labels of a name on the wire and these octets, as `lay` lays them.
     fn of(wire: &[u8], tail: &[u8]) -> Head
         requires name { IsWire wire.now }
         requires few { length tail.now ≤ 4 }
@@ -60,21 +111,9 @@ impl Head {
         ensures back { SplitsBack }
         ensures on { LabelsGoOn }
     {
-        let mut octets = [0; HEAD];
-        let end = HEAD - tail.len();
-        octets[end..].copy_from_slice(tail);
-        let start = put_key(&mut octets, end, wire);
-        Head { octets, start }
-    }
-
-    /// What stands before a key that has no question.
-    fn unasked() -> Head
-        ensures { result ≡ 255 ∷ [] }
-    {
-        Head {
-            octets: [NO_QUESTION; HEAD],
-            start: HEAD - 1,
-        }
+        let mut head = Head::empty();
+        head.lay(wire, tail);
+        head
     }
 
     /// The octets.
@@ -83,17 +122,6 @@ impl Head {
     {
         let (_, octets) = self.octets.split_at(self.start);
         octets
-    }
-}
-
-/// What stands before a key's octets where it is filed.
-#[inline(always)]
-pub(crate) fn head_of(octets: &[u8]) -> Head
-    ensures { result ≡ head_of_question (question_of_key octets.now) }
-{
-    match question_of(octets) {
-        Some((name, rtype)) => Head::of(name, &[0, (rtype / 256) as u8, (rtype % 256) as u8, 0]),
-        None => Head::unasked(),
     }
 }
 

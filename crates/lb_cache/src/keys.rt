@@ -8,7 +8,7 @@ ghost use Rattle.lb_ranks.specs.declared.filed.Filed.{Filed};
 ghost use Rattle.lb_cache.specs.Keys.{is_filed_within, is_within, key_with, without_key};
 ghost use Rattle.lb_cache.specs.Reply.{cmp_key};
 
-use crate::filing::{Span, head_of};
+use crate::filing::{Head, Span};
 use lb_ranks::Ranks;
 use lb_wire::Kind;
 use std::alloc::{AllocError, Global};
@@ -61,7 +61,8 @@ impl Keys {
     pub(crate) fn get(&self, kind: Kind, octets: &[u8]) -> Option<u64>
         ensures { result ≡ find cmp_key (key_with kind octets.now) self.now }
     {
-        let head = head_of(octets);
+        let mut head = Head::empty();
+        head.lay_before(octets);
         match kind {
             Kind::Datagram => self.datagrams.next_joined(head.as_slice(), octets, 0),
             Kind::Stream => self.streams.next_joined(head.as_slice(), octets, 0),
@@ -74,7 +75,8 @@ impl Keys {
         ensures put { OnOk result (self.new ≡ put cmp_key (key_with kind octets.now) slot self.old) }
         ensures kept { OnErr result (self.new ≡ self.old) }
     {
-        let head = head_of(octets);
+        let mut head = Head::empty();
+        head.lay_before(octets);
         match kind {
             Kind::Datagram => self.datagrams.file_joined(head.as_slice(), octets, slot),
             Kind::Stream => self.streams.file_joined(head.as_slice(), octets, slot),
@@ -86,7 +88,8 @@ impl Keys {
         requires { find cmp_key (key_with kind octets.now) self.old ≡ Some slot }
         ensures { self.new ≡ without_key (key_with kind octets.now) self.old }
     {
-        let head = head_of(octets);
+        let mut head = Head::empty();
+        head.lay_before(octets);
         match kind {
             Kind::Datagram => self.datagrams.unfile_joined(head.as_slice(), octets, slot),
             Kind::Stream => self.streams.unfile_joined(head.as_slice(), octets, slot),

@@ -5,7 +5,7 @@ ghost use Rattle.std.specs.List.{All};
 ghost use Rattle.lb_wire.specs.declared.query.QueryView.{QueryView};
 ghost use Rattle.lb_wire.specs.declared.transport.Kind.{Kind as KindValue};
 ghost use Rattle.lb_chain.specs.Chain.{AreRules};
-ghost use Rattle.lb_chain.specs.Walk.{walk_of};
+ghost use Rattle.lb_chain.specs.Walk.{no_rule, walk_of};
 ghost use Rattle.lb_chain.specs.Edits.{no_rules, added, removed, moved, lacks};
 ghost use Rattle.lb_chain.specs.Listed.{listed_of, HasOwnLimiters};
 ghost use Rattle.lb_chain.specs.Counting.{reserved_rules, passed_rules, counted, RulesReady, PartlyReserved};
@@ -212,7 +212,26 @@ impl Chain {
         requires { self.now.moment ≤ now }
         ensures { result ≡ walk_of self.now.rules view.now addr.now kind now }
     {
-        walk_rules(self.rules.as_slice(), &self.offers, view, addr, kind, now)
+        let mut walked = Walked::begun();
+        self.walk_into(view, addr, kind, now, &mut walked);
+        walked
+    }
+
+    /// The same walk, which is written where it is to stand, as it has many octets.
+    pub fn walk_into(
+        &self,
+        view: &QueryView,
+        addr: &Addr,
+        kind: Kind,
+        now: u64,
+        walked: &mut Walked,
+    )
+        requires moment { self.now.moment ≤ now }
+        requires begun { walked.old ≡ no_rule }
+        ensures { walked.new ≡ walk_of self.now.rules view.now addr.now kind now }
+    {
+        let rules = self.rules.as_slice();
+        walk_rules(rules, &self.offers, view, addr, kind, now, walked);
     }
 
     /// Takes the memory for counting the passes of a walk of this chain for that address and moment. Where it is refused,

@@ -1,6 +1,6 @@
 //! The walk of a query through the rules.
 
-ghost use Rattle.std.specs.Prelude.{◌≡◌, ◌≤◌, ◌+◌, ◌++◌, IsTrue, length, map, true};
+ghost use Rattle.std.specs.Prelude.{◌≡◌, ◌≤◌, ◌+◌, ◌++◌, false, IsTrue, length, map, None, Some, true};
 ghost use Rattle.lb_wire.specs.declared.addr.Addr.{Addr as AddrValue};
 ghost use Rattle.lb_wire.specs.declared.query.QueryView.{QueryView as ViewValue};
 ghost use Rattle.std.specs.List.{All, list_any};
@@ -9,7 +9,7 @@ ghost use Rattle.lb_terms.specs.Truth.{limiters_of};
 ghost use Rattle.lb_chain.specs.Edits.{limiters_in};
 ghost use Rattle.lb_chain.specs.FirstAsked.{may_hold};
 ghost use Rattle.lb_chain.specs.Offers.{AreOffers, terms_of};
-ghost use Rattle.lb_chain.specs.Walk.{answers as answers_of, ending_of as ending_of_action, is_no_recurse as is_no_recurse_of, is_skip_cache as is_skip_cache_of, passes_of, truth_of, walk_of, IsHeld};
+ghost use Rattle.lb_chain.specs.Walk.{answers as answers_of, ending_of as ending_of_action, is_no_recurse as is_no_recurse_of, is_skip_cache as is_skip_cache_of, no_rule, passes_of, truth_of, walk_of, IsHeld};
 
 use crate::action::Action;
 use crate::numbered::Numbered;
@@ -32,30 +32,33 @@ fn answers(view: &QueryView, addrs: &[Addr]) -> bool
     view.qclass.0 == Class::IN.0 && one_fits(view.qtype, addrs)
 }
 
-/// The verdict of an action that ends the walk for a query of this transport.
-fn ending_of(action: &Action, view: &QueryView, kind: Kind) -> Option<Verdict>
-    ensures { result ≡ ending_of_action action.now view.now kind }
+/// Whether an action ends the walk for a query of this transport. If so, its verdict is written
+/// where it is to stand, as a verdict has many octets; else nothing is written.
+fn ends(action: &Action, view: &QueryView, kind: Kind, verdict: &mut Verdict) -> bool
+    ensures ended { IsTrue result → ending_of_action action.now view.now kind ≡ Some verdict.new }
+    ensures open { result ≡ false → ending_of_action action.now view.now kind ≡ None }
+    ensures unwritten { result ≡ false → verdict.new ≡ verdict.old }
 {
     match action {
-        Action::Allow => Some(Verdict::Allow),
-        Action::Drop => Some(Verdict::Drop),
-        Action::Rcode(rcode) => Some(Verdict::Rcode(*rcode)),
-        Action::Pool(pool) => Some(Verdict::Pool(*pool)),
+        Action::Allow => *verdict = Verdict::Allow,
+        Action::Drop => *verdict = Verdict::Drop,
+        Action::Rcode(rcode) => *verdict = Verdict::Rcode(*rcode),
+        Action::Pool(pool) => *verdict = Verdict::Pool(*pool),
         Action::Tc => match kind {
-            Kind::Datagram => Some(Verdict::Tc),
-            Kind::Stream => None,
+            Kind::Datagram => *verdict = Verdict::Tc,
+            Kind::Stream => return false,
         },
         Action::Spoof(addrs) => {
-            if answers(view, addrs.as_slice()) {
-                Some(Verdict::Spoof(*addrs))
-            } else {
-                None
+            if !answers(view, addrs.as_slice()) {
+                return false;
             }
+            *verdict = Verdict::Spoof(*addrs);
         }
-        Action::None => None,
-        Action::NoRecurse => None,
-        Action::SkipCache => None,
+        Action::None => return false,
+        Action::NoRecurse => return false,
+        Action::SkipCache => return false,
     }
+    true
 }
 
 fn is_no_recurse(action: &Action) -> bool
@@ -117,7 +120,8 @@ fn test_rule(n: &Numbered, view: &QueryView, addr: &Addr, now: u64, passes: &mut
     tested.truth
 }
 
-/// Walks the rules for a query. Those alone are tested that may hold by what they ask first, as no other changes anything.
+/// Walks the rules for a query. Those alone are tested that may hold by what they ask first, as no
+/// other changes anything.
 pub(crate) fn walk_rules(
     rules: &[Numbered],
     offers: &Offers,
@@ -125,31 +129,26 @@ pub(crate) fn walk_rules(
     addr: &Addr,
     kind: Kind,
     now: u64,
-) -> Walked
+    walked: &mut Walked,
+)
+    requires begun { walked.old ≡ no_rule }
     requires limiters { All (λ n. length n.limits ≡ limiters_of n.rule.term) rules.now }
     requires few { limiters_in rules.now ≤ 16 }
     requires moments { All (λ n. All (λ l. l.moment ≤ now) n.limits) rules.now }
     requires offers { AreOffers offers.now (terms_of rules.now) }
-    ensures { result ≡ walk_of rules.now view.now addr.now kind now }
+    ensures { walked.new ≡ walk_of rules.now view.now addr.now kind now }
 {
-    let mut walked = Walked::begun();
     let mut ahead = offers.ahead();
     'rules: while let Some(place) = offers.next(&mut ahead, view, addr) {
         let n = &rules[place];
         walked.tests += 1;
         if test_rule(n, view, addr, now, &mut walked.passes) {
-            match ending_of(&n.rule.action, view, kind) {
-                Some(verdict) => {
-                    walked.rule = Some(n.id);
-                    walked.verdict = verdict;
-                    return walked;
-                }
-                None => {
-                    walked.no_recurse |= is_no_recurse(&n.rule.action);
-                    walked.skip_cache |= is_skip_cache(&n.rule.action);
-                }
+            if ends(&n.rule.action, view, kind, &mut walked.verdict) {
+                walked.rule = Some(n.id);
+                return;
             }
+            walked.no_recurse |= is_no_recurse(&n.rule.action);
+            walked.skip_cache |= is_skip_cache(&n.rule.action);
         }
     }
-    walked
 }

@@ -91,7 +91,8 @@ pub struct Walked {
 
 impl Walked {
     /// A walk that has met no rule yet.
-    pub(crate) fn begun() -> Walked
+    #[inline(always)]
+    pub fn begun() -> Walked
         ensures { result ≡ record { rule = None; verdict = Allow; no_recurse = false; skip_cache = false; passes = []; tests = 0 } }
     {
         Walked {

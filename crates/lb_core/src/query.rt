@@ -93,7 +93,8 @@ fn answer_by_rules(
     seen_walks();
     first_to_end_decides();
     let (source, now) = (&asked.origin.source, asked.moment);
-    let walked = chain.walk(view, source, asked.kind, now);
+    let mut walked = Walked::begun();
+    chain.walk_into(view, source, asked.kind, now, &mut walked);
     if let Err(error) = chain.reserve(&walked, source, now) {
         return no_memory(Lacking::from(error), bytes, view);
     }
@@ -137,19 +138,19 @@ fn decide(
         let routed = to_pool(walked, DEFAULT_POOL);
         return answer_by_pool(alloc, upstream, asked, bytes, view, routed, looked);
     };
-    match walked.verdict {
+    match &walked.verdict {
         Verdict::Allow => {
             let routed = to_pool(walked, DEFAULT_POOL);
             answer_by_pool(alloc, upstream, asked, bytes, view, routed, looked)
         }
         Verdict::Pool(pool) => {
-            let routed = to_pool(walked, pool);
+            let routed = to_pool(walked, *pool);
             answer_by_pool(alloc, upstream, asked, bytes, view, routed, looked)
         }
         Verdict::Drop => Ok(Answer::Dropped(DropReason::Rule(rule))),
-        Verdict::Rcode(rcode) => Ok(refused(bytes, view, rcode, LocalReason::Rule(rule))),
+        Verdict::Rcode(rcode) => Ok(refused(bytes, view, *rcode, LocalReason::Rule(rule))),
         Verdict::Tc => Ok(truncated(bytes, view, rule)),
-        Verdict::Spoof(addrs) => spoof(alloc, bytes, view, &addrs, rule),
+        Verdict::Spoof(addrs) => spoof(alloc, bytes, view, addrs, rule),
     }
 }
 

@@ -1,5 +1,5 @@
 -- What the front's part of the desk tells, and what a request's question does to it.
-use Rattle.std.specs.Prelude.{◌≡◌, ℕ, ◌+◌, ◌⊎◌, List, [], ◌∷◌, ◌++◌, Option, None, Some}
+use Rattle.std.specs.Prelude.{◌≡◌, ℕ, ◌+◌, ◌-◌, ◌^◌, ◌⊎◌, min, List, [], ◌∷◌, ◌++◌, Option, None, Some}
 use Rattle.lb_wire.specs.declared.addr.Origin.{Origin}
 use Rattle.lb_core.specs.declared.answer.Answer.{Answer}
 use Rattle.lb_core.specs.declared.answer.Answer.TheVariants.{Forward}
@@ -13,17 +13,25 @@ use Rattle.lb_outbox.specs.declared.job.Job.{Job}
 use Rattle.lb_outbox.specs.declared.job.Job.TheVariants.{ToServer}
 use Rattle.lb_doh.specs.Next.{Returns, asked}
 
--- what it tells: its sender of the outbox; the answered calls and the pairs of its handler; the stamps that were said, and the failures outside
+-- what it tells: its sender of the outbox, and how many jobs found that full; the answered calls and
+-- the pairs of its handler; the stamps that were said, and the failures outside
 pub record Asking : Type 0 where
   pub outbox : Sending
+  pub lost : ℕ
   pub answered : ℕ
   pub pairs : List (Event × Answer)
   pub said : List Stamp
   pub failures : ℕ
 
--- a job goes behind the others, or is dropped where the outbox is full; nothing else changes
+-- one more job was lost; at 2^64 - 1 the number stays
+abbrev pub one_lost : ℕ → ℕ
+one_lost lost = min (lost + 1) (2 ^ 64 - 1)
+
+-- a job goes after the others, or is dropped and counted if the outbox is full; nothing else changes
 abbrev pub Puts : Job → Asking → Asking → Type 0
-Puts job old new = (new ≡ old) ⊎ (new ≡ record old { outbox = record (old.outbox) { sent = old.outbox.sent ++ job ∷ [] } })
+Puts job old new =
+    (new ≡ record old { lost = one_lost old.lost })
+    ⊎ (new ≡ record old { outbox = record (old.outbox) { sent = old.outbox.sent ++ job ∷ [] } })
 
 -- no event was made, as no moment was had: 503
 pub record Timeless (old new : Asking) (result : Option DohResponse) : Type 0 where

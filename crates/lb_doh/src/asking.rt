@@ -20,6 +20,8 @@ pub struct Asker<T: Taker, O: Outside, W: Waker> {
     sender: Sender,
     outside: O,
     streams: W,
+    /// How many jobs found the outbox full.
+    lost: u64,
 }
 
 impl<T: Taker, O: Outside, W: Waker> Model for Asker<T, O, W> {
@@ -32,13 +34,14 @@ impl<T: Taker, O: Outside, W: Waker> Model for Asker<T, O, W> {
 
     ghost coded = { Prim.hlevel (codes, contract.the_row.coded) };
 
-    ghost view = { λ a. record { outbox = a.sender; answered = T.answered a.taker; pairs = T.pairs a.taker; said = O.said a.outside; failures = O.failures a.outside } };
+    ghost view = { λ a. record { outbox = a.sender; lost = a.lost; answered = T.answered a.taker; pairs = T.pairs a.taker; said = O.said a.outside; failures = O.failures a.outside } };
 }
 
 impl<T: Taker, O: Outside, W: Waker> Asker<T, O, W> {
     /// Asks by this handler and this source, and sends by this sender to the loop of streams.
     pub fn new(taker: T, sender: Sender, outside: O, streams: W) -> Asker<T, O, W>
         ensures outbox { result.outbox ≡ sender }
+        ensures lost { result.lost ≡ 0 }
         ensures desk { (result.answered ≡ T.answered taker) × (result.pairs ≡ T.pairs taker) }
         ensures outside { (result.said ≡ O.said outside) × (result.failures ≡ O.failures outside) }
     {
@@ -47,6 +50,7 @@ impl<T: Taker, O: Outside, W: Waker> Asker<T, O, W> {
             sender,
             outside,
             streams,
+            lost: 0,
         }
     }
 
@@ -80,12 +84,22 @@ impl<T: Taker, O: Outside, W: Waker> Asker<T, O, W> {
         }
     }
 
-    /// Has the loop of streams send a job. Where the outbox is full, the job is dropped: its query ends by expiry.
+    /// How many queries found the outbox full.
+    pub fn lost(&self) -> u64
+        ensures { result ≡ self.now.lost }
+    {
+        self.lost
+    }
+
+    /// Has the loop of streams send a job. If the outbox is full, the job is dropped and counted: its
+    /// query ends by expiry.
     fn put<R: Wait>(&mut self, rt: &R, job: Job)
         ensures { Puts job self.old self.new }
     {
         if self.sender.send(rt, job).is_ok() {
             self.streams.wake();
+        } else {
+            self.lost = self.lost.saturating_add(1);
         }
     }
 }

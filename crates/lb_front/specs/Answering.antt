@@ -57,6 +57,11 @@ Says origin message None new said = (new ≡ None) × (said ≡ Some (bare 503))
 Says origin message (Some old) None said = ⊥
 Says origin message (Some old) (Some new) said = Asks origin message old new said
 
+-- how many queries found the outbox full, by the front's part of the desk
+abbrev pub lost_in : Option Asking → ℕ
+lost_in None = 0
+lost_in (Some asking) = asking.lost
+
 -- what was said to a client's message under this number: a response, or that the request waits
 abbrev pub IsSaidUnder : Client → List ℕ → ℕ → Option DohResponse → Type 0
 IsSaidUnder client message number said =

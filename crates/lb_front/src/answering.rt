@@ -6,7 +6,7 @@ ghost use Rattle.futures.specs.Task.{Covers, Keeps};
 ghost use Rattle.http.specs.Request.{body_of};
 ghost use Rattle.hyper.specs.Incoming.{size_left};
 ghost use Rattle.lb_http.specs.declared.fault.DohFault.{DohFault};
-ghost use Rattle.lb_front.specs.Answering.{Comes, FromAnswer, FromBody, FromMessage, FromRead, Gives, GivesBody, HasAtLeast, IsAskedFor, IsBody, IsSaidUnder, IsUnasked, ReadsOctets, Says, StandsAt, origin_of};
+ghost use Rattle.lb_front.specs.Answering.{Comes, FromAnswer, FromBody, FromMessage, FromRead, Gives, GivesBody, HasAtLeast, IsAskedFor, IsBody, IsSaidUnder, IsUnasked, ReadsOctets, Says, StandsAt, lost_in, origin_of};
 ghost use Rattle.lb_front.specs.Closing.{leaves_body};
 ghost use Rattle.lb_front.specs.Heads.{Begins, ReadsHead};
 ghost use Rattle.lb_front.specs.declared.cut.Cut.TheVariants as cuts;
@@ -138,6 +138,16 @@ fn stage_of<R: Wait + Drop>(first: First) -> Stage<R>
     }
 }
 
+/// How many queries found the outbox full, by the front's part of the desk.
+fn lost_by<T: Taker, O: Outside, W: Waker>(asker: &Option<Asker<T, O, W>>) -> u64
+    ensures { result ≡ lost_in asker.now }
+{
+    match asker {
+        Some(asker) => asker.lost(),
+        None => 0,
+    }
+}
+
 impl<R: Wait + Clock + Copy + Drop, T: Taker, O: Outside, W: Waker, F> Answering<R, T, O, W, F> {
     /// What comes of a body: the message, or why there is none.
     fn message_of<E: Drop>(
@@ -187,7 +197,12 @@ impl<R: Wait + Clock + Copy + Drop, T: Taker, O: Outside, W: Waker, F> Answering
         ensures { IsSaidUnder self.now.client message number result }
     {
         let mut asker = shared.asker.lock(&self.rt);
-        self.said_by(&mut asker, number, message)
+        let before = lost_by(&asker);
+        let said = self.said_by(&mut asker, number, message);
+        if lost_by(&asker) != before {
+            shared.sends.fill();
+        }
+        said
     }
 
     /// What this part of the desk says to a message that is asked under this number; 503 where it was given back. None: the request waits.

@@ -9,6 +9,7 @@ use crate::paced::Paced;
 use crate::shared::Shared;
 use bytes::Bytes;
 use futures::Future;
+use futures::channel::oneshot;
 use futures::executor::TaskSet;
 use futures::task::{Context, Poll};
 use http_body_util::Full;
@@ -16,15 +17,13 @@ use hyper::rt::TokioTimer;
 use hyper::server::conn::http1;
 use hyper::server::conn::http1::Connection;
 use lb_lines::{Outside, Taker, Waker};
-use lb_sends::{Refusal, Sends};
+use lb_sends::{Clients, Closing, Refusal, Sends};
 use std::alloc::Global;
 use std::net::SocketAddr;
-use std::sync::atomic::{AtomicBool, Ordering};
 use std::sync::{Arc, Wait};
 use std::time::Clock;
 use tokio::net::{TcpListener, TcpStream};
 use tokio::sync::{OwnedSemaphorePermit, Semaphore};
-use tokio::time::Interval;
 
 /// What makes the future of a connection.
 pub trait Make: Drop {
@@ -41,7 +40,7 @@ pub trait Make: Drop {
     fn turned_away(&self);
 }
 
-/// A connection that is served, and its place. Whatever ends it, nobody is told.
+/// A connection that is served, and its place. Whatever ends it is counted at most.
 #[derive(Drop)]
 pub struct Served<F> {
     pub connection: F,
@@ -50,25 +49,33 @@ pub struct Served<F> {
     pub sends: Option<Arc<Sends>>,
 }
 
-impl<F: Future> Future for Served<F>
-where
-    F::Output: Drop,
-{
+impl<F: Future<Output = hyper::Result<()>>> Future for Served<F> {
     type Output = ();
 
     ghost can_poll = { λ s. F.can_poll s.connection };
 
     fn poll(&mut self, cx: &mut Context<'_>) -> Poll<()> {
         match self.connection.poll(cx) {
-            Poll::Ready(_) => {
+            Poll::Ready(ended) => {
                 if let Some(sends) = &self.sends {
-                    sends.http().leave();
+                    note_end(sends.http(), &ended);
                 }
                 Poll::Ready(())
             }
             Poll::Pending => Poll::Pending,
         }
     }
+}
+
+/// Counts that a client left, and whether its connection was closed because it sent no head for as
+/// long as one may take.
+fn note_end(clients: &Clients, ended: &hyper::Result<()>) {
+    if let Err(error) = ended
+        && error.is_timeout()
+    {
+        clients.close(Closing::Idle);
+    }
+    clients.leave();
 }
 
 /// Makes connections of HTTP/1.1.
@@ -94,7 +101,8 @@ impl<R: Wait + Clock + Copy + Drop, T: Taker, O: Outside, W: Waker> Make for Mak
             client,
             shared: Arc::try_clone(&self.shared).ok(),
         };
-        let socket = Paced::new(self.rt, self.shared.timers.clone().ok(), socket);
+        let sends = Arc::try_clone(&self.sends).ok();
+        let socket = Paced::new(self.rt, self.shared.timers.clone().ok(), socket, sends);
         Served {
             connection: self.http.serve_connection(socket, front),
             place,
@@ -111,7 +119,7 @@ impl<R: Wait + Clock + Copy + Drop, T: Taker, O: Outside, W: Waker> Make for Mak
     }
 }
 
-/// Takes in the clients of the listeners until the flag is set. Each has one of the places while
+/// Takes in the clients of the listeners until it is told to end. Each has one of the places while
 /// its connection stands. A client that finds no place, or no memory for its connection, is closed
 /// at once; the others stay.
 #[derive(Drop)]
@@ -119,9 +127,8 @@ pub(crate) struct Accepting<'a, M: Make> {
     pub(crate) listeners: Vec<(u8, TcpListener)>,
     pub(crate) maker: M,
     pub(crate) places: Arc<Semaphore>,
-    pub(crate) stop: Arc<AtomicBool>,
-    /// So often the flag is looked at.
-    pub(crate) looks: Interval,
+    /// What tells it to end: that this is sent, or that its sender is dropped.
+    pub(crate) end: oneshot::Receiver<()>,
     /// The connections that stand.
     pub(crate) tasks: &'a TaskSet<M::Served>,
 }
@@ -169,7 +176,7 @@ impl<M: Make> Future for Accepting<'_, M> {
     type Output = ();
 
     fn poll(&mut self, cx: &mut Context<'_>) -> Poll<()> {
-        if self.stop.load(Ordering::SeqCst) {
+        if self.end.poll(cx).is_ready() {
             return Poll::Ready(());
         }
         match next_client(&mut self.listeners, cx) {
@@ -177,11 +184,7 @@ impl<M: Make> Future for Accepting<'_, M> {
                 self.serve(place, socket, end);
                 cx.yield_now()
             }
-            None => match self.looks.poll_tick(cx) {
-                Poll::Ready(Ok(_)) => cx.yield_now(),
-                Poll::Ready(Err(_)) => Poll::Ready(()),
-                Poll::Pending => Poll::Pending,
-            },
+            None => Poll::Pending,
         }
     }
 }

@@ -7,8 +7,10 @@ ghost use Rattle.futures.specs.Task.{Covers, Keeps};
 
 use crate::late::{is_over, seconds_from_now};
 use futures::task::{Context, Poll};
+use lb_sends::{Closing, Sends};
 use std::io;
 use std::io::IoSlice;
+use std::sync::Arc;
 use std::time::Clock;
 use tokio::io::{AsyncRead, AsyncWrite};
 use tokio::time::{Handle, Sleep};
@@ -24,12 +26,14 @@ pub struct Paced<R, I> {
     io: I,
     /// The end of the time for the write that waits.
     late: Option<Sleep>,
+    /// Where it is counted that a client takes nothing, if it is counted.
+    sends: Option<Arc<Sends>>,
 }
 
 impl<R: Clock, I> Paced<R, I> {
-    /// A socket whose time is kept by these timers. Without timers its writes wait as long as it
-    /// takes.
-    pub fn new(rt: R, timers: Option<Handle>, io: I) -> Paced<R, I>
+    /// A socket whose time is kept by these timers, and whose client is counted there if it takes
+    /// nothing. Without timers its writes wait as long as it takes.
+    pub fn new(rt: R, timers: Option<Handle>, io: I, sends: Option<Arc<Sends>>) -> Paced<R, I>
         ensures { result.io ≡ io }
     {
         Paced {
@@ -37,6 +41,7 @@ impl<R: Clock, I> Paced<R, I> {
             timers,
             io,
             late: None,
+            sends,
         }
     }
 
@@ -64,6 +69,9 @@ impl<R: Clock, I> Paced<R, I> {
             self.late = self.limit();
         }
         if is_over(&mut self.late, cx) {
+            if let Some(sends) = &self.sends {
+                sends.http().close(Closing::Unread);
+            }
             return Poll::Ready(Err(io::Error::from(io::ErrorKind::TimedOut)));
         }
         Poll::Pending

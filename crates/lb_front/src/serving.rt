@@ -5,6 +5,7 @@ ghost use Rattle.std.specs.Prelude.{IfOk, IsSome, None, Ok, length, ◌<◌, ◌
 use crate::connections::{Accepting, Make, Maker};
 use crate::cut::FrontFault;
 use crate::shared::Shared;
+use futures::channel::oneshot;
 use hyper::rt::TokioTimer;
 use hyper::server::conn::http1;
 use hyper::server::conn::http1::Builder;
@@ -16,7 +17,6 @@ use std::alloc::{AllocError, AllocGlobal, Global};
 use std::hash::RandomState;
 use std::net::Net;
 use std::random::RandomSource;
-use std::sync::atomic::AtomicBool;
 use std::sync::{Arc, Mutex, Wait};
 use std::time::{Clock, Duration};
 use std::{io, net};
@@ -34,9 +34,6 @@ const HEAD_SECONDS: u64 = 10;
 
 /// How many connections stand at most, whatever a front is made of.
 const CONNECTIONS: usize = 1_024;
-
-/// How often the flag is looked at, in milliseconds.
-const LOOK: u64 = 100;
 
 /// How long connections may go on once the front is to end, in milliseconds.
 const END: u64 = 300;
@@ -69,8 +66,8 @@ pub struct FrontParts<T, O, W> {
     pub clients: usize,
     /// Where clients are counted.
     pub sends: Arc<Sends>,
-    /// Set, it ends the front within half a second.
-    pub stop: Arc<AtomicBool>,
+    /// What ends the front: that this is sent, or that its sender is dropped.
+    pub end: oneshot::Receiver<()>,
 }
 
 /// What the front leaves: its event handler, and its sender.
@@ -95,8 +92,8 @@ pub fn front_runtime<R: Clock + Net + RandomSource + AllocGlobal>(
     Ok(Some(LocalRuntime::new(rt)?))
 }
 
-/// Serves DNS on HTTP until the flag is set; then the connections that stand, and the requests that
-/// wait, have 300 ms, and end. Where nothing listens, it ends at once.
+/// Serves DNS on HTTP until it is told to end. Then the connections that stand, and the requests
+/// that wait, have 300 ms, and end. Where nothing listens, it ends at once.
 pub fn run_front<
     R: Wait + Clock + Net + RandomSource + AllocGlobal + Copy + Drop,
     T: Taker,
@@ -112,7 +109,7 @@ pub fn run_front<
     serve_by(rt, alloc, parts)
 }
 
-/// Serves by what a front is made of until the flag is set.
+/// Serves by what a front is made of until it is told to end.
 fn serve_by<
     R: Wait + Clock + Net + RandomSource + AllocGlobal + Copy + Drop,
     T: Taker,
@@ -129,15 +126,15 @@ fn serve_by<
         requests,
         clients,
         sends,
-        stop,
+        end,
     } = parts;
     let asker = Asker::new(taker, sender, outside, streams);
     let mut runtime = runtime_of(&rt, runtime)?;
-    let shared = shared_by(alloc, runtime.handle().time(), asker, requests)?;
+    let shared = shared_by(alloc, runtime.handle().time(), asker, requests, &sends)?;
     let listeners = registered(alloc, listeners, runtime.handle().reactor())?;
     sends.http().bound(clients.min(CONNECTIONS) as u64);
     let room = (listeners, clients);
-    serve_shared(rt, alloc, &mut runtime, room, stop, (&shared, sends))?;
+    serve_shared(rt, alloc, &mut runtime, room, end, (&shared, sends))?;
     ended(&rt, &shared)
 }
 
@@ -160,13 +157,16 @@ fn shared_by<T: Taker, O: Outside, W: Waker>(
     timers: &time::Handle,
     asker: Asker<T, O, W>,
     requests: Arc<Requests>,
+    sends: &Arc<Sends>,
 ) -> Result<Arc<Shared<T, O, W>>, FrontFault> {
     let timers = timers.clone()?;
+    let sends = Arc::try_clone(sends)?;
     Ok(Arc::new(
         alloc,
         Shared {
             asker: Mutex::new(Some(asker)),
             requests,
+            sends,
             timers,
         },
     )?)
@@ -175,8 +175,8 @@ fn shared_by<T: Taker, O: Outside, W: Waker>(
 /// Listeners, each with its place, and how many clients are connected at most.
 pub type Room = (Vec<(u8, TcpListener)>, usize);
 
-/// Serves the connections of the listeners, which share this and are counted there, until the flag
-/// is set.
+/// Serves the connections of the listeners, which share this and are counted there, until it is
+/// told to end.
 fn serve_shared<
     R: Wait + Clock + Net + RandomSource + AllocGlobal + Copy + Drop,
     T: Taker,
@@ -187,37 +187,32 @@ fn serve_shared<
     alloc: Global,
     runtime: &mut LocalRuntime,
     room: Room,
-    stop: Arc<AtomicBool>,
+    end: oneshot::Receiver<()>,
     shared: (&Arc<Shared<T, O, W>>, Arc<Sends>),
 ) -> Result<(), FrontFault> {
     let maker = maker_of(rt, alloc, runtime.handle().time(), shared)?;
-    serve_connections(&rt, alloc, runtime, room, stop, maker)
+    serve_connections(&rt, alloc, runtime, room, end, maker)
 }
 
-/// Serves the connections of the listeners until the flag is set. More than 1,024 clients count as
-/// 1,024. What a connection is made of is not said here: whoever makes them is any.
+/// Serves the connections of the listeners until it is told to end: until `end` is sent, or its
+/// sender is dropped. More than 1,024 clients count as 1,024. What a connection is made of is not said here: whoever makes them is any.
 pub fn serve_connections<R: Wait + Clock + Net + RandomSource + AllocGlobal, M: Make>(
     rt: &R,
     alloc: Global,
     runtime: &mut LocalRuntime,
     room: Room,
-    stop: Arc<AtomicBool>,
+    end: oneshot::Receiver<()>,
     maker: M,
 ) -> Result<(), FrontFault> {
     let (listeners, clients) = room;
     let places = Semaphore::new(alloc, clients.min(CONNECTIONS))?;
     let places = Arc::new(alloc, places)?;
-    let looks = runtime
-        .handle()
-        .time()
-        .interval(rt, Duration::from_millis(LOOK))?;
     let tasks = runtime.task_set(rt)?;
     let accepting = Accepting {
         listeners,
         maker,
         places,
-        stop,
-        looks,
+        end,
         tasks: &tasks,
     };
     Ok(runtime.block_on_with(rt, &tasks, accepting)?)

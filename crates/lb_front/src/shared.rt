@@ -2,6 +2,7 @@
 
 use lb_doh::{Asker, Requests};
 use lb_lines::{Outside, Taker, Waker};
+use lb_sends::Sends;
 use std::sync::{Arc, Mutex};
 use tokio::time::Handle;
 
@@ -11,5 +12,7 @@ pub(crate) struct Shared<T: Taker, O: Outside, W: Waker> {
     /// It is taken before the desk's lock, and before that of the requests never.
     pub(crate) asker: Mutex<Option<Asker<T, O, W>>>,
     pub(crate) requests: Arc<Requests>,
+    /// Where it is counted that a query found the outbox full.
+    pub(crate) sends: Arc<Sends>,
     pub(crate) timers: Handle,
 }

@@ -3,6 +3,7 @@
 use crate::page::Page;
 use crate::service::Metrics;
 use bytes::Bytes;
+use futures::channel::oneshot;
 use http_body_util::Full;
 use hyper::rt::TokioTimer;
 use hyper::server::conn::http1::{Builder, Connection};
@@ -10,7 +11,6 @@ use lb_front::{Client, FrontFault, Make, Paced, Served, serve_connections, setti
 use std::alloc::{AllocGlobal, Global};
 use std::net::Net;
 use std::random::RandomSource;
-use std::sync::atomic::AtomicBool;
 use std::sync::{Arc, Wait};
 use std::time::{Clock, Duration};
 use std::{io, net};
@@ -37,8 +37,8 @@ pub struct MetricsParts<P> {
     pub runtime: LocalRuntime,
     /// What writes the page.
     pub page: P,
-    /// Set, it ends the service within half a second.
-    pub stop: Arc<AtomicBool>,
+    /// What ends the service: that this is sent, or that its sender is dropped.
+    pub end: oneshot::Receiver<()>,
 }
 
 /// A runtime for the service. It takes descriptors: made before any client is answered, it finds
@@ -49,7 +49,7 @@ pub fn metrics_runtime<R: Clock + Net + RandomSource + AllocGlobal>(
     LocalRuntime::new(rt)
 }
 
-/// Serves the page until the flag is set. At most eight connections stand; a further one is closed
+/// Serves the page until it is told to end. At most eight connections stand; a further one is closed
 /// at once.
 pub fn run_metrics<R: Wait + Clock + Net + RandomSource + AllocGlobal + Copy + Drop, P: Page>(
     rt: R,
@@ -60,7 +60,7 @@ pub fn run_metrics<R: Wait + Clock + Net + RandomSource + AllocGlobal + Copy + D
         listener,
         mut runtime,
         page,
-        stop,
+        end,
     } = parts;
     runtime.set_shutdown_timeout(Some(Duration::from_millis(END)));
     let maker = maker_of(rt, alloc, runtime.handle().time(), page)?;
@@ -74,7 +74,7 @@ pub fn run_metrics<R: Wait + Clock + Net + RandomSource + AllocGlobal + Copy + D
         alloc,
         &mut runtime,
         (listeners, CONNECTIONS),
-        stop,
+        end,
         maker,
     )
 }
@@ -118,7 +118,7 @@ impl<R: Clock + Copy + Drop, P: Page> Make for Maker<R, P> {
             alloc: self.alloc,
             page: Arc::try_clone(&self.page).ok(),
         };
-        let socket = Paced::new(self.rt, self.timers.clone().ok(), socket);
+        let socket = Paced::new(self.rt, self.timers.clone().ok(), socket, None);
         Served {
             connection: self.http.serve_connection(socket, service),
             place,

@@ -1,4 +1,5 @@
-//! Replays over readers and writers that fail. What a device of the system can be made to do is a row of tools/run-rows.
+//! Replays over readers and writers that fail. What a device of the system can be made to do is a
+//! row of tools/play/run-rows.
 
 use crate::devices::{Asking, Closing, Dribble, Flushing, Hiding, Stuttering};
 use lb_program::{check, replay};

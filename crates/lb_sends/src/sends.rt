@@ -132,7 +132,13 @@ impl Sends {
         ]
     }
 
-    /// How many messages for clients over TCP found the outbox to their loop full.
+    /// Notes a query of a client over HTTP that found the outbox to the loop of TCP full.
+    pub fn fill(&self) {
+        raise(&self.full);
+    }
+
+    /// How many messages found the outbox to the loop of TCP full: those for clients over TCP, and
+    /// queries of clients over HTTP.
     pub fn full(&self) -> u64 {
         read(&self.full)
     }

@@ -14,6 +14,7 @@ use crate::operator::{Operator, roster_of};
 use crate::pages::DeskPage;
 use crate::switches::Switches;
 use crate::threads::{Fronting, LoopParts, Over, Services};
+use futures::channel::oneshot;
 use lb_desk::{Desk, Naming, Seat};
 use lb_doh::{HttpPosts, Requests, Waiting};
 use lb_front::{Bound, FrontParts, front_runtime};
@@ -26,6 +27,7 @@ use lb_recent::Rings;
 use lb_sends::Sends;
 use lb_sockets::{Limits, ListenSockets, SystemOutside, TcpListeners, TcpSockets, UdpSockets};
 use lb_words::Words;
+use mio;
 use mio::net::TcpListener;
 use std::alloc::{AllocError, Global};
 use std::net;
@@ -81,7 +83,7 @@ pub(crate) type DeskServices<'a, R, J> = Services<
 pub(crate) struct Runners<'a, R: Wait + Net + Clock + RandomSource, J: Naming> {
     pub(crate) loops: Loops<'a, R, J>,
     pub(crate) console: DeskConsole<'a, R, J>,
-    /// What wakes the console.
+    /// What tells the console and the services that the loops have ended.
     pub(crate) over: Over,
     pub(crate) services: DeskServices<'a, R, J>,
 }
@@ -211,10 +213,12 @@ pub(crate) fn prepared<'a, J: Naming, R: Wait + Net + Clock + RandomSource>(
     let sockets = Sockets::made(rt, alloc, datagrams, beside, streams, limits, sends)?;
     let outside = SystemOutside::new(rt)?;
     let (sender, second_sender, receiver) = Outbox::made(alloc, JOBS)?;
-    let http = (http, of_front, sender, outside.beside());
+    let (of_http, http_end) = oneshot::channel(alloc)?;
+    let (of_page, page_end) = oneshot::channel(alloc)?;
+    let http = (http, of_front, sender, outside.beside(), http_end);
     let services = Services {
         front: front_of_http(rt, alloc, http, &sockets, &shared, clients)?,
-        metrics: metrics_at(rt, alloc, desk, &setup, &shared, metrics)?,
+        metrics: metrics_at(rt, alloc, desk, &setup, &shared, (metrics, page_end))?,
     };
     let fronts = (
         fronts(alloc, setup.listeners())?,
@@ -228,7 +232,12 @@ pub(crate) fn prepared<'a, J: Naming, R: Wait + Net + Clock + RandomSource>(
         outside.beside(),
         setup.into_servers(),
     );
-    let (console, over) = console_of(rt, alloc, console, &sockets, &shared)?;
+    let (console, waker) = console_of(rt, alloc, console, &sockets, &shared)?;
+    let over = Over {
+        waker,
+        http: of_http,
+        page: of_page,
+    };
     let posts = (shared.posts(rt, alloc)?, shared.posts(rt, alloc)?);
     let halt = sockets.halt(alloc, &shared.stop)?;
     let around = (shared.roster, shared.sends, halt, idle_of(&switches));
@@ -364,7 +373,7 @@ fn console_of<'a, J: Naming, R: Wait + Net + Clock + RandomSource>(
     own: OwnOfConsole<'a, R, J>,
     sockets: &Sockets<'a, R>,
     shared: &Shared,
-) -> Result<(DeskConsole<'a, R, J>, Over), Fault> {
+) -> Result<(DeskConsole<'a, R, J>, mio::Waker), Fault> {
     let around = shared.around(alloc, sockets)?;
     console_by(rt, alloc, own, around)
 }
@@ -375,18 +384,24 @@ fn console_by<'a, J: Naming, R: Wait + Net + Clock + RandomSource>(
     alloc: Global,
     own: OwnOfConsole<'a, R, J>,
     around: Around,
-) -> Result<(DeskConsole<'a, R, J>, Over), Fault> {
+) -> Result<(DeskConsole<'a, R, J>, mio::Waker), Fault> {
     let (listeners, words, taker, outside, servers) = own;
     let (roster, halt) = around;
     let operator = Operator::new(alloc, words, taker, outside, servers, roster);
     let console = Console::made(rt, rt, alloc, listeners, operator, halt)?;
     let waker = console.waker()?;
-    Ok((console, Over { waker }))
+    Ok((console, waker))
 }
 
 /// What the front of DNS on HTTP has alone: its listeners, its handler of events, its end of the
-/// outbox, and its moments and words.
-type OwnOfHttp<'a, R, J> = (Vec<Bound>, Caller<'a, R, J>, Sender, SystemOutside<'a, R>);
+/// outbox, its moments and words, and what ends it.
+type OwnOfHttp<'a, R, J> = (
+    Vec<Bound>,
+    Caller<'a, R, J>,
+    Sender,
+    SystemOutside<'a, R>,
+    oneshot::Receiver<()>,
+);
 
 /// The front of DNS on HTTP.
 fn front_of_http<'a, J: Naming, R: Wait + Net + Clock + RandomSource>(
@@ -397,7 +412,7 @@ fn front_of_http<'a, J: Naming, R: Wait + Net + Clock + RandomSource>(
     shared: &Shared,
     clients: Clients,
 ) -> Result<DeskFront<'a, R, J>, Fault> {
-    let (listeners, taker, sender, outside) = own;
+    let (listeners, taker, sender, outside, end) = own;
     let parts = FrontParts {
         runtime: front_runtime(&(rt, alloc), listeners.as_slice()).map_err(Fault::Front)?,
         listeners,
@@ -408,7 +423,7 @@ fn front_of_http<'a, J: Naming, R: Wait + Net + Clock + RandomSource>(
         requests: Arc::try_clone(&shared.requests)?,
         clients: clients.http as usize,
         sends: Arc::try_clone(&shared.sends)?,
-        stop: Arc::try_clone(&shared.stop)?,
+        end,
     };
     Ok(Fronting {
         parts,
@@ -416,16 +431,16 @@ fn front_of_http<'a, J: Naming, R: Wait + Net + Clock + RandomSource>(
     })
 }
 
-/// The service of metrics of a desk, if it has a listener.
+/// The service of metrics of a desk, if it has a listener, and what ends it.
 fn metrics_at<'a, J: Naming, R: Wait + Net + Clock + RandomSource>(
     rt: &'a R,
     alloc: Global,
     desk: &'a Desk<J>,
     setup: &Setup,
     shared: &Shared,
-    listener: Option<net::TcpListener>,
+    own: (Option<net::TcpListener>, oneshot::Receiver<()>),
 ) -> Result<Option<DeskMetrics<'a, R, J>>, Fault> {
-    let Some(listener) = listener else {
+    let (Some(listener), end) = own else {
         return Ok(None);
     };
     // A page lists no query, so its words have no ring.
@@ -435,7 +450,7 @@ fn metrics_at<'a, J: Naming, R: Wait + Net + Clock + RandomSource>(
         listener,
         runtime: metrics_runtime(&(rt, alloc))?,
         page: DeskPage { rt, desk, words },
-        stop: Arc::try_clone(&shared.stop)?,
+        end,
     }))
 }
 

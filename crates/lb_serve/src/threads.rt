@@ -8,6 +8,7 @@ use crate::gate::OpenGate;
 use crate::halt::Halt;
 use crate::hears::Hears;
 use crate::notices::say_last;
+use futures::channel::oneshot;
 use lb_front::{FrontEnded, FrontFault, FrontParts, run_front};
 use lb_loops::{
     ClockParts, DatagramParts, Datagrams, Ended, LoopFault, Outside, Parts, Posts, StreamParts,
@@ -25,10 +26,25 @@ use std::sync::Wait;
 use std::thread::{Threads, join};
 use std::time::Clock;
 
-/// Wakes the console.
+/// Tells the console and the services by HTTP that the loops have ended.
 #[derive(Drop)]
 pub(crate) struct Over {
+    /// Wakes the console.
     pub(crate) waker: mio::Waker,
+    /// Ends the front of DNS on HTTP.
+    pub(crate) http: oneshot::Sender<()>,
+    /// Ends the service of metrics.
+    pub(crate) page: oneshot::Sender<()>,
+}
+
+impl Over {
+    /// Tells them. Who has ended already hears nothing of it.
+    fn tell(self) {
+        let Over { waker, http, page } = self;
+        let _ = waker.wake();
+        let _ = http.send(());
+        let _ = page.send(());
+    }
 }
 
 /// What the loops are made of: each has sockets of its own, and handlers and sources of one kind.
@@ -61,7 +77,7 @@ pub(crate) struct Services<T, O, G> {
 }
 
 /// Runs the loops of `parts`, and beside them the console and the services by HTTP, each in a
-/// thread of its own. Once the loops have ended, the console is woken.
+/// thread of its own. Once the loops have ended, the others are told.
 #[tactic(auto, using(crate::proofs::Crosses::console_send, crate::proofs::Crosses::services_send))]
 pub(crate) fn run_beside<
     'a,
@@ -98,7 +114,7 @@ pub(crate) fn run_beside<
     )
 }
 
-/// Runs the loops, and wakes the console once they have ended.
+/// Runs the loops, and tells the others once they have ended.
 fn run_them<
     R: Threads + Wait + Sync,
     D: Datagrams + Send,
@@ -110,7 +126,7 @@ fn run_them<
     // A law, which does nothing.
     wakers_are_shared();
     let ended = run_loops(rt, alloc, parts);
-    let _ = over.waker.wake();
+    over.tell();
     ended
 }
 

@@ -1,1 +1,3 @@
+-- shared by several files: Links
 pub mod Slots
+pub mod Links

@@ -1,5 +1,6 @@
 -- Values in numbered slots, chunk by chunk.
-use Rattle.std.specs.Prelude.{◌≡◌, ◌≢◌, ℕ, ◌/◌, ◌%◌, List, [], Option, None, Some, slice_index_or}
+use Rattle.std.specs.Prelude.{◌≡◌, ◌≢◌, ◌<◌, ℕ, ◌/◌, ◌%◌, length, slice_index_or}
+use Rattle.std.specs.Prelude.{List, [], Option, None, Some}
 use Rattle.lb_slots.specs.declared.chunk.Cell.{Cell}
 use Rattle.lb_slots.specs.declared.chunk.Cell.TheVariants.{Free, Full}
 
@@ -25,3 +26,8 @@ module _ {T : Type 0} where
   pub record Updates (old new : List (List (Option T))) (slot : ℕ) (value : Option T) : Type 0 where
     pub changed : get new slot ≡ value
     pub others : (other : ℕ) → other ≢ slot → get new other ≡ get old other
+
+  -- a slot below the end of its chunk that has no value
+  pub record IsEmpty (chunks : List (List (Option T))) (slot : ℕ) : Type 0 where
+    pub below : slot % 32 < length (chunk_at chunks (slot / 32))
+    pub none : get chunks slot ≡ None

@@ -1,7 +1,10 @@
 //! A run of slots that stays where it is.
 
-ghost use Rattle.std.specs.Prelude.{◌≡◌, ◌==◌, ◌<◌, ℕ, [], ◌∷◌, ◌++◌, None, Some, IfErr, IfOk, IfSome, OnErr, cond, length, option_map};
+ghost use Rattle.std.specs.Prelude.{◌≡◌, ◌<◌, [], ◌∷◌, ◌++◌, length, map, slice_set};
+ghost use Rattle.std.specs.Prelude.{IfErr, IfNone, IfOk, IfSome, OnErr, option_map};
+ghost use Rattle.lb_slots.specs.Links.{link_at};
 ghost use Rattle.lb_slots.specs.Slots.{value_at, value_in};
+ghost use Rattle.lb_slots.specs.declared.chunk.Cell.TheVariants.{Free, Full};
 
 use std::alloc::{AllocError, Global};
 use std::marker::Model;
@@ -18,7 +21,8 @@ impl<T: Drop> Cell<T> {
     /// Takes the value out, if there is one, and leaves this link.
     fn take(&mut self, free: usize) -> Option<T>
         ensures value { result ≡ value_in self.old }
-        ensures none { value_in self.new ≡ None }
+        ensures none { IfNone result (self.new ≡ self.old) }
+        ensures some { IfSome result (λ _. self.new ≡ Free free) }
     {
         match self {
             Cell::Free(_) => None,
@@ -33,22 +37,20 @@ impl<T: Drop> Cell<T> {
 /// How many slots a chunk has.
 pub(crate) const CHUNK: usize = 32;
 
-/// A run of slots, each with a value or with none, which is how a contract sees it.
+/// A run of slots, which a contract of this crate sees as their cells: a value, or the link to the
+/// slot that was freed before.
 #[derive(Debug, Drop)]
 pub(crate) struct Chunk<T> {
     cells: Vec<Cell<T>>,
 }
 
 impl<T> Model for Chunk<T> {
-    ghost use Rattle.std.specs.Prelude.{List, Option, map};
-    ghost use Rattle.std.specs.Coded.{coded_list, coded_option};
-    ghost use Rattle.lb_slots.specs.Slots.{value_in};
+    ghost use Rattle.std.specs.Prelude.{List};
+    ghost use Rattle.lb_slots.specs.declared.chunk.Cell.{Cell};
 
-    ghost Value = { List (Option T) };
+    ghost Value = { List (Cell T) };
 
-    ghost coded = { coded_list (coded_option T.code) };
-
-    ghost view = { λ c. map value_in c.cells.items };
+    ghost view = { λ c. c.cells.items };
 }
 
 impl<T: Drop> Chunk<T> {
@@ -70,7 +72,7 @@ impl<T: Drop> Chunk<T> {
 
     /// The value in a place.
     pub(crate) fn get(&self, at: usize) -> Option<&T>
-        ensures { option_map (λ value. value.now) result ≡ value_at self.now at }
+        ensures { option_map (λ value. value.now) result ≡ value_at (map value_in self.now) at }
     {
         match self.cells.get(at)? {
             Cell::Full(value) => Some(value),
@@ -78,10 +80,9 @@ impl<T: Drop> Chunk<T> {
         }
     }
 
-    /// The link in a place that has no value.
+    /// The link in a place, if it has no value.
     pub(crate) fn link(&self, at: usize) -> Option<usize>
-        ensures within { IfSome result (λ _. at < length self.now) }
-        ensures none { IfSome result (λ _. value_at self.now at ≡ None) }
+        ensures { result ≡ link_at self.now at }
     {
         match self.cells.get(at)? {
             Cell::Full(_) => None,
@@ -91,8 +92,9 @@ impl<T: Drop> Chunk<T> {
 
     /// Takes the value out of a place, and leaves a link there.
     pub(crate) fn take(&mut self, at: usize, link: usize) -> Option<T>
-        ensures value { result ≡ value_at self.old at }
-        ensures chunk { (k : ℕ) → value_at self.new k ≡ cond (k == at) None (value_at self.old k) }
+        ensures value { result ≡ value_at (map value_in self.old) at }
+        ensures none { IfNone result (self.new ≡ self.old) }
+        ensures some { IfSome result (λ _. self.new ≡ slice_set self.old at (Free link)) }
     {
         self.cells.get_mut(at)?.take(link)
     }
@@ -100,14 +102,14 @@ impl<T: Drop> Chunk<T> {
     /// Puts a value into a place.
     pub(crate) fn fill(&mut self, at: usize, value: T)
         requires { at < length self.old }
-        ensures { (k : ℕ) → value_at self.new k ≡ cond (k == at) (Some value) (value_at self.old k) }
+        ensures { self.new ≡ slice_set self.old at (Full value) }
     {
         self.cells[at] = Cell::Full(value);
     }
 
     /// Puts a value behind the others. Where memory is wanting it comes back.
     pub(crate) fn add(&mut self, value: T) -> Result<(), (AllocError, T)>
-        ensures added { IfOk result (λ _. self.new ≡ self.old ++ Some value ∷ []) }
+        ensures added { IfOk result (λ _. self.new ≡ self.old ++ Full value ∷ []) }
         ensures back { IfErr result (λ back. back.1 ≡ value) }
         ensures kept { OnErr result (self.new ≡ self.old) }
     {

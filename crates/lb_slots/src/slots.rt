@@ -1,15 +1,20 @@
 //! Values in numbered slots.
 
-ghost use Rattle.std.specs.Prelude.{◌≡◌, ◌≤◌, ◌<◌, ◌+◌, ◌-◌, ◌/◌, ◌%◌, ◌^◌, ℕ, None, Some, IfErr, IfOk, IfSome, IsSome, OnErr, OnOk, length, option_map};
+ghost use Rattle.std.specs.Prelude.{◌≡◌, ◌≤◌, ◌<◌, ◌+◌, ◌-◌, ◌/◌, ◌%◌, ◌^◌, ℕ, length};
+ghost use Rattle.std.specs.Prelude.{None, Some, IsSome, option_map, IfErr, IfOk, IsOkAnd};
+ghost use Rattle.std.specs.Prelude.{OnErr, OnOk};
 ghost use Rattle.std.specs.Bool.{OnTrue};
-ghost use Rattle.lb_slots.specs.Slots.{Updates, chunk_at, get};
+ghost use Rattle.lb_slots.specs.Links.{Adds, cells_at, links, with_cell};
+ghost use Rattle.lb_slots.specs.Slots.{IsEmpty, Updates, get};
+ghost use Rattle.lb_slots.specs.declared.chunk.Cell.TheVariants.{Full};
 
 use crate::chunk::{CHUNK, Chunk};
 use std::alloc::{AllocError, Global};
 use std::marker::Model;
 
-/// Values in slots that are numbered from 0 on. A value stays in its slot until it is taken out, and then the slot is given out
-/// again. A contract sees the slots chunk by chunk, each with its value or with none, and speaks of them by `get`.
+/// Values in slots that are numbered from 0 on. A value stays in its slot until it is taken out,
+/// and then the slot is given out again. A contract sees the slots chunk by chunk, each with its
+/// value or with none, and speaks of them by `get`.
 #[derive(Debug, Drop)]
 pub struct Slots<T> {
     chunks: Vec<Chunk<T>>,
@@ -26,21 +31,19 @@ impl<T> Model for Slots<T> {
 
     ghost coded = { coded_list (coded_list (coded_option T.code)) };
 
-    ghost view = { λ s. s.chunks.items };
+    ghost use Rattle.lb_slots.specs.Links.{AreSlots, values};
 
-    ghost use Rattle.std.specs.Prelude.{◌≤◌, ◌^◌, length};
+    ghost view = { λ s. values s.chunks.items };
 
-    ghost invariant = { λ s. length s.chunks.items ≤ 2 ^ 57 };
+    ghost invariant = { λ s. AreSlots s.chunks.items s.free };
 }
 
 /// How many chunks there are at most, so that each slot has a number.
 const MOST: usize = 1 << 57;
 
-/// The link in a slot that is free.
+/// The link in a slot, if it is free.
 fn freed<T: Drop>(chunks: &Vec<Chunk<T>>, slot: usize) -> Option<usize>
-    ensures within { IfSome result (λ _. slot / 32 < length chunks.now.items) }
-    ensures place { IfSome result (λ _. slot % 32 < length (chunk_at chunks.now.items (slot / 32))) }
-    ensures none { IfSome result (λ _. get chunks.now.items slot ≡ None) }
+    ensures { result ≡ links chunks.now.items slot }
 {
     chunks.get(slot / CHUNK)?.link(slot % CHUNK)
 }
@@ -48,9 +51,8 @@ fn freed<T: Drop>(chunks: &Vec<Chunk<T>>, slot: usize) -> Option<usize>
 /// Puts a value into a slot that there is.
 fn fill<T: Drop>(chunks: &mut Vec<Chunk<T>>, slot: usize, value: T)
     requires within { slot / 32 < length chunks.old.items }
-    requires place { slot % 32 < length (chunk_at chunks.old.items (slot / 32)) }
-    ensures put { Updates chunks.old.items chunks.new.items slot (Some value) }
-    ensures len { length chunks.new.items ≡ length chunks.old.items }
+    requires place { slot % 32 < length (cells_at chunks.old.items (slot / 32)) }
+    ensures { chunks.new.items ≡ with_cell chunks.old.items slot (Full value) }
 {
     chunks[slot / CHUNK].fill(slot % CHUNK, value);
 }
@@ -58,7 +60,8 @@ fn fill<T: Drop>(chunks: &mut Vec<Chunk<T>>, slot: usize, value: T)
 /// Whether the last chunk has room for a value more.
 fn has_room<T: Drop>(chunks: &Vec<Chunk<T>>) -> bool
     ensures some { OnTrue result (0 < length chunks.now.items) }
-    ensures room { OnTrue result (length (chunk_at chunks.now.items (length chunks.now.items - 1)) < 32) }
+    ensures room { OnTrue result
+        (length (cells_at chunks.now.items (length chunks.now.items - 1)) < 32) }
 {
     match chunks.last() {
         Some(chunk) => chunk.len() < CHUNK,
@@ -71,8 +74,9 @@ fn room<T: Drop>(chunks: &mut Vec<Chunk<T>>, alloc: Global) -> Result<(), AllocE
     requires few { length chunks.old.items ≤ 2 ^ 57 }
     ensures some { OnOk result (0 < length chunks.new.items) }
     ensures few { length chunks.new.items ≤ 2 ^ 57 }
-    ensures room { OnOk result (length (chunk_at chunks.new.items (length chunks.new.items - 1)) < 32) }
-    ensures kept { (slot : ℕ) → get chunks.new.items slot ≡ get chunks.old.items slot }
+    ensures room { OnOk result
+        (length (cells_at chunks.new.items (length chunks.new.items - 1)) < 32) }
+    ensures kept { (at : ℕ) → cells_at chunks.new.items at ≡ cells_at chunks.old.items at }
 {
     if MOST <= chunks.len() {
         // here the numbers of slots end: no machine has room for twice as many slots as they count
@@ -93,11 +97,12 @@ fn push<T: Drop>(
 ) -> Result<usize, (AllocError, T)>
     requires few { length chunks.old.items ≤ 2 ^ 57 }
     ensures few { length chunks.new.items ≤ 2 ^ 57 }
-    ensures free { IfOk result (λ slot. get chunks.old.items slot ≡ None) }
     ensures bound { IfOk result (λ slot. slot + 2 < 2 ^ 64) }
-    ensures put { IfOk result (λ slot. Updates chunks.old.items chunks.new.items slot (Some value)) }
+    ensures added { IfOk result
+        (λ slot. Adds chunks.old.items chunks.new.items slot (Full value)) }
     ensures back { IfErr result (λ back. back.1 ≡ value) }
-    ensures kept { OnErr result ((slot : ℕ) → get chunks.new.items slot ≡ get chunks.old.items slot) }
+    ensures kept { OnErr result
+        ((at : ℕ) → cells_at chunks.new.items at ≡ cells_at chunks.old.items at) }
 {
     if let Err(refused) = room(chunks, alloc) {
         return Err((refused, value));
@@ -127,13 +132,16 @@ impl<T: Drop> Slots<T> {
         self.chunks.get(slot / CHUNK)?.get(slot % CHUNK)
     }
 
-    /// Puts a value into a slot that has none, and gives the slot. Where memory is wanting it comes back.
+    /// Puts a value into a slot that has none, and gives the slot. No chunk is added while a slot
+    /// is empty. Where memory is wanting the value comes back.
     pub fn put(&mut self, value: T) -> Result<usize, (AllocError, T)>
         ensures free { IfOk result (λ slot. get self.old slot ≡ None) }
         ensures bound { IfOk result (λ slot. slot + 2 < 2 ^ 64) }
         ensures put { IfOk result (λ slot. Updates self.old self.new slot (Some value)) }
         ensures back { IfErr result (λ back. back.1 ≡ value) }
         ensures kept { OnErr result ((slot : ℕ) → get self.new slot ≡ get self.old slot) }
+        ensures tight { (slot : ℕ) → IsEmpty self.old slot
+            → (length self.new ≡ length self.old) × IsOkAnd result (IsEmpty self.old) }
     {
         let free = self.free;
         if let Some(next) = freed(&self.chunks, free) {

@@ -342,11 +342,13 @@ pub(crate) fn refusals(sends: &Sends) -> [(&'static str, &'static str, u64); 3] 
 }
 
 /// How many clients were closed that had not closed their own side, by protocol and reason.
-pub(crate) fn closings(sends: &Sends) -> [(&'static str, &'static str, u64); 2] {
-    let tcp = sends.tcp();
+pub(crate) fn closings(sends: &Sends) -> [(&'static str, &'static str, u64); 4] {
+    let (tcp, http) = (sends.tcp(), sends.http());
     [
         ("tcp", "idle", tcp.closed(Closing::Idle)),
         ("tcp", "unread", tcp.closed(Closing::Unread)),
+        ("http", "idle", http.closed(Closing::Idle)),
+        ("http", "unread", http.closed(Closing::Unread)),
     ]
 }
 

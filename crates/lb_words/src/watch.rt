@@ -151,7 +151,7 @@ fn say_lacks(
     let lost = now.outbox.saturating_sub(before.outbox);
     if lost > 0 {
         said.push(format!(in alloc;
-            "the outbox to the loop of TCP was full, and {lost} answers are lost"
+            "the outbox to the loop of TCP was full, and {lost} messages are lost"
         )?)?;
     }
     Ok(())

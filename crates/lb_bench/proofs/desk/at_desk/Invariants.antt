@@ -5,4 +5,4 @@ abbrev pub ghosts-measured-J-Ledger : goal.ghosts-measured-J-Ledger
 ghosts-measured-J-Ledger g a = record { name = a.blank.name; parts = a.blank.parts }
 
 abbrev pub ghosts-measured-J-Naming : goal.ghosts-measured-J-Naming
-ghosts-measured-J-Naming g a = record { seats = 4; limit = a.limit; opening = snapshot_of a.balancer }
+ghosts-measured-J-Naming g a = record { seats = 4; limit = 0; opening = snapshot_of a.balancer }

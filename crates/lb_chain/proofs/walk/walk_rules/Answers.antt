@@ -12,12 +12,13 @@ rules-init c =
     let rules = c.args.rules.now in
     let whole = walk_of rules c.args.view.now c.args.addr.now c.args.kind c.args.now in
     let start = c.ahead-ahead.ensures.start in
-    let begun = c.begun-walked.ensures in
-    let before : with_before c.begun-walked.result.no_recurse c.begun-walked.result.skip_cache c.begun-walked.result.passes c.begun-walked.result.tests whole ≡ whole =
+    let walked = c.args.walked.now in
+    let begun = c.requires.begun in
+    let before : with_before walked.no_recurse walked.skip_cache walked.passes walked.tests whole ≡ whole =
     ap (λ (w : Walked). with_before w.no_recurse w.skip_cache w.passes w.tests whole) begun ∙ sym (with_none whole) in (
       omega (arith, start),
-      subst (λ (k : ℕ). length c.begun-walked.result.passes + limiters_in (drop k rules) ≤ 16) (sym start) (omega (arith, ap (λ (w : Walked). length w.passes) begun, c.requires.few)),
-      subst (λ (k : ℕ). with_before c.begun-walked.result.no_recurse c.begun-walked.result.skip_cache c.begun-walked.result.passes c.begun-walked.result.tests (walk_of (drop k rules) c.args.view.now c.args.addr.now c.args.kind c.args.now) ≡ whole) (sym start) before,
+      subst (λ (k : ℕ). length walked.passes + limiters_in (drop k rules) ≤ 16) (sym start) (omega (arith, ap (λ (w : Walked). length w.passes) begun, c.requires.few)),
+      subst (λ (k : ℕ). with_before walked.no_recurse walked.skip_cache walked.passes walked.tests (walk_of (drop k rules) c.args.view.now c.args.addr.now c.args.kind c.args.now) ≡ whole) (sym start) before,
       c.ahead-ahead.ensures.ahead c.args.view.now c.args.addr.now,
       omega (arith, ap (λ (w : Walked). w.tests) begun),
       ap (λ (w : Walked). w.rule) begun,
@@ -33,8 +34,8 @@ test_rule-requires-clause-room c =
     let left : length c.rules.walked.passes + limiters_in (drop place rules) ≤ 16 = omega (arith, fewer rules c.rules.ahead.at place next.0, c.rules.invariant.1) in
     omega (arith, room_next rules place c.index-rules-place.result (length c.rules.walked.passes) lt c.index-rules-place.is left)
 
-pub returns-in-Some-ending_of : goal.returns-in-Some-ending_of
-returns-in-Some-ending_of c =
+pub returns-then-ends : goal.returns-then-ends
+returns-then-ends c =
     let rules = c.args.rules.now in
     let place = c.in-Some.place in
     let n = c.index-rules-place.result in
@@ -42,11 +43,11 @@ returns-in-Some-ending_of c =
     let lt : place < length rules = offered_within rules c.rules.ahead.at place c.args.view.now c.args.addr.now next in
     let counts = held_counts n c.args.view.now c.args.addr.now (offered_may rules c.rules.ahead.at place c.args.view.now c.args.addr.now n next c.index-rules-place.is) in
     let more : c.rules.walked.tests + 1 ≡ c.rules.walked.tests + tests_of n c.args.view.now c.args.addr.now = omega (arith, counts) in
-    ends_here rules place n c.in-Some-ending_of.verdict c.args.view.now c.args.addr.now c.args.kind c.args.now c.rules.walked.no_recurse c.rules.walked.skip_cache c.rules.walked.passes c.test_rule.new.passes c.rules.walked.tests (c.rules.walked.tests + 1) _ lt c.index-rules-place.is (sym c.test_rule.ensures.truth ∙ c.if-test_rule.true) (sym c.ending_of.ensures ∙ c.in-Some-ending_of.is) c.test_rule.ensures.passes more
+    ends_here rules place n c.ends.new.verdict c.args.view.now c.args.addr.now c.args.kind c.args.now c.rules.walked.no_recurse c.rules.walked.skip_cache c.rules.walked.passes c.test_rule.new.passes c.rules.walked.tests (c.rules.walked.tests + 1) _ lt c.index-rules-place.is (sym c.test_rule.ensures.truth ∙ c.if-test_rule.true) (c.ends.ensures.ended c.if-ends.true) c.test_rule.ensures.passes more
     (walk_to rules c.rules.ahead.at place c.args.view.now c.args.addr.now c.args.kind c.args.now c.rules.walked.no_recurse c.rules.walked.skip_cache c.rules.walked.passes c.rules.walked.tests _ next c.rules.invariant.2)
 
-pub rules-preserved-in-None : goal.rules-preserved-in-None
-rules-preserved-in-None c =
+pub rules-preserved-then-test_rule : goal.rules-preserved-then-test_rule
+rules-preserved-then-test_rule c =
     let rules = c.args.rules.now in
     let place = c.in-Some.place in
     let n = c.index-rules-place.result in
@@ -64,12 +65,12 @@ rules-preserved-in-None c =
       omega (arith, at, lt),
       subst (λ (k : ℕ). length c.test_rule.new.passes + limiters_in (drop k rules) ≤ 16) (sym at) room,
       subst (λ (k : ℕ). with_before no_recurse skip_cache c.test_rule.new.passes (c.rules.walked.tests + 1) (walk_of (drop k rules) c.args.view.now c.args.addr.now c.args.kind c.args.now) ≡ whole) (sym at)
-          (next_goes_on rules place n c.args.view.now c.args.addr.now c.args.kind c.args.now c.rules.walked.no_recurse c.rules.walked.skip_cache no_recurse skip_cache c.rules.walked.passes c.test_rule.new.passes c.rules.walked.tests (c.rules.walked.tests + 1) _ lt c.index-rules-place.is (sym c.test_rule.ensures.truth ∙ c.if-test_rule.true) (sym c.ending_of.ensures ∙ c.in-None.is) c.test_rule.ensures.passes more
+          (next_goes_on rules place n c.args.view.now c.args.addr.now c.args.kind c.args.now c.rules.walked.no_recurse c.rules.walked.skip_cache no_recurse skip_cache c.rules.walked.passes c.test_rule.new.passes c.rules.walked.tests (c.rules.walked.tests + 1) _ lt c.index-rules-place.is (sym c.test_rule.ensures.truth ∙ c.if-test_rule.true) (c.ends.ensures.open c.if-ends.false) c.test_rule.ensures.passes more
           (ap (λ (x : Bool). c.rules.walked.no_recurse || x) c.is_no_recurse.ensures) (ap (λ (x : Bool). c.rules.walked.skip_cache || x) c.is_skip_cache.ensures) here),
       c.in-Some.ensures.ahead (terms_of rules) c.requires.offers c.rules.invariant.3,
       omega (arith, at, next.0, c.rules.invariant.4),
       c.rules.invariant.5,
-      c.rules.invariant.6,
+      c.ends.ensures.unwritten c.if-ends.false ∙ c.rules.invariant.6,
     )
 
 pub rules-preserved : goal.rules-preserved

@@ -13,7 +13,7 @@ use Rattle.lb_cache.proofs.keys.Keys.put.Goals as goal
 pub invariant_of-self : goal.invariant_of-self
 invariant_of-self c =
     let kind : c.args.kind ≡ Datagram = search rules in
-    let head : c.as_slice.result.now ++ c.args.octets.now ≡ filed_as c.args.octets.now = ap (λ (xs : List ℕ). xs ++ c.args.octets.now) (c.as_slice.ensures ∙ c.head_of-head.ensures) in
+    let head : c.as_slice.result.now ++ c.args.octets.now ≡ filed_as c.args.octets.now = ap (λ (xs : List ℕ). xs ++ c.args.octets.now) (c.as_slice.ensures ∙ c.lay_before.ensures) in
     let found : find cmp_key (key_with c.args.kind c.args.octets.now) (entries_of c.self.inside.datagrams c.self.inside.streams) ≡ None = ap (find cmp_key (key_with c.args.kind c.args.octets.now)) c.self.view_is ∙ c.requires in
     either_way c.file_joined.result c.file_joined.ensures.ok c.file_joined.ensures.err
     (λ filed.
@@ -24,7 +24,7 @@ invariant_of-self c =
 pub returns-in-Datagram-clause-put : goal.returns-in-Datagram-clause-put
 returns-in-Datagram-clause-put c =
     let kind : c.args.kind ≡ Datagram = search rules in
-    let head : c.as_slice.result.now ++ c.args.octets.now ≡ filed_as c.args.octets.now = ap (λ (xs : List ℕ). xs ++ c.args.octets.now) (c.as_slice.ensures ∙ c.head_of-head.ensures) in
+    let head : c.as_slice.result.now ++ c.args.octets.now ≡ filed_as c.args.octets.now = ap (λ (xs : List ℕ). xs ++ c.args.octets.now) (c.as_slice.ensures ∙ c.lay_before.ensures) in
     let found : find cmp_key (key_with c.args.kind c.args.octets.now) (entries_of c.self.inside.datagrams c.self.inside.streams) ≡ None = ap (find cmp_key (key_with c.args.kind c.args.octets.now)) c.self.view_is ∙ c.requires in
     on_ok_weaker c.file_joined.result
     (λ filed. (put_datagram c.self.inside.datagrams c.self.inside.streams c.file_joined.new.self (key_with c.args.kind c.args.octets.now) c.args.slot kind c.self.invariant.0 c.self.invariant.1 found (subst (λ (k : List ℕ). HasBesides c.self.inside.datagrams (filed_at k c.args.slot) c.file_joined.new.self) head filed)).is ∙ ap (put cmp_key (key_with c.args.kind c.args.octets.now) c.args.slot) c.self.view_is)
@@ -33,7 +33,7 @@ returns-in-Datagram-clause-put c =
 pub invariant_of-self-in-Stream : goal.invariant_of-self-in-Stream
 invariant_of-self-in-Stream c =
     let kind : c.args.kind ≡ Stream = search rules in
-    let head : c.as_slice-in-Stream.result.now ++ c.args.octets.now ≡ filed_as c.args.octets.now = ap (λ (xs : List ℕ). xs ++ c.args.octets.now) (c.as_slice-in-Stream.ensures ∙ c.head_of-head.ensures) in
+    let head : c.as_slice-in-Stream.result.now ++ c.args.octets.now ≡ filed_as c.args.octets.now = ap (λ (xs : List ℕ). xs ++ c.args.octets.now) (c.as_slice-in-Stream.ensures ∙ c.lay_before.ensures) in
     let found : find cmp_key (key_with c.args.kind c.args.octets.now) (entries_of c.self.inside.datagrams c.self.inside.streams) ≡ None = ap (find cmp_key (key_with c.args.kind c.args.octets.now)) c.self.view_is ∙ c.requires in
     either_way c.file_joined-in-Stream.result c.file_joined-in-Stream.ensures.ok c.file_joined-in-Stream.ensures.err
     (λ filed.
@@ -44,7 +44,7 @@ invariant_of-self-in-Stream c =
 pub returns-in-Stream-clause-put : goal.returns-in-Stream-clause-put
 returns-in-Stream-clause-put c =
     let kind : c.args.kind ≡ Stream = search rules in
-    let head : c.as_slice-in-Stream.result.now ++ c.args.octets.now ≡ filed_as c.args.octets.now = ap (λ (xs : List ℕ). xs ++ c.args.octets.now) (c.as_slice-in-Stream.ensures ∙ c.head_of-head.ensures) in
+    let head : c.as_slice-in-Stream.result.now ++ c.args.octets.now ≡ filed_as c.args.octets.now = ap (λ (xs : List ℕ). xs ++ c.args.octets.now) (c.as_slice-in-Stream.ensures ∙ c.lay_before.ensures) in
     let found : find cmp_key (key_with c.args.kind c.args.octets.now) (entries_of c.self.inside.datagrams c.self.inside.streams) ≡ None = ap (find cmp_key (key_with c.args.kind c.args.octets.now)) c.self.view_is ∙ c.requires in
     on_ok_weaker c.file_joined-in-Stream.result
     (λ filed. (put_stream c.self.inside.datagrams c.self.inside.streams c.file_joined-in-Stream.new.self (key_with c.args.kind c.args.octets.now) c.args.slot kind c.self.invariant.0 c.self.invariant.1 found (subst (λ (k : List ℕ). HasBesides c.self.inside.streams (filed_at k c.args.slot) c.file_joined-in-Stream.new.self) head filed)).is ∙ ap (put cmp_key (key_with c.args.kind c.args.octets.now) c.args.slot) c.self.view_is)
