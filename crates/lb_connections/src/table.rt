@@ -380,6 +380,11 @@ impl Connections {
         true
     }
 
+    /// Whether a moment is known at which the time of a connection may be over.
+    pub fn is_timed(&self) -> bool {
+        self.due < u64::MAX
+    }
+
     /// Whether the servers' connections were held against another version of the roster than this
     /// one, against which they are held now. If so, the routes to servers that it has no more are
     /// forgotten.

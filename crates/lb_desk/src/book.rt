@@ -262,9 +262,23 @@ impl<J: Naming> Book<J> {
         answer
     }
 
+    /// Whether the book answers a next call of which the log has no entry.
+    #[inline(always)]
+    pub(crate) fn is_past(&self) -> bool
+        ensures past { IsTrue result → self.now.limit ≤ self.now.count }
+        ensures room { IsTrue result → self.now.count < 2 ^ 64 - 1 }
+    {
+        self.is_full() && self.count < u64::MAX
+    }
+
     /// A call past the log's limit.
     #[inline(always)]
-    fn take_past(&mut self, share: &mut Share<J>, event: Event, noted: &mut Noted) -> Answer
+    pub(crate) fn take_past(
+        &mut self,
+        share: &mut Share<J>,
+        event: Event,
+        noted: &mut Noted,
+    ) -> Answer
         requires part { 0 < share.old.parts }
         requires past { self.old.limit ≤ self.old.count }
         requires room { self.old.count < 2 ^ 64 - 1 }

@@ -163,9 +163,40 @@ impl<J: Naming> Desk<J> {
         self.called(rt, seat, event, is_full, &mut noted)
     }
 
-    /// A call by a hint, with what its step leaves.
+    /// A call by a hint, with what its step leaves. Once the log is full and the seat has given back
+    /// its room for a receipt, the answer alone is handed on, and nothing is made or cleared that
+    /// only a logged call has.
     #[inline(always)]
     fn called<R: Wait>(
+        &self,
+        rt: &R,
+        seat: &mut Seat<J>,
+        event: Event,
+        is_full: bool,
+        noted: &mut Noted,
+    ) -> Result<Answer, (DeskFault, Event)>
+        ensures number { seat.new.number ≡ seat.old.number }
+        ensures calls { OnOk result (seat.new.calls ≡ seat.old.calls + 1) }
+        ensures receipts { IfOk result (λ answer. (seat.new.receipts ≡ seat.old.receipts) ⊎ ((place : ℕ) × (place < J.limit) × (seat.new.receipts ≡ seat.old.receipts ++ receipt place event answer ∷ []))) }
+        ensures noted { IfOk result (λ answer. IsStep event answer noted.new) }
+        ensures full { seat.old.calls ≡ 2 ^ 64 - 1 → IsErrAnd result (λ fault. fault.0 ≡ CountFull) }
+        ensures back { IfErr result (λ fault. fault.1 ≡ event) }
+        ensures same { OnErr result (seat.new ≡ seat.old) }
+    {
+        if is_full && seat.calls < u64::MAX && !seat.receipts.has_room() {
+            let mut guard = self.entered(rt);
+            let book = &mut *guard;
+            if book.is_past() {
+                seat.calls += 1;
+                return Ok(book.take_past(&mut seat.share, event, noted));
+            }
+        }
+        self.called_with_room(rt, seat, event, is_full, noted)
+    }
+
+    /// A call of which the log may have an entry: room for its receipt is taken.
+    #[inline(never)]
+    fn called_with_room<R: Wait>(
         &self,
         rt: &R,
         seat: &mut Seat<J>,

@@ -195,7 +195,8 @@ fn serve_shared<
 }
 
 /// Serves the connections of the listeners until it is told to end: until `end` is sent, or its
-/// sender is dropped. More than 1,024 clients count as 1,024. What a connection is made of is not said here: whoever makes them is any.
+/// sender is dropped. More than 1,024 clients count as 1,024. Of what `maker` makes of a connection
+/// nothing is said here.
 pub fn serve_connections<R: Wait + Clock + Net + RandomSource + AllocGlobal, M: Make>(
     rt: &R,
     alloc: Global,

@@ -14,8 +14,8 @@ use std::sync::{Arc, Mutex, Wait};
 /// How long the clock waits while a query may be outstanding, in milliseconds.
 const TICK: u64 = 10;
 
-/// How long it waits at most while none can be.
-const REST: u64 = 100;
+/// How long it waits at most while none can be, in milliseconds.
+const REST: u64 = 1_000;
 
 /// What the loops share: where servers are, the gate, the flag that ends them, whether a query may
 /// be outstanding, the counts of failed sends and of probes, and what wakes each.
@@ -71,14 +71,14 @@ impl<G, W: Waker> Around<G, W> {
 
     /// How long the clock waits after a turn with a tick at a moment, in milliseconds: 10 while a
     /// query may be outstanding. Otherwise until something of its probes is due or over, between 10
-    /// and 100.
+    /// and 1,000.
     pub(crate) fn patience<S: Datagrams, P: Posts, T: Taker, O: Outside>(
         &self,
         part: &ClockLoop<S, P, T, O>,
         roster: &Roster,
         ticked: Option<u64>,
     ) -> u64
-        ensures { (10 ≤ result) × (result ≤ 100) }
+        ensures { (10 ≤ result) × (result ≤ 1000) }
     {
         match ticked {
             Some(now) if self.sent.may_rest(now) => part.quiet_for(roster, now, REST).max(TICK),

@@ -17,12 +17,11 @@ use lb_streams::{StreamLoop, stream_turn};
 use std::alloc::Global;
 use std::sync::Wait;
 
-/// How long a loop of datagrams waits at most, in milliseconds: so often idle sockets of servers
-/// are looked at.
+/// How long a loop waits at most, in milliseconds. So often idle sockets of servers are looked at.
 const LONG_WAIT: u64 = 1_000;
 
-/// How long the loop of streams waits at most, in milliseconds: so often connections are looked at
-/// whose time is over, and a client that found no descriptor.
+/// How long the loop of streams waits at most, in milliseconds, while the time of a connection may
+/// become over; and how long a loop waits that found no memory for a turn.
 const WAIT: u64 = 100;
 
 /// How long the clock waits while the outbox has no room for it, in milliseconds.
@@ -189,7 +188,8 @@ fn one_of_streams<R: Wait, S: Streams, T: Taker, O: Outside, P: Posts, G: Gate, 
     let is_idle = report.lines.is_empty();
     part.take_back(report.lines);
     if is_idle {
-        part.wait(WAIT)?;
+        let most = if part.is_timed() { WAIT } else { LONG_WAIT };
+        part.wait(most)?;
     }
     Ok(())
 }

@@ -157,6 +157,7 @@ impl<'a, R: Wait + Clock, T: Taker + Hears, O: Outside> Console<'a, R, T, O> {
             Progress::Answered => {
                 if let Some(words) = client.take_edit() {
                     self.notices.say(words.as_str());
+                    self.halt.rouse_clock();
                 }
                 self.has_trash = true;
                 self.note_answer()

@@ -9,9 +9,9 @@ use crate::fault::Fault;
 use crate::listening::Listening;
 use crate::log::{LogFile, keep};
 use crate::pages::pages_cross_threads;
-use crate::parts::{DeskConsole, DeskServices, Loops, OtherSeats, Runners, prepared};
+use crate::parts::{At, DeskConsole, OtherSeats, Runners, prepared};
 use crate::switches::{MOST_LOOPS, Switches};
-use crate::threads::{FrontEnd, LoopsEnd, Over, run_beside};
+use crate::threads::{FrontEnd, LoopsEnd, run_beside};
 use lb_core::Balancer;
 use lb_desk::{CloseFault, Desk, Naming, Seat};
 use lb_doh::posts_cross_threads;
@@ -129,7 +129,7 @@ fn serve_named<
         log,
     } = ready;
     let given = (setup, switches, listening);
-    match run_at_desk(rt, alloc, &desk, &mut seats, others, given, output) {
+    match run_at_desk((rt, alloc), &desk, &mut seats, others, given, output) {
         Ok(left) => close(alloc, desk, seats, left, log, output),
         Err(fault) => Err(fault),
     }
@@ -232,8 +232,7 @@ fn run_at_desk<
         + Sync,
     W: Write,
 >(
-    rt: &'a R,
-    alloc: Global,
+    at: At<'a, R>,
     desk: &'a Desk<J>,
     seats: &mut Vec<Seat<J>>,
     others: OtherSeats<J>,
@@ -243,16 +242,8 @@ fn run_at_desk<
     ensures ready { OnOk result (Appends (W.contents output.old) (W.contents output.new) ready_text) }
     ensures ended { IfErr result (λ fault. Served J.opening J.limit (W.contents output.old) (W.contents output.new) (Err fault)) }
 {
-    match prepared(rt, alloc, desk, seats, others, given) {
-        Ok(runners) => {
-            let Runners {
-                loops,
-                console,
-                over,
-                services,
-            } = runners;
-            run_prepared(rt, alloc, seats, loops, console, over, services, output)
-        }
+    match prepared(at, desk, seats, others, given) {
+        Ok(runners) => run_prepared(at, seats, runners, output),
         Err(fault) => Err(fault),
     }
 }
@@ -269,22 +260,18 @@ fn run_prepared<
         + Sync,
     W: Write,
 >(
-    rt: &'a R,
-    alloc: Global,
+    at: At<'a, R>,
     seats: &mut Vec<Seat<J>>,
-    loops: Loops<'a, R, J>,
-    console: DeskConsole<'a, R, J>,
-    over: Over,
-    services: DeskServices<'a, R, J>,
+    runners: Runners<'a, R, J>,
     output: &mut W,
 ) -> Result<Left<J>, Fault>
     ensures ready { OnOk result (Appends (W.contents output.old) (W.contents output.new) ready_text) }
     ensures ended { IfErr result (λ fault. Served J.opening J.limit (W.contents output.old) (W.contents output.new) (Err fault)) }
 {
     match write_line(output, b"ready\n") {
-        Ok(()) => left_of(rt, alloc, seats, loops, console, over, services),
+        Ok(()) => left_of(at, seats, runners),
         Err(error) => {
-            drop(services);
+            drop(runners);
             Err(Fault::Output(error))
         }
     }
@@ -300,16 +287,8 @@ fn left_of<
         + Clock
         + RandomSource
         + Sync,
->(
-    rt: &'a R,
-    alloc: Global,
-    seats: &mut Vec<Seat<J>>,
-    loops: Loops<'a, R, J>,
-    console: DeskConsole<'a, R, J>,
-    over: Over,
-    services: DeskServices<'a, R, J>,
-) -> Result<Left<J>, Fault> {
-    let (loops, (console, front)) = run(rt, alloc, loops, console, over, services);
+>(at: At<'a, R>, seats: &mut Vec<Seat<J>>, runners: Runners<'a, R, J>) -> Result<Left<J>, Fault> {
+    let (loops, (console, front)) = run(at, runners);
     left_by(seats, loops, console, front)
 }
 
@@ -324,14 +303,13 @@ fn run<
         + Clock
         + RandomSource
         + Sync,
->(
-    rt: &'a R,
-    alloc: Global,
-    loops: Loops<'a, R, J>,
-    console: DeskConsole<'a, R, J>,
-    over: Over,
-    services: DeskServices<'a, R, J>,
-) -> Ran<'a, R, J> {
+>(at: At<'a, R>, runners: Runners<'a, R, J>) -> Ran<'a, R, J> {
+    let Runners {
+        loops,
+        console,
+        over,
+        services,
+    } = runners;
     // Laws, which do nothing.
     callers_cross_threads::<J, R>();
     sockets_cross_threads::<R>();
@@ -340,7 +318,7 @@ fn run<
     wakers_are_shared();
     posts_cross_threads::<R>();
     pages_cross_threads::<J, R>();
-    run_beside(rt, alloc, loops, over, console, services)
+    run_beside(at.0, at.1, loops, over, console, services)
 }
 
 /// What the loops, the console and the front leave; the first fault of theirs, if one ended by

@@ -20,6 +20,11 @@ impl Halt {
         self.stop.load(Ordering::SeqCst)
     }
 
+    /// Has the clock look where servers are and which it is to probe, if it rests.
+    pub(crate) fn rouse_clock(&self) {
+        self.clock.wake();
+    }
+
     /// Ends the loops: the flag first, and then each that waits is woken.
     pub(crate) fn halt(&self) {
         self.stop.store(true, Ordering::SeqCst);

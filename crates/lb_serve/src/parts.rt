@@ -15,6 +15,7 @@ use crate::pages::DeskPage;
 use crate::switches::Switches;
 use crate::threads::{Fronting, LoopParts, Over, Services};
 use futures::channel::oneshot;
+use lb_command::Listener;
 use lb_desk::{Desk, Naming, Seat};
 use lb_doh::{HttpPosts, Requests, Waiting};
 use lb_front::{Bound, FrontParts, front_runtime};
@@ -22,7 +23,7 @@ use lb_loops::{
     Caller, ClockParts, DatagramParts, Front, Outbox, Parts, Receiver, Roster, Sender, StreamParts,
 };
 use lb_metrics::{MetricsParts, metrics_runtime};
-use lb_program::{ServerList, ServerPlace, Setup};
+use lb_program::{ServerPlace, Setup};
 use lb_recent::Rings;
 use lb_sends::Sends;
 use lb_sockets::{Limits, ListenSockets, SystemOutside, TcpListeners, TcpSockets, UdpSockets};
@@ -88,6 +89,16 @@ pub(crate) struct Runners<'a, R: Wait + Net + Clock + RandomSource, J: Naming> {
     pub(crate) services: DeskServices<'a, R, J>,
 }
 
+/// The runtime, and what is asked for memory.
+pub(crate) type At<'a, R> = (&'a R, Global);
+
+/// What a setup file states, and what the switches ask for.
+type Asked<'b> = (&'b Setup, &'b Switches);
+
+/// The sockets that listen for datagrams of the first loop and of each further one, and for clients
+/// over TCP.
+type BoundSockets = (Arc<ListenSockets>, Vec<Arc<ListenSockets>>, TcpListeners);
+
 /// The sockets of the loops.
 #[derive(Drop)]
 struct Sockets<'a, R: Net + Clock> {
@@ -98,17 +109,15 @@ struct Sockets<'a, R: Net + Clock> {
 
 impl<'a, R: Net + Clock> Sockets<'a, R> {
     /// Those that listen, and none of servers yet. The clock sends by the listeners of the first
-    /// loop of datagrams. The errors are the system's, and refused memory. Listeners of the console
-    /// are left.
+    /// loop of datagrams. The errors are the system's, and refused memory.
     fn made(
-        rt: &'a R,
-        alloc: Global,
-        first: Arc<ListenSockets>,
-        beside: Vec<Arc<ListenSockets>>,
-        streams: TcpListeners,
+        at: At<'a, R>,
+        bound: BoundSockets,
         limits: Limits,
         sends: Arc<Sends>,
     ) -> Result<Sockets<'a, R>, Fault> {
+        let (rt, alloc) = at;
+        let (first, beside, streams) = bound;
         let mut datagrams = Vec::with_capacity(alloc, beside.len().saturating_add(1))?;
         datagrams.push(UdpSockets::reading(rt, alloc, Arc::try_clone(&first)?)?)?;
         for listeners in beside {
@@ -173,15 +182,14 @@ impl Shared {
     }
 
     /// What hands answers to the requests by HTTP.
-    fn posts<'a, R: Wait>(&self, rt: &'a R, alloc: Global) -> Result<HttpPosts<'a, R>, Fault> {
-        Ok(HttpPosts::new(rt, alloc, Arc::try_clone(&self.requests)?))
+    fn posts<'a, R: Wait>(&self, at: At<'a, R>) -> Result<HttpPosts<'a, R>, Fault> {
+        Ok(HttpPosts::new(at.0, at.1, Arc::try_clone(&self.requests)?))
     }
 }
 
 /// What the loops, the console and the services by HTTP are made of.
 pub(crate) fn prepared<'a, J: Naming, R: Wait + Net + Clock + RandomSource>(
-    rt: &'a R,
-    alloc: Global,
+    at: At<'a, R>,
     desk: &'a Desk<J>,
     seats: &mut Vec<Seat<J>>,
     others: OtherSeats<J>,
@@ -190,11 +198,6 @@ pub(crate) fn prepared<'a, J: Naming, R: Wait + Net + Clock + RandomSource>(
     ensures { IfOk result (λ p. (p.loops.streams.fronts.items ≡ map front_of given.0.listeners) × (p.loops.clock.fronts.items ≡ map front_of given.0.listeners)) }
 {
     let (setup, switches, listening) = given;
-    let rings = Rings::made(
-        alloc,
-        seats.len().saturating_add(OTHER_RINGS),
-        switches.recent,
-    )?;
     let Listening {
         datagrams,
         beside,
@@ -203,55 +206,74 @@ pub(crate) fn prepared<'a, J: Naming, R: Wait + Net + Clock + RandomSource>(
         consoles,
         metrics,
     } = listening;
-    let clients = clients_of(&setup, &switches);
-    // Those of datagrams, and that of streams.
-    let shared = Shared::made(alloc, setup.servers(), seats.len().saturating_add(1))?;
-    let notes = (&rings, &shared.sends);
-    let (takers, of_console, of_front) = callers(rt, alloc, desk, seats, others, notes)?;
-    let limits = limits_of(clients, &switches);
-    let sends = Arc::try_clone(&shared.sends)?;
-    let sockets = Sockets::made(rt, alloc, datagrams, beside, streams, limits, sends)?;
-    let outside = SystemOutside::new(rt)?;
-    let (sender, second_sender, receiver) = Outbox::made(alloc, JOBS)?;
-    let (of_http, http_end) = oneshot::channel(alloc)?;
-    let (of_page, page_end) = oneshot::channel(alloc)?;
-    let http = (http, of_front, sender, outside.beside(), http_end);
-    let services = Services {
-        front: front_of_http(rt, alloc, http, &sockets, &shared, clients)?,
-        metrics: metrics_at(rt, alloc, desk, &setup, &shared, (metrics, page_end))?,
-    };
-    let fronts = (
-        fronts(alloc, setup.listeners())?,
-        fronts(alloc, setup.listeners())?,
-    );
-    let words = words_of(rt, alloc, &setup, &shared, rings)?;
-    let console = (
-        consoles,
-        words,
-        of_console,
-        outside.beside(),
-        setup.into_servers(),
-    );
-    let (console, waker) = console_of(rt, alloc, console, &sockets, &shared)?;
-    let over = Over {
-        waker,
-        http: of_http,
-        page: of_page,
-    };
-    let posts = (shared.posts(rt, alloc)?, shared.posts(rt, alloc)?);
-    let halt = sockets.halt(alloc, &shared.stop)?;
-    let around = (shared.roster, shared.sends, halt, idle_of(&switches));
-    let jobs = (second_sender, receiver);
-    Ok(Runners {
-        loops: parts_of(alloc, sockets, outside, takers, fronts, posts, jobs, around)?,
+    let asked = (&setup, &switches);
+    let (shared, rings, takers) = begun(at, desk, seats, others, asked)?;
+    let sockets = sockets_of(at, (datagrams, beside, streams), asked, &shared)?;
+    let outside = SystemOutside::new(at.0)?;
+    let (sender, second_sender, receiver) = Outbox::made(at.1, JOBS)?;
+    let Handlers {
+        loops,
         console,
-        over,
+        front,
+    } = takers;
+    let http = (http, front, sender, outside.beside());
+    let around = (&sockets, &shared);
+    let (services, ends) = services_of(at, desk, http, metrics, asked, around)?;
+    let fronts = twice(at.1, setup.listeners())?;
+    let console = (consoles, rings, console, outside.beside(), setup);
+    let (console, waker) = console_of(at, console, around)?;
+    let jobs = (second_sender, receiver);
+    let rest = (shared, idle_of(&switches));
+    Ok(Runners {
+        loops: loops_of(at, (sockets, outside), loops, fronts, jobs, rest)?,
+        console,
+        over: Over {
+            waker,
+            http: ends.0,
+            page: ends.1,
+        },
         services,
     })
 }
 
+/// What threads share, the rings of the last queries, and the handlers of events.
+fn begun<'a, J: Naming, R: Wait>(
+    at: At<'a, R>,
+    desk: &'a Desk<J>,
+    seats: &mut Vec<Seat<J>>,
+    others: OtherSeats<J>,
+    asked: Asked<'_>,
+) -> Result<(Shared, Rings, Handlers<'a, R, J>), Fault> {
+    let (setup, switches) = asked;
+    let ends = seats.len().saturating_add(OTHER_RINGS);
+    let rings = Rings::made(at.1, ends, switches.recent)?;
+    // Those of datagrams, and that of streams.
+    let shared = Shared::made(at.1, setup.servers(), seats.len().saturating_add(1))?;
+    let takers = callers(at, desk, seats, others, (&rings, &shared.sends))?;
+    Ok((shared, rings, takers))
+}
+
+/// The sockets of the loops, with the limits on clients over TCP.
+fn sockets_of<'a, R: Net + Clock>(
+    at: At<'a, R>,
+    bound: BoundSockets,
+    asked: Asked<'_>,
+    shared: &Shared,
+) -> Result<Sockets<'a, R>, Fault> {
+    let limits = limits_of(clients_of(asked), asked.1);
+    Sockets::made(at, bound, limits, Arc::try_clone(&shared.sends)?)
+}
+
+/// The fronts of these lines, for two loops.
+fn twice(alloc: Global, lines: &[Listener]) -> Result<(Vec<Front>, Vec<Front>), AllocError>
+    ensures { IfOk result (λ r. (r.0.items ≡ map front_of lines.now) × (r.1.items ≡ map front_of lines.now)) }
+{
+    Ok((fronts(alloc, lines)?, fronts(alloc, lines)?))
+}
+
 /// How many clients of each kind there are descriptors for.
-fn clients_of(setup: &Setup, switches: &Switches) -> Clients {
+fn clients_of(asked: Asked<'_>) -> Clients {
+    let (setup, switches) = asked;
     Clients::under(
         limit(),
         setup.listeners(),
@@ -278,12 +300,12 @@ fn idle_of(switches: &Switches) -> Option<u64> {
 
 /// The words of the console, with these rings of the last queries.
 fn words_of<R: Clock>(
-    rt: &R,
-    alloc: Global,
+    at: At<'_, R>,
     setup: &Setup,
     shared: &Shared,
     rings: Rings,
 ) -> Result<Words, AllocError> {
+    let (rt, alloc) = at;
     let sends = Arc::try_clone(&shared.sends)?;
     Words::new(rt, alloc, setup.listeners(), setup.log(), rings, sends)
 }
@@ -294,39 +316,42 @@ type Notes<'b> = (&'b Rings, &'b Arc<Sends>);
 /// The handlers of events of the loops, of the console and of the front, each by a seat of its own.
 /// The console's ends no query.
 fn callers<'a, J: Naming, R: Wait>(
-    rt: &'a R,
-    alloc: Global,
+    at: At<'a, R>,
     desk: &'a Desk<J>,
     seats: &mut Vec<Seat<J>>,
     others: OtherSeats<J>,
     notes: Notes<'_>,
-) -> Result<(Callers<'a, R, J>, Caller<'a, R, J>, Caller<'a, R, J>), AllocError> {
+) -> Result<Handlers<'a, R, J>, AllocError> {
     let OtherSeats {
         streams,
         clock,
         console,
         front,
     } = others;
-    let datagrams = callers_of_datagrams(rt, alloc, desk, seats, notes)?;
+    let (rt, _) = at;
+    let datagrams = callers_of_datagrams(at, desk, seats, notes)?;
     let place = datagrams.len();
-    let takers = (
+    let loops = (
         datagrams,
         noting(rt, desk, streams, notes, place)?,
         noting(rt, desk, clock, notes, place.saturating_add(1))?,
     );
-    let of_front = noting(rt, desk, front, notes, place.saturating_add(2))?;
-    Ok((takers, Caller::new(rt, desk, console), of_front))
+    Ok(Handlers {
+        loops,
+        console: Caller::new(rt, desk, console),
+        front: noting(rt, desk, front, notes, place.saturating_add(2))?,
+    })
 }
 
 /// The handlers of events of the loops of datagrams, one by each of these seats, which are taken
 /// out of their list.
 fn callers_of_datagrams<'a, J: Naming, R: Wait>(
-    rt: &'a R,
-    alloc: Global,
+    at: At<'a, R>,
     desk: &'a Desk<J>,
     seats: &mut Vec<Seat<J>>,
     notes: Notes<'_>,
 ) -> Result<Vec<Caller<'a, R, J>>, AllocError> {
+    let (rt, alloc) = at;
     let mut takers = Vec::with_capacity(alloc, seats.len())?;
     for place in 0..seats.len() {
         if let Some(seat) = seats.pop() {
@@ -356,37 +381,28 @@ fn noting<'a, J: Naming, R: Wait>(
     Ok(Caller::noting(rt, desk, seat, ring).timing(Arc::try_clone(sends)?, place))
 }
 
-/// What the console has alone: its listeners, the words that it answers by itself, its handler of
-/// events, its moments and random words, and the setup file's servers.
+/// What the console has alone: its listeners, the rings of the last queries, its handler of events,
+/// its moments and random words, and what the setup file states.
 type OwnOfConsole<'a, R, J> = (
     Vec<TcpListener>,
-    Words,
+    Rings,
     Caller<'a, R, J>,
     SystemOutside<'a, R>,
-    ServerList,
+    Setup,
 );
 
 /// The console, and what wakes it.
 fn console_of<'a, J: Naming, R: Wait + Net + Clock + RandomSource>(
-    rt: &'a R,
-    alloc: Global,
+    at: At<'a, R>,
     own: OwnOfConsole<'a, R, J>,
-    sockets: &Sockets<'a, R>,
-    shared: &Shared,
+    around: (&Sockets<'a, R>, &Shared),
 ) -> Result<(DeskConsole<'a, R, J>, mio::Waker), Fault> {
-    let around = shared.around(alloc, sockets)?;
-    console_by(rt, alloc, own, around)
-}
-
-/// The console that works on this roster and ends the loops so, and what wakes it.
-fn console_by<'a, J: Naming, R: Wait + Net + Clock + RandomSource>(
-    rt: &'a R,
-    alloc: Global,
-    own: OwnOfConsole<'a, R, J>,
-    around: Around,
-) -> Result<(DeskConsole<'a, R, J>, mio::Waker), Fault> {
-    let (listeners, words, taker, outside, servers) = own;
-    let (roster, halt) = around;
+    let (rt, alloc) = at;
+    let (listeners, rings, taker, outside, setup) = own;
+    let (sockets, shared) = around;
+    let words = words_of(at, &setup, shared, rings)?;
+    let (roster, halt) = shared.around(alloc, sockets)?;
+    let servers = setup.into_servers();
     let operator = Operator::new(alloc, words, taker, outside, servers, roster);
     let console = Console::made(rt, rt, alloc, listeners, operator, halt)?;
     let waker = console.waker()?;
@@ -394,27 +410,40 @@ fn console_by<'a, J: Naming, R: Wait + Net + Clock + RandomSource>(
 }
 
 /// What the front of DNS on HTTP has alone: its listeners, its handler of events, its end of the
-/// outbox, its moments and words, and what ends it.
-type OwnOfHttp<'a, R, J> = (
-    Vec<Bound>,
-    Caller<'a, R, J>,
-    Sender,
-    SystemOutside<'a, R>,
-    oneshot::Receiver<()>,
-);
+/// outbox, and its moments and words.
+type OwnOfHttp<'a, R, J> = (Vec<Bound>, Caller<'a, R, J>, Sender, SystemOutside<'a, R>);
+
+/// What ends the front of DNS on HTTP, and what ends the service of metrics.
+type HttpEnds = (oneshot::Sender<()>, oneshot::Sender<()>);
+
+/// The services of a desk by HTTP, that of metrics if it has a listener, and what ends them.
+fn services_of<'a, J: Naming, R: Wait + Net + Clock + RandomSource>(
+    at: At<'a, R>,
+    desk: &'a Desk<J>,
+    own: OwnOfHttp<'a, R, J>,
+    listener: Option<net::TcpListener>,
+    asked: Asked<'_>,
+    around: (&Sockets<'a, R>, &Shared),
+) -> Result<(DeskServices<'a, R, J>, HttpEnds), Fault> {
+    let (of_http, http_end) = oneshot::channel(at.1)?;
+    let (of_page, page_end) = oneshot::channel(at.1)?;
+    let front = front_of_http(at, own, http_end, clients_of(asked), around)?;
+    let metrics = metrics_at(at, desk, asked.0, around.1, (listener, page_end))?;
+    Ok((Services { front, metrics }, (of_http, of_page)))
+}
 
 /// The front of DNS on HTTP.
 fn front_of_http<'a, J: Naming, R: Wait + Net + Clock + RandomSource>(
-    rt: &'a R,
-    alloc: Global,
+    at: At<'a, R>,
     own: OwnOfHttp<'a, R, J>,
-    sockets: &Sockets<'a, R>,
-    shared: &Shared,
+    end: oneshot::Receiver<()>,
     clients: Clients,
+    around: (&Sockets<'a, R>, &Shared),
 ) -> Result<DeskFront<'a, R, J>, Fault> {
-    let (listeners, taker, sender, outside, end) = own;
+    let (listeners, taker, sender, outside) = own;
+    let (sockets, shared) = around;
     let parts = FrontParts {
-        runtime: front_runtime(&(rt, alloc), listeners.as_slice()).map_err(Fault::Front)?,
+        runtime: front_runtime(&at, listeners.as_slice()).map_err(Fault::Front)?,
         listeners,
         taker,
         sender,
@@ -427,28 +456,28 @@ fn front_of_http<'a, J: Naming, R: Wait + Net + Clock + RandomSource>(
     };
     Ok(Fronting {
         parts,
-        halt: sockets.halt(alloc, &shared.stop)?,
+        halt: sockets.halt(at.1, &shared.stop)?,
     })
 }
 
 /// The service of metrics of a desk, if it has a listener, and what ends it.
 fn metrics_at<'a, J: Naming, R: Wait + Net + Clock + RandomSource>(
-    rt: &'a R,
-    alloc: Global,
+    at: At<'a, R>,
     desk: &'a Desk<J>,
     setup: &Setup,
     shared: &Shared,
     own: (Option<net::TcpListener>, oneshot::Receiver<()>),
 ) -> Result<Option<DeskMetrics<'a, R, J>>, Fault> {
+    let (rt, alloc) = at;
     let (Some(listener), end) = own else {
         return Ok(None);
     };
     // A page lists no query, so its words have no ring.
     let rings = Rings::made(alloc, 0, 0)?;
-    let words = words_of(rt, alloc, setup, shared, rings)?;
+    let words = words_of(at, setup, shared, rings)?;
     Ok(Some(MetricsParts {
         listener,
-        runtime: metrics_runtime(&(rt, alloc))?,
+        runtime: metrics_runtime(&at)?,
         page: DeskPage { rt, desk, words },
         end,
     }))
@@ -456,6 +485,14 @@ fn metrics_at<'a, J: Naming, R: Wait + Net + Clock + RandomSource>(
 
 /// The handlers of events of the loops: of those of datagrams, of that of streams and of the clock.
 type Callers<'a, R, J> = (Vec<Caller<'a, R, J>>, Caller<'a, R, J>, Caller<'a, R, J>);
+
+/// The handlers of events: of the loops, of the console, and of the front of DNS on HTTP.
+#[derive(Drop)]
+struct Handlers<'a, R: Wait, J: Naming> {
+    loops: Callers<'a, R, J>,
+    console: Caller<'a, R, J>,
+    front: Caller<'a, R, J>,
+}
 
 /// What the loops of datagrams are made of.
 type DatagramRow<'a, R, J> = Vec<
@@ -482,54 +519,51 @@ fn row_of<'a, J: Naming, R: Wait + Net + Clock + RandomSource>(
     Ok(row)
 }
 
-/// What the loops are made of.
-fn parts_of<'a, J: Naming, R: Wait + Net + Clock + RandomSource>(
-    alloc: Global,
-    sockets: Sockets<'a, R>,
-    outside: SystemOutside<'a, R>,
+/// What the loops are made of: their sockets, moments and random words, their handlers of events,
+/// fronts and ends of the outbox, what threads share, and for how many milliseconds a client over
+/// TCP may be idle.
+fn loops_of<'a, J: Naming, R: Wait + Net + Clock + RandomSource>(
+    at: At<'a, R>,
+    own: (Sockets<'a, R>, SystemOutside<'a, R>),
     takers: Callers<'a, R, J>,
     fronts: (Vec<Front>, Vec<Front>),
-    posts: (HttpPosts<'a, R>, HttpPosts<'a, R>),
     jobs: (Sender, Receiver),
-    around: (Arc<Mutex<Roster>>, Arc<Sends>, Halt, Option<u64>),
-) -> Result<Loops<'a, R, J>, AllocError>
+    rest: (Shared, Option<u64>),
+) -> Result<Loops<'a, R, J>, Fault>
     ensures { IfOk result (λ loops. (loops.streams.fronts ≡ fronts.0) × (loops.clock.fronts ≡ fronts.1)) }
 {
-    let (sender, receiver) = jobs;
-    let (roster, sends, halt, idle) = around;
-    let row = row_of(alloc, sockets.datagrams, takers.0, &outside)?;
-    let (streams_outside, clock_outside) = (outside.beside(), outside.beside());
-    let Halt {
-        stop,
-        datagrams,
-        streams,
-        clock,
-    } = halt;
+    let (sockets, outside) = own;
+    let (shared, idle) = rest;
+    let posts = (shared.posts(at)?, shared.posts(at)?);
+    let halt = sockets.halt(at.1, &shared.stop)?;
+    let row = row_of(at.1, sockets.datagrams, takers.0, &outside)?;
+    let streams = StreamParts {
+        sockets: sockets.streams,
+        receiver: jobs.1,
+        fronts: fronts.0,
+        posts: posts.0,
+        taker: takers.1,
+        outside: outside.beside(),
+        idle,
+    };
+    let clock = ClockParts {
+        sockets: sockets.clock,
+        sender: jobs.0,
+        fronts: fronts.1,
+        posts: posts.1,
+        taker: takers.2,
+        outside,
+    };
     Ok(Parts {
         datagrams: row,
-        streams: StreamParts {
-            sockets: sockets.streams,
-            receiver,
-            fronts: fronts.0,
-            posts: posts.0,
-            taker: takers.1,
-            outside: streams_outside,
-            idle,
-        },
-        clock: ClockParts {
-            sockets: sockets.clock,
-            sender,
-            fronts: fronts.1,
-            posts: posts.1,
-            taker: takers.2,
-            outside: clock_outside,
-        },
-        roster,
+        streams,
+        clock,
+        roster: shared.roster,
         gate: OpenGate,
-        sends,
-        stop,
-        datagrams_wakers: datagrams,
-        streams_waker: streams,
-        clock_waker: clock,
+        sends: shared.sends,
+        stop: halt.stop,
+        datagrams_wakers: halt.datagrams,
+        streams_waker: halt.streams,
+        clock_waker: halt.clock,
     })
 }

@@ -106,6 +106,11 @@ impl<S: Streams, T: Taker, O: Outside, P: Posts> StreamLoop<S, T, O, P> {
         self.links.sockets.wait(at_most)
     }
 
+    /// Whether a moment is known at which the time of a connection may be over.
+    pub fn is_timed(&self) -> bool {
+        self.links.table.is_timed()
+    }
+
     /// The sockets, for what they tell beside.
     pub fn sockets(&self) -> &S
         ensures { S.told result.now ≡ self.now.net.told }

@@ -64,6 +64,12 @@ impl Receipts {
         }
     }
 
+    /// Whether there is room for one more receipt.
+    #[inline(always)]
+    pub(crate) fn has_room(&self) -> bool {
+        self.room.is_some()
+    }
+
     /// Takes room for one more receipt, where none is there. The one error is want of memory.
     #[inline(always)]
     pub(crate) fn prepare(&mut self, alloc: Global) -> Result<(), AllocError>
