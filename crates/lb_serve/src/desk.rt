@@ -9,7 +9,7 @@ use crate::fault::Fault;
 use crate::listening::Listening;
 use crate::log::{LogFile, keep};
 use crate::pages::pages_cross_threads;
-use crate::parts::{At, DeskConsole, OtherSeats, Runners, prepared};
+use crate::parts::{Context, DeskConsole, OtherSeats, Runners, prepared};
 use crate::switches::{MOST_LOOPS, Switches};
 use crate::threads::{FrontEnd, LoopsEnd, run_beside};
 use lb_core::Balancer;
@@ -232,7 +232,7 @@ fn run_at_desk<
         + Sync,
     W: Write,
 >(
-    at: At<'a, R>,
+    cx: Context<'a, R>,
     desk: &'a Desk<J>,
     seats: &mut Vec<Seat<J>>,
     others: OtherSeats<J>,
@@ -242,8 +242,8 @@ fn run_at_desk<
     ensures ready { OnOk result (Appends (W.contents output.old) (W.contents output.new) ready_text) }
     ensures ended { IfErr result (λ fault. Served J.opening J.limit (W.contents output.old) (W.contents output.new) (Err fault)) }
 {
-    match prepared(at, desk, seats, others, given) {
-        Ok(runners) => run_prepared(at, seats, runners, output),
+    match prepared(cx, desk, seats, others, given) {
+        Ok(runners) => run_prepared(cx, seats, runners, output),
         Err(fault) => Err(fault),
     }
 }
@@ -260,7 +260,7 @@ fn run_prepared<
         + Sync,
     W: Write,
 >(
-    at: At<'a, R>,
+    cx: Context<'a, R>,
     seats: &mut Vec<Seat<J>>,
     runners: Runners<'a, R, J>,
     output: &mut W,
@@ -269,9 +269,16 @@ fn run_prepared<
     ensures ended { IfErr result (λ fault. Served J.opening J.limit (W.contents output.old) (W.contents output.new) (Err fault)) }
 {
     match write_line(output, b"ready\n") {
-        Ok(()) => left_of(at, seats, runners),
+        Ok(()) => left_of(cx, seats, runners),
         Err(error) => {
-            drop(runners);
+            let Runners {
+                loops,
+                console,
+                over,
+                services,
+            } = runners;
+            drop(services);
+            drop((loops, console, over));
             Err(Fault::Output(error))
         }
     }
@@ -287,8 +294,12 @@ fn left_of<
         + Clock
         + RandomSource
         + Sync,
->(at: At<'a, R>, seats: &mut Vec<Seat<J>>, runners: Runners<'a, R, J>) -> Result<Left<J>, Fault> {
-    let (loops, (console, front)) = run(at, runners);
+>(
+    cx: Context<'a, R>,
+    seats: &mut Vec<Seat<J>>,
+    runners: Runners<'a, R, J>,
+) -> Result<Left<J>, Fault> {
+    let (loops, (console, front)) = run(cx, runners);
     left_by(seats, loops, console, front)
 }
 
@@ -303,7 +314,7 @@ fn run<
         + Clock
         + RandomSource
         + Sync,
->(at: At<'a, R>, runners: Runners<'a, R, J>) -> Ran<'a, R, J> {
+>(cx: Context<'a, R>, runners: Runners<'a, R, J>) -> Ran<'a, R, J> {
     let Runners {
         loops,
         console,
@@ -318,7 +329,7 @@ fn run<
     wakers_are_shared();
     posts_cross_threads::<R>();
     pages_cross_threads::<J, R>();
-    run_beside(at.0, at.1, loops, over, console, services)
+    run_beside(cx.0, cx.1, loops, over, console, services)
 }
 
 /// What the loops, the console and the front leave; the first fault of theirs, if one ended by

@@ -26,7 +26,9 @@ use lb_metrics::{MetricsParts, metrics_runtime};
 use lb_program::{ServerPlace, Setup};
 use lb_recent::Rings;
 use lb_sends::Sends;
-use lb_sockets::{Limits, ListenSockets, SystemOutside, TcpListeners, TcpSockets, UdpSockets};
+use lb_sockets::{
+    Limits, ListenSockets, PollWaker, SystemOutside, TcpListeners, TcpSockets, UdpSockets,
+};
 use lb_words::Words;
 use mio;
 use mio::net::TcpListener;
@@ -89,8 +91,8 @@ pub(crate) struct Runners<'a, R: Wait + Net + Clock + RandomSource, J: Naming> {
     pub(crate) services: DeskServices<'a, R, J>,
 }
 
-/// The runtime, and what is asked for memory.
-pub(crate) type At<'a, R> = (&'a R, Global);
+/// The runtime, and the allocator.
+pub(crate) type Context<'a, R> = (&'a R, Global);
 
 /// What a setup file states, and what the switches ask for.
 type Asked<'b> = (&'b Setup, &'b Switches);
@@ -111,20 +113,15 @@ impl<'a, R: Net + Clock> Sockets<'a, R> {
     /// Those that listen, and none of servers yet. The clock sends by the listeners of the first
     /// loop of datagrams. The errors are the system's, and refused memory.
     fn made(
-        at: At<'a, R>,
+        cx: Context<'a, R>,
         bound: BoundSockets,
         limits: Limits,
         sends: Arc<Sends>,
     ) -> Result<Sockets<'a, R>, Fault> {
-        let (rt, alloc) = at;
+        let (rt, alloc) = cx;
         let (first, beside, streams) = bound;
-        let mut datagrams = Vec::with_capacity(alloc, beside.len().saturating_add(1))?;
-        datagrams.push(UdpSockets::reading(rt, alloc, Arc::try_clone(&first)?)?)?;
-        for listeners in beside {
-            datagrams.push(UdpSockets::reading(rt, alloc, listeners)?)?;
-        }
         Ok(Sockets {
-            datagrams,
+            datagrams: reading(cx, &first, beside)?,
             streams: TcpSockets::listening(rt, alloc, streams, limits, sends)?,
             clock: UdpSockets::sending(rt, alloc, first)?,
         })
@@ -145,8 +142,20 @@ impl<'a, R: Net + Clock> Sockets<'a, R> {
     }
 }
 
-/// The roster, and what ends the loops.
-type Around = (Arc<Mutex<Roster>>, Halt);
+/// The sockets of the loops of datagrams: of the first one, and of each further one.
+fn reading<'a, R: Net + Clock>(
+    cx: Context<'a, R>,
+    first: &Arc<ListenSockets>,
+    beside: Vec<Arc<ListenSockets>>,
+) -> Result<Vec<UdpSockets<'a, R>>, Fault> {
+    let (rt, alloc) = cx;
+    let mut sockets = Vec::with_capacity(alloc, beside.len().saturating_add(1))?;
+    sockets.push(UdpSockets::reading(rt, alloc, Arc::try_clone(first)?)?)?;
+    for listeners in beside {
+        sockets.push(UdpSockets::reading(rt, alloc, listeners)?)?;
+    }
+    Ok(sockets)
+}
 
 /// What several threads share.
 #[derive(Drop)]
@@ -171,25 +180,15 @@ impl Shared {
         })
     }
 
-    /// The roster, and what ends the loops, for one more.
-    fn around<R: Net + Clock>(
-        &self,
-        alloc: Global,
-        sockets: &Sockets<'_, R>,
-    ) -> Result<Around, Fault> {
-        let roster = Arc::try_clone(&self.roster)?;
-        Ok((roster, sockets.halt(alloc, &self.stop)?))
-    }
-
     /// What hands answers to the requests by HTTP.
-    fn posts<'a, R: Wait>(&self, at: At<'a, R>) -> Result<HttpPosts<'a, R>, Fault> {
-        Ok(HttpPosts::new(at.0, at.1, Arc::try_clone(&self.requests)?))
+    fn posts<'a, R: Wait>(&self, cx: Context<'a, R>) -> Result<HttpPosts<'a, R>, Fault> {
+        Ok(HttpPosts::new(cx.0, cx.1, Arc::try_clone(&self.requests)?))
     }
 }
 
 /// What the loops, the console and the services by HTTP are made of.
 pub(crate) fn prepared<'a, J: Naming, R: Wait + Net + Clock + RandomSource>(
-    at: At<'a, R>,
+    cx: Context<'a, R>,
     desk: &'a Desk<J>,
     seats: &mut Vec<Seat<J>>,
     others: OtherSeats<J>,
@@ -207,65 +206,87 @@ pub(crate) fn prepared<'a, J: Naming, R: Wait + Net + Clock + RandomSource>(
         metrics,
     } = listening;
     let asked = (&setup, &switches);
-    let (shared, rings, takers) = begun(at, desk, seats, others, asked)?;
-    let sockets = sockets_of(at, (datagrams, beside, streams), asked, &shared)?;
-    let outside = SystemOutside::new(at.0)?;
-    let (sender, second_sender, receiver) = Outbox::made(at.1, JOBS)?;
+    let (shared, rings, takers, posts) = begun(cx, desk, seats, others, asked)?;
+    let (sockets, halts) = sockets_of(cx, (datagrams, beside, streams), asked, &shared)?;
+    let outside = SystemOutside::new(cx.0)?;
+    let (sender, second_sender, receiver) = Outbox::made(cx.1, JOBS)?;
     let Handlers {
         loops,
         console,
         front,
     } = takers;
-    let http = (http, front, sender, outside.beside());
+    let (of_http, http_end) = oneshot::channel(cx.1)?;
+    let (of_page, page_end) = oneshot::channel(cx.1)?;
+    let http = (http, front, sender, outside.beside(), halts.front);
     let around = (&sockets, &shared);
-    let (services, ends) = services_of(at, desk, http, metrics, asked, around)?;
-    let fronts = twice(at.1, setup.listeners())?;
-    let console = (consoles, rings, console, outside.beside(), setup);
-    let (console, waker) = console_of(at, console, around)?;
+    let (http, page) = ((http, http_end), (metrics, page_end));
+    let services = services_of(cx, desk, http, page, asked, around)?;
+    let fronts = fronts_for_two(cx.1, setup.listeners())?;
+    let operator = operator_of(cx, (rings, console, outside.beside(), setup), &shared)?;
+    let (console, waker) = console_of(cx, consoles, operator, halts.console)?;
     let jobs = (second_sender, receiver);
-    let rest = (shared, idle_of(&switches));
+    let rest = (shared, posts, halts.loops, idle_of(&switches));
     Ok(Runners {
-        loops: loops_of(at, (sockets, outside), loops, fronts, jobs, rest)?,
+        loops: loops_of(cx.1, (sockets, outside), loops, fronts, jobs, rest)?,
         console,
         over: Over {
             waker,
-            http: ends.0,
-            page: ends.1,
+            http: of_http,
+            page: of_page,
         },
         services,
     })
 }
 
-/// What threads share, the rings of the last queries, and the handlers of events.
+/// What threads share, the rings of the last queries, the handlers of events, and what hands answers
+/// to requests by HTTP for the loop of streams and for the clock.
 fn begun<'a, J: Naming, R: Wait>(
-    at: At<'a, R>,
+    cx: Context<'a, R>,
     desk: &'a Desk<J>,
     seats: &mut Vec<Seat<J>>,
     others: OtherSeats<J>,
     asked: Asked<'_>,
-) -> Result<(Shared, Rings, Handlers<'a, R, J>), Fault> {
+) -> Result<(Shared, Rings, Handlers<'a, R, J>, TwoPosts<'a, R>), Fault> {
     let (setup, switches) = asked;
     let ends = seats.len().saturating_add(OTHER_RINGS);
-    let rings = Rings::made(at.1, ends, switches.recent)?;
+    let rings = Rings::made(cx.1, ends, switches.recent)?;
     // Those of datagrams, and that of streams.
-    let shared = Shared::made(at.1, setup.servers(), seats.len().saturating_add(1))?;
-    let takers = callers(at, desk, seats, others, (&rings, &shared.sends))?;
-    Ok((shared, rings, takers))
+    let shared = Shared::made(cx.1, setup.servers(), seats.len().saturating_add(1))?;
+    let posts = (shared.posts(cx)?, shared.posts(cx)?);
+    let takers = callers(cx, desk, seats, others, (&rings, &shared.sends))?;
+    Ok((shared, rings, takers, posts))
 }
 
-/// The sockets of the loops, with the limits on clients over TCP.
+/// What hands answers to requests by HTTP, for two loops.
+type TwoPosts<'a, R> = (HttpPosts<'a, R>, HttpPosts<'a, R>);
+
+/// What ends the loops, for each that may end them, and for the loops themselves.
+#[derive(Drop)]
+struct Halts {
+    console: Halt,
+    front: Halt,
+    loops: Halt,
+}
+
+/// The sockets of the loops, with the limits on clients over TCP, and what ends these loops.
 fn sockets_of<'a, R: Net + Clock>(
-    at: At<'a, R>,
+    cx: Context<'a, R>,
     bound: BoundSockets,
     asked: Asked<'_>,
     shared: &Shared,
-) -> Result<Sockets<'a, R>, Fault> {
+) -> Result<(Sockets<'a, R>, Halts), Fault> {
     let limits = limits_of(clients_of(asked), asked.1);
-    Sockets::made(at, bound, limits, Arc::try_clone(&shared.sends)?)
+    let sockets = Sockets::made(cx, bound, limits, Arc::try_clone(&shared.sends)?)?;
+    let halts = Halts {
+        console: sockets.halt(cx.1, &shared.stop)?,
+        front: sockets.halt(cx.1, &shared.stop)?,
+        loops: sockets.halt(cx.1, &shared.stop)?,
+    };
+    Ok((sockets, halts))
 }
 
 /// The fronts of these lines, for two loops.
-fn twice(alloc: Global, lines: &[Listener]) -> Result<(Vec<Front>, Vec<Front>), AllocError>
+fn fronts_for_two(alloc: Global, lines: &[Listener]) -> Result<(Vec<Front>, Vec<Front>), AllocError>
     ensures { IfOk result (λ r. (r.0.items ≡ map front_of lines.now) × (r.1.items ≡ map front_of lines.now)) }
 {
     Ok((fronts(alloc, lines)?, fronts(alloc, lines)?))
@@ -300,12 +321,12 @@ fn idle_of(switches: &Switches) -> Option<u64> {
 
 /// The words of the console, with these rings of the last queries.
 fn words_of<R: Clock>(
-    at: At<'_, R>,
+    cx: Context<'_, R>,
     setup: &Setup,
     shared: &Shared,
     rings: Rings,
 ) -> Result<Words, AllocError> {
-    let (rt, alloc) = at;
+    let (rt, alloc) = cx;
     let sends = Arc::try_clone(&shared.sends)?;
     Words::new(rt, alloc, setup.listeners(), setup.log(), rings, sends)
 }
@@ -316,7 +337,7 @@ type Notes<'b> = (&'b Rings, &'b Arc<Sends>);
 /// The handlers of events of the loops, of the console and of the front, each by a seat of its own.
 /// The console's ends no query.
 fn callers<'a, J: Naming, R: Wait>(
-    at: At<'a, R>,
+    cx: Context<'a, R>,
     desk: &'a Desk<J>,
     seats: &mut Vec<Seat<J>>,
     others: OtherSeats<J>,
@@ -328,8 +349,8 @@ fn callers<'a, J: Naming, R: Wait>(
         console,
         front,
     } = others;
-    let (rt, _) = at;
-    let datagrams = callers_of_datagrams(at, desk, seats, notes)?;
+    let (rt, _) = cx;
+    let datagrams = callers_of_datagrams(cx, desk, seats, notes)?;
     let place = datagrams.len();
     let loops = (
         datagrams,
@@ -346,12 +367,12 @@ fn callers<'a, J: Naming, R: Wait>(
 /// The handlers of events of the loops of datagrams, one by each of these seats, which are taken
 /// out of their list.
 fn callers_of_datagrams<'a, J: Naming, R: Wait>(
-    at: At<'a, R>,
+    cx: Context<'a, R>,
     desk: &'a Desk<J>,
     seats: &mut Vec<Seat<J>>,
     notes: Notes<'_>,
 ) -> Result<Vec<Caller<'a, R, J>>, AllocError> {
-    let (rt, alloc) = at;
+    let (rt, alloc) = cx;
     let mut takers = Vec::with_capacity(alloc, seats.len())?;
     for place in 0..seats.len() {
         if let Some(seat) = seats.pop() {
@@ -381,103 +402,130 @@ fn noting<'a, J: Naming, R: Wait>(
     Ok(Caller::noting(rt, desk, seat, ring).timing(Arc::try_clone(sends)?, place))
 }
 
-/// What the console has alone: its listeners, the rings of the last queries, its handler of events,
-/// its moments and random words, and what the setup file states.
-type OwnOfConsole<'a, R, J> = (
-    Vec<TcpListener>,
-    Rings,
-    Caller<'a, R, J>,
-    SystemOutside<'a, R>,
-    Setup,
-);
+/// What answers lines of the console of a desk.
+type DeskOperator<'a, R, J> = Operator<Caller<'a, R, J>, SystemOutside<'a, R>>;
+
+/// What the operator has alone: the rings of the last queries, its handler of events, its moments
+/// and random words, and what the setup file states.
+type OwnOfOperator<'a, R, J> = (Rings, Caller<'a, R, J>, SystemOutside<'a, R>, Setup);
+
+/// What answers lines of the console.
+fn operator_of<'a, J: Naming, R: Wait + Net + Clock + RandomSource>(
+    cx: Context<'a, R>,
+    own: OwnOfOperator<'a, R, J>,
+    shared: &Shared,
+) -> Result<DeskOperator<'a, R, J>, AllocError> {
+    let (rings, taker, outside, setup) = own;
+    let words = words_of(cx, &setup, shared, rings)?;
+    let roster = Arc::try_clone(&shared.roster)?;
+    let servers = setup.into_servers();
+    Ok(Operator::new(cx.1, words, taker, outside, servers, roster))
+}
 
 /// The console, and what wakes it.
 fn console_of<'a, J: Naming, R: Wait + Net + Clock + RandomSource>(
-    at: At<'a, R>,
-    own: OwnOfConsole<'a, R, J>,
-    around: (&Sockets<'a, R>, &Shared),
+    cx: Context<'a, R>,
+    listeners: Vec<TcpListener>,
+    operator: DeskOperator<'a, R, J>,
+    halt: Halt,
 ) -> Result<(DeskConsole<'a, R, J>, mio::Waker), Fault> {
-    let (rt, alloc) = at;
-    let (listeners, rings, taker, outside, setup) = own;
-    let (sockets, shared) = around;
-    let words = words_of(at, &setup, shared, rings)?;
-    let (roster, halt) = shared.around(alloc, sockets)?;
-    let servers = setup.into_servers();
-    let operator = Operator::new(alloc, words, taker, outside, servers, roster);
+    let (rt, alloc) = cx;
     let console = Console::made(rt, rt, alloc, listeners, operator, halt)?;
     let waker = console.waker()?;
     Ok((console, waker))
 }
 
 /// What the front of DNS on HTTP has alone: its listeners, its handler of events, its end of the
-/// outbox, and its moments and words.
-type OwnOfHttp<'a, R, J> = (Vec<Bound>, Caller<'a, R, J>, Sender, SystemOutside<'a, R>);
+/// outbox, its moments and words, and what ends the loops.
+type OwnOfHttp<'a, R, J> = (
+    Vec<Bound>,
+    Caller<'a, R, J>,
+    Sender,
+    SystemOutside<'a, R>,
+    Halt,
+);
 
-/// What ends the front of DNS on HTTP, and what ends the service of metrics.
-type HttpEnds = (oneshot::Sender<()>, oneshot::Sender<()>);
+/// What the service of metrics has alone: its listener, if it has one, and what ends it.
+type OwnOfMetrics = (Option<net::TcpListener>, oneshot::Receiver<()>);
 
-/// The services of a desk by HTTP, that of metrics if it has a listener, and what ends them.
+/// The services of a desk by HTTP, that of metrics if it has a listener.
 fn services_of<'a, J: Naming, R: Wait + Net + Clock + RandomSource>(
-    at: At<'a, R>,
+    cx: Context<'a, R>,
     desk: &'a Desk<J>,
-    own: OwnOfHttp<'a, R, J>,
-    listener: Option<net::TcpListener>,
+    http: (OwnOfHttp<'a, R, J>, oneshot::Receiver<()>),
+    page: OwnOfMetrics,
     asked: Asked<'_>,
     around: (&Sockets<'a, R>, &Shared),
-) -> Result<(DeskServices<'a, R, J>, HttpEnds), Fault> {
-    let (of_http, http_end) = oneshot::channel(at.1)?;
-    let (of_page, page_end) = oneshot::channel(at.1)?;
-    let front = front_of_http(at, own, http_end, clients_of(asked), around)?;
-    let metrics = metrics_at(at, desk, asked.0, around.1, (listener, page_end))?;
-    Ok((Services { front, metrics }, (of_http, of_page)))
+) -> Result<DeskServices<'a, R, J>, Fault> {
+    let metrics = metrics_at(cx, desk, asked.0, around.1, page)?;
+    let front = front_of_http(cx, http, clients_of(asked), around)?;
+    Ok(Services { front, metrics })
 }
 
-/// The front of DNS on HTTP.
+/// The front of DNS on HTTP, by what it has alone and what ends it.
 fn front_of_http<'a, J: Naming, R: Wait + Net + Clock + RandomSource>(
-    at: At<'a, R>,
-    own: OwnOfHttp<'a, R, J>,
-    end: oneshot::Receiver<()>,
+    cx: Context<'a, R>,
+    own: (OwnOfHttp<'a, R, J>, oneshot::Receiver<()>),
     clients: Clients,
     around: (&Sockets<'a, R>, &Shared),
 ) -> Result<DeskFront<'a, R, J>, Fault> {
-    let (listeners, taker, sender, outside) = own;
-    let (sockets, shared) = around;
+    let (own, end) = own;
+    let beside = Beside::made(around)?;
+    let runtime = front_runtime(&cx, own.0.as_slice()).map_err(Fault::Front)?;
+    let (listeners, taker, sender, outside, halt) = own;
     let parts = FrontParts {
-        runtime: front_runtime(&at, listeners.as_slice()).map_err(Fault::Front)?,
+        runtime,
         listeners,
         taker,
         sender,
         outside,
-        streams: sockets.streams.waker()?,
-        requests: Arc::try_clone(&shared.requests)?,
+        streams: beside.streams,
+        requests: beside.requests,
         clients: clients.http as usize,
-        sends: Arc::try_clone(&shared.sends)?,
+        sends: beside.sends,
         end,
     };
-    Ok(Fronting {
-        parts,
-        halt: sockets.halt(at.1, &shared.stop)?,
-    })
+    Ok(Fronting { parts, halt })
+}
+
+/// What the front of DNS on HTTP shares with the loops: what wakes that of streams, the requests
+/// that wait for answers, and the counts of failed sends.
+#[derive(Drop)]
+struct Beside {
+    streams: PollWaker,
+    requests: Arc<Requests>,
+    sends: Arc<Sends>,
+}
+
+impl Beside {
+    fn made<R: Net + Clock>(around: (&Sockets<'_, R>, &Shared)) -> Result<Beside, Fault> {
+        let (sockets, shared) = around;
+        Ok(Beside {
+            streams: sockets.streams.waker()?,
+            requests: Arc::try_clone(&shared.requests)?,
+            sends: Arc::try_clone(&shared.sends)?,
+        })
+    }
 }
 
 /// The service of metrics of a desk, if it has a listener, and what ends it.
 fn metrics_at<'a, J: Naming, R: Wait + Net + Clock + RandomSource>(
-    at: At<'a, R>,
+    cx: Context<'a, R>,
     desk: &'a Desk<J>,
     setup: &Setup,
     shared: &Shared,
-    own: (Option<net::TcpListener>, oneshot::Receiver<()>),
+    own: OwnOfMetrics,
 ) -> Result<Option<DeskMetrics<'a, R, J>>, Fault> {
-    let (rt, alloc) = at;
+    let (rt, alloc) = cx;
     let (Some(listener), end) = own else {
         return Ok(None);
     };
     // A page lists no query, so its words have no ring.
     let rings = Rings::made(alloc, 0, 0)?;
-    let words = words_of(at, setup, shared, rings)?;
+    let words = words_of(cx, setup, shared, rings)?;
     Ok(Some(MetricsParts {
         listener,
-        runtime: metrics_runtime(&at)?,
+        runtime: metrics_runtime(&cx)?,
         page: DeskPage { rt, desk, words },
         end,
     }))
@@ -502,41 +550,46 @@ type DatagramRow<'a, R, J> = Vec<
 /// What the loops of datagrams are made of, each of its sockets and its handler.
 fn row_of<'a, J: Naming, R: Wait + Net + Clock + RandomSource>(
     alloc: Global,
-    sockets: Vec<UdpSockets<'a, R>>,
-    takers: Vec<Caller<'a, R, J>>,
+    mut sockets: Vec<UdpSockets<'a, R>>,
+    mut takers: Vec<Caller<'a, R, J>>,
     outside: &SystemOutside<'a, R>,
 ) -> Result<DatagramRow<'a, R, J>, AllocError> {
     let mut row = Vec::with_capacity(alloc, takers.len())?;
-    for (sockets, taker) in sockets.into_iter().zip(takers) {
-        let outside = outside.beside();
-        row.push(DatagramParts {
-            sockets,
-            taker,
-            outside,
-        })
-        .map_err(AllocError::from)?;
+    for _ in 0..takers.len() {
+        if let Some(taker) = takers.pop()
+            && let Some(sockets) = sockets.pop()
+        {
+            let outside = outside.beside();
+            row.push(DatagramParts {
+                sockets,
+                taker,
+                outside,
+            })
+            .map_err(AllocError::from)?;
+        }
     }
     Ok(row)
 }
 
+/// What the loops have besides: what threads share, what hands answers to requests by HTTP, what
+/// ends them, and for how many milliseconds a client over TCP may be idle.
+type RestOfLoops<'a, R> = (Shared, TwoPosts<'a, R>, Halt, Option<u64>);
+
 /// What the loops are made of: their sockets, moments and random words, their handlers of events,
-/// fronts and ends of the outbox, what threads share, and for how many milliseconds a client over
-/// TCP may be idle.
+/// fronts and ends of the outbox, and the rest.
 fn loops_of<'a, J: Naming, R: Wait + Net + Clock + RandomSource>(
-    at: At<'a, R>,
+    alloc: Global,
     own: (Sockets<'a, R>, SystemOutside<'a, R>),
     takers: Callers<'a, R, J>,
     fronts: (Vec<Front>, Vec<Front>),
     jobs: (Sender, Receiver),
-    rest: (Shared, Option<u64>),
-) -> Result<Loops<'a, R, J>, Fault>
+    rest: RestOfLoops<'a, R>,
+) -> Result<Loops<'a, R, J>, AllocError>
     ensures { IfOk result (λ loops. (loops.streams.fronts ≡ fronts.0) × (loops.clock.fronts ≡ fronts.1)) }
 {
     let (sockets, outside) = own;
-    let (shared, idle) = rest;
-    let posts = (shared.posts(at)?, shared.posts(at)?);
-    let halt = sockets.halt(at.1, &shared.stop)?;
-    let row = row_of(at.1, sockets.datagrams, takers.0, &outside)?;
+    let (shared, posts, halt, idle) = rest;
+    let row = row_of(alloc, sockets.datagrams, takers.0, &outside)?;
     let streams = StreamParts {
         sockets: sockets.streams,
         receiver: jobs.1,
