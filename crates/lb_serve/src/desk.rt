@@ -9,9 +9,9 @@ use crate::fault::Fault;
 use crate::listening::Listening;
 use crate::log::{LogFile, keep};
 use crate::pages::pages_cross_threads;
-use crate::parts::{Context, DeskConsole, OtherSeats, Runners, prepared};
+use crate::parts::{Context, DeskConsole, DeskServices, Loops, OtherSeats, Runners, prepared};
 use crate::switches::{MOST_LOOPS, Switches};
-use crate::threads::{FrontEnd, LoopsEnd, run_beside};
+use crate::threads::{FrontEnd, LoopsEnd, Over, run_beside};
 use lb_core::Balancer;
 use lb_desk::{CloseFault, Desk, Naming, Seat};
 use lb_doh::posts_cross_threads;
@@ -268,17 +268,16 @@ fn run_prepared<
     ensures ready { OnOk result (Appends (W.contents output.old) (W.contents output.new) ready_text) }
     ensures ended { IfErr result (λ fault. Served J.opening J.limit (W.contents output.old) (W.contents output.new) (Err fault)) }
 {
+    let Runners {
+        loops,
+        console,
+        over,
+        services,
+    } = runners;
     match write_line(output, b"ready\n") {
-        Ok(()) => left_of(cx, seats, runners),
+        Ok(()) => left_of(cx, seats, loops, console, over, services),
         Err(error) => {
-            let Runners {
-                loops,
-                console,
-                over,
-                services,
-            } = runners;
             drop(services);
-            drop((loops, console, over));
             Err(Fault::Output(error))
         }
     }
@@ -297,9 +296,12 @@ fn left_of<
 >(
     cx: Context<'a, R>,
     seats: &mut Vec<Seat<J>>,
-    runners: Runners<'a, R, J>,
+    loops: Loops<'a, R, J>,
+    console: DeskConsole<'a, R, J>,
+    over: Over,
+    services: DeskServices<'a, R, J>,
 ) -> Result<Left<J>, Fault> {
-    let (loops, (console, front)) = run(cx, runners);
+    let (loops, (console, front)) = run(cx, loops, console, over, services);
     left_by(seats, loops, console, front)
 }
 
@@ -314,13 +316,13 @@ fn run<
         + Clock
         + RandomSource
         + Sync,
->(cx: Context<'a, R>, runners: Runners<'a, R, J>) -> Ran<'a, R, J> {
-    let Runners {
-        loops,
-        console,
-        over,
-        services,
-    } = runners;
+>(
+    cx: Context<'a, R>,
+    loops: Loops<'a, R, J>,
+    console: DeskConsole<'a, R, J>,
+    over: Over,
+    services: DeskServices<'a, R, J>,
+) -> Ran<'a, R, J> {
     // Laws, which do nothing.
     callers_cross_threads::<J, R>();
     sockets_cross_threads::<R>();
