@@ -1,0 +1,22 @@
+use Rattle.std.proofs.Common.{◌≡◌, ◌≤◌, ◌<◌, ◌∙◌, length, List, ℕ, [], ◌∷◌, ◌++◌, string_bytes, codes, subst, sym, ap, arith}
+use Rattle.std.specs.Fmt.{decimal}
+use Rattle.lb_core.specs.declared.event.Event.TheVariants as events
+use Rattle.lb_command.specs.Answers.{hex_text}
+use Rattle.lb_command.specs.Events.{told_origin}
+use Rattle.lb_command.specs.Grammar.{IsEvent, event}
+use Rattle.lb_command.specs.Reading.{max_line}
+use Rattle.lb_command.specs.Values.{hex_of}
+use Rattle.lb_typed.specs.Pieces.{Spells}
+use Rattle.lb_typed.specs.Typed.{CanBeTyped, EventCanBeTyped, as_told}
+use Rattle.lb_typed.specs.Words.{Types}
+use Rattle.lb_typed.proofs.EventPieces as pieces
+use Rattle.lb_typed.proofs.Texts.{holds, weaker}
+use Rattle.lb_typed.proofs.events.edit_text.Goals as goal
+
+pub returns : goal.returns
+returns c =
+    let command = c.args.command.now in
+    let text = string_bytes c.in_ok-command.command in
+    holds string_bytes c.spaced-2.result (codes "edit" ++ 32 ∷ (decimal c.args.now ++ 32 ∷ text)) (λ bytes. CanBeTyped command → Spells (event (events.Edit c.args.now command)) bytes)
+    (λ can. pieces.edit c.args.now command text c.law_of_u64.ensures (rw c.get.ensures at c.in_ok-command.ensures can))
+    (rw (c.as_str-3.ensures.value, c.in_ok-text.ensures, c.as_str.ensures.value, c.as_str-2.ensures.value, c.in_ok-now.ensures) at c.spaced-2.ensures)

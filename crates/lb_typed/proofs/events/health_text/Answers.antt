@@ -1,0 +1,19 @@
+use Rattle.std.proofs.Common.{◌≡◌, ◌≤◌, ◌<◌, ◌∙◌, length, List, ℕ, [], ◌∷◌, ◌++◌, string_bytes, codes, subst, sym, ap, arith}
+use Rattle.std.specs.Fmt.{decimal}
+use Rattle.lb_core.specs.declared.event.Event.TheVariants as events
+use Rattle.lb_command.specs.Answers.{hex_text}
+use Rattle.lb_command.specs.Events.{told_origin}
+use Rattle.lb_command.specs.Grammar.{IsEvent, event}
+use Rattle.lb_command.specs.Reading.{max_line}
+use Rattle.lb_command.specs.Values.{hex_of}
+use Rattle.lb_typed.specs.Pieces.{Spells}
+use Rattle.lb_typed.specs.Typed.{CanBeTyped, EventCanBeTyped, as_told}
+use Rattle.lb_typed.specs.Words.{Types}
+use Rattle.lb_typed.proofs.EventPieces as pieces
+use Rattle.lb_typed.proofs.Texts.{holds, weaker}
+use Rattle.lb_typed.proofs.events.health_text.Goals as goal
+
+pub returns : goal.returns
+returns c = holds string_bytes c.spaced-3.result (codes "health" ++ 32 ∷ (decimal c.args.now ++ 32 ∷ (decimal c.args.server.0 ++ 32 ∷ c.outcome_word.result.now))) (λ text. Spells (event (events.HealthResult c.args.now c.args.server c.args.ok)) text)
+    (pieces.health c.args.now c.args.server c.args.ok c.outcome_word.result.now c.law_of_u64.ensures c.law_of_u64-2.ensures c.outcome_word.ensures)
+    (rw (c.as_str-4.ensures.value, c.in_ok-text-2.ensures, c.as_str-2.ensures.value, c.as_str-3.ensures.value, c.in_ok-text.ensures, c.as_str.ensures.value, c.in_ok-number.ensures, c.in_ok-now.ensures) at c.spaced-3.ensures)
