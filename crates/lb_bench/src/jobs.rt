@@ -1,6 +1,6 @@
 //! How long a send and its receive take with one thread.
 
-use lb_loops::{Job, Outbox, Receiver, Sender};
+use lb_outbox::{Job, Outbox, Receiver, Sender};
 use lb_wire::{Addr, Octets, Origin};
 use std::alloc::{AllocError, Global};
 use std::io;

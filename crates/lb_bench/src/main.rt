@@ -1,24 +1,18 @@
 //! The program `lb_bench`: it measures what only Rattle can call, and writes nanoseconds a call to
 //! standard error. tools/measure/bench measures what lines can say, and tools/measure/instructions
 //! what a query takes. With the argument `messages` it reads queries, makes their answers and
-//! surveys replies. Of what stands between sockets and the desk: with `loops` it has turns of
-//! streams and of the clock; with `streams` it feeds streams and writes them; with `outbox` it
-//! sends jobs and receives them; with `framers` it holds 1,024 streams that announce more than they
-//! send, so that their memory can be told. With no argument it does nothing.
+//! surveys replies; with `streams` it feeds streams and writes them; with `outbox` it sends jobs and
+//! receives them; with `framers` it holds 1,024 streams that announce more than they send, so that
+//! their memory can be measured. With no argument it does nothing.
 #![tactic(auto)]
 
-mod asked;
-mod desk;
 mod jobs;
-mod loops;
 mod messages;
 mod streams;
 
 use jobs::time_jobs;
-use loops::time_loops;
 use messages::time_messages;
 use std::sync::Wait;
-use std::time::Clock;
 use std::{env, io};
 use streams::{hold_framers, time_streams};
 
@@ -30,10 +24,9 @@ fn main(rt: HostRuntime) -> io::Result<()> {
 }
 
 /// Measures what a word names; the second handle waits.
-fn measure<R: Wait + Clock>(rt: &HostRuntime, waits: &R, word: &str) -> io::Result<()> {
+fn measure<R: Wait>(rt: &HostRuntime, waits: &R, word: &str) -> io::Result<()> {
     match word {
         "messages" => time_messages(rt),
-        "loops" => time_loops(rt, waits),
         "streams" => time_streams(rt),
         "outbox" => time_jobs(rt, waits),
         "framers" => hold_framers(rt),
