@@ -398,10 +398,13 @@ def difference(expected, got):
 class Balancer:
     """`lb serve` over lines of a setup file, or dnsdist over the same.
 
-    `listen` lines stand among them; `console` is a port, or None.
+    `listen` lines stand among them; `console` is a port, or None. `switches` are put into the
+    environment.
     """
 
-    def __init__(self, children, name, lines, program, dry=False, console=None, limit=None):
+    def __init__(
+        self, children, name, lines, program, dry=False, console=None, limit=None, switches=None,
+    ):  # fmt: skip
         self.children, self.name, self.dry = children, name, dry
         self.console_at = ("127.0.0.1", console) if console else None
         self.closed = None
@@ -415,7 +418,10 @@ class Balancer:
             words = ["sh", "-c", f'ulimit -n {limit} && exec "$@"', "sh", *words]
         begun = time.monotonic()
         self.errors = open(children.path(f"{name}.err"), "wb")
-        self.child = children.start(words, name, stdout=subprocess.PIPE, stderr=self.errors)
+        environment = {**os.environ, **(switches or {})}
+        self.child = children.start(
+            words, name, stdout=subprocess.PIPE, stderr=self.errors, env=environment
+        )
         self.output = b""
         if dry:
             self.wait_for_dnsdist(lines)

@@ -3,9 +3,9 @@ tools/play/refuse.
 
    REFUSE=K refuses the K-th request, from 1. REFUSE_EACH=K refuses one of each K, the next one each
    time: if something takes K requests, then each of them is refused in turn. A request is a call of
-   malloc or realloc, or of calloc, from the program's begin on, or with REFUSE_ON_SIGNAL=1 once it
-   got the signal USR1. REFUSE_FD=N names a descriptor, to which it writes `ASKED REFUSED` as the
-   program ends: how many requests there were, and how many were refused. */
+   malloc or realloc, or of calloc, from the program's begin on. With REFUSE_ON_SIGNAL=1 it counts
+   from the signal USR1 on, until USR2. REFUSE_FD=N names a descriptor, to which it writes `ASKED
+   REFUSED` as the program ends: how many requests there were, and how many were refused. */
 #define _GNU_SOURCE
 #include <errno.h>
 #include <signal.h>
@@ -30,10 +30,9 @@ static long number_in(const char *name)
     return text ? atol(text) : 0;
 }
 
-static void begin_now(int which_signal)
+static void begin_or_pause(int which_signal)
 {
-    (void)which_signal;
-    is_begun = 1;
+    is_begun = which_signal == SIGUSR1;
 }
 
 __attribute__((constructor)) static void begin(void)
@@ -41,10 +40,12 @@ __attribute__((constructor)) static void begin(void)
     which = number_in("REFUSE");
     each = number_in("REFUSE_EACH");
     told = getenv("REFUSE_FD") ? (int)number_in("REFUSE_FD") : -1;
-    if (number_in("REFUSE_ON_SIGNAL"))
-        signal(SIGUSR1, begin_now);
-    else
+    if (number_in("REFUSE_ON_SIGNAL")) {
+        signal(SIGUSR1, begin_or_pause);
+        signal(SIGUSR2, begin_or_pause);
+    } else {
         is_begun = 1;
+    }
 }
 
 static int is_refused(void)
