@@ -91,8 +91,8 @@ pub record AreLimits (max shards max_ttl : ℕ) : Type 0 where
   pub second : 1 ≤ max_ttl
   pub week : max_ttl ≤ 604800
 
--- the names of a command can be typed, and its response code; no code of it is listed twice, and a server is in at most
--- eight pools
+-- the names of a command can be typed, and its response code; a cache lists no code twice, and a
+-- server is in at most eight pools
 abbrev pub CanBeTyped : Command → Type 0
 CanBeTyped (RuleAdd at rule) = HasTypedNames rule.term × IsTypedAction rule.action
 CanBeTyped (ServerAdd spec check) = length spec.pools ≤ 8
