@@ -5,6 +5,7 @@ ghost use Rattle.futures.specs.Task.{Keeps};
 
 use crate::answering::Front;
 use crate::heads::Client;
+use crate::late::{is_over, seconds_from_now};
 use crate::paced::Paced;
 use crate::shared::Shared;
 use bytes::Bytes;
@@ -24,6 +25,7 @@ use std::sync::{Arc, Wait};
 use std::time::Clock;
 use tokio::net::{TcpListener, TcpStream};
 use tokio::sync::{OwnedSemaphorePermit, Semaphore};
+use tokio::time::{Handle, Sleep};
 
 /// What makes the future of a connection.
 pub trait Make: Drop {
@@ -123,32 +125,50 @@ impl<R: Wait + Clock + Copy + Drop, T: Taker, O: Outside, W: Waker> Make for Mak
 /// its connection stands. A client that finds no place, or no memory for its connection, is closed
 /// at once; the others stay.
 #[derive(Drop)]
-pub(crate) struct Accepting<'a, M: Make> {
+pub(crate) struct Accepting<'a, R: Clock, M: Make> {
+    pub(crate) rt: &'a R,
+    pub(crate) timers: Handle,
     pub(crate) listeners: Vec<(u8, TcpListener)>,
     pub(crate) maker: M,
     pub(crate) places: Arc<Semaphore>,
+    /// Until when the listeners are left alone, after one of them could not take a client in.
+    pub(crate) late: Option<Sleep>,
     /// What tells it to end: that this is sent, or that its sender is dropped.
     pub(crate) end: oneshot::Receiver<()>,
     /// The connections that stand.
     pub(crate) tasks: &'a TaskSet<M::Served>,
 }
 
-/// The next client of some listeners, with the place of its listener.
-fn next_client(
-    listeners: &mut Vec<(u8, TcpListener)>,
-    cx: &mut Context<'_>,
-) -> Option<(u8, TcpStream, SocketAddr)>
-    ensures { Keeps cx.old cx.new }
-{
-    for (place, listener) in listeners.iter_mut() {
-        if let Poll::Ready(Ok((socket, end))) = listener.poll_accept(cx) {
-            return Some((*place, socket, end));
-        }
-    }
-    None
+/// How many seconds the listeners are left alone after one of them could not take a client in.
+const RETRY_SECONDS: u64 = 1;
+
+/// What listeners have.
+#[derive(Drop)]
+enum Next {
+    /// A client, with the place of its listener.
+    Client(u8, TcpStream, SocketAddr),
+    /// No client waits: the task is woken by the next one.
+    Nobody,
+    /// A client waits for whom the system has no descriptor, or no memory. It does not wake the task.
+    Failed,
 }
 
-impl<M: Make> Accepting<'_, M> {
+/// The next client of some listeners, if there is one that can be taken in.
+fn next_client(listeners: &mut Vec<(u8, TcpListener)>, cx: &mut Context<'_>) -> Next
+    ensures { Keeps cx.old cx.new }
+{
+    let mut next = Next::Nobody;
+    for (place, listener) in listeners.iter_mut() {
+        match listener.poll_accept(cx) {
+            Poll::Ready(Ok((socket, end))) => return Next::Client(*place, socket, end),
+            Poll::Ready(Err(_)) => next = Next::Failed,
+            Poll::Pending => {}
+        }
+    }
+    next
+}
+
+impl<R: Clock, M: Make> Accepting<'_, R, M> {
     /// The future of a connection, where there is a place for it.
     fn take_in(&self, place: u8, socket: TcpStream, end: SocketAddr) -> Option<M::Served>
         ensures { IfSome result M.Served.can_poll }
@@ -170,9 +190,24 @@ impl<M: Make> Accepting<'_, M> {
             None => self.maker.turned_away(),
         }
     }
+
+    /// Whether the listeners are left alone, after one of them could not take a client in. The task
+    /// is woken once that is over. If the clock or memory gives no time, they are not left alone.
+    fn rests(&mut self, cx: &mut Context<'_>) -> bool
+        ensures { Keeps cx.old cx.new }
+    {
+        if self.late.is_none() {
+            self.late = seconds_from_now(self.rt, &self.timers, RETRY_SECONDS);
+        }
+        if self.late.is_some() && !is_over(&mut self.late, cx) {
+            return true;
+        }
+        self.late = None;
+        false
+    }
 }
 
-impl<M: Make> Future for Accepting<'_, M> {
+impl<R: Clock, M: Make> Future for Accepting<'_, R, M> {
     type Output = ();
 
     fn poll(&mut self, cx: &mut Context<'_>) -> Poll<()> {
@@ -180,11 +215,17 @@ impl<M: Make> Future for Accepting<'_, M> {
             return Poll::Ready(());
         }
         match next_client(&mut self.listeners, cx) {
-            Some((place, socket, end)) => {
+            Next::Client(place, socket, end) => {
                 self.serve(place, socket, end);
                 cx.yield_now()
             }
-            None => Poll::Pending,
+            Next::Nobody => Poll::Pending,
+            Next::Failed => {
+                if self.rests(cx) {
+                    return Poll::Pending;
+                }
+                cx.yield_now()
+            }
         }
     }
 }

@@ -208,8 +208,12 @@ pub fn serve_connections<R: Wait + Clock + Net + RandomSource + AllocGlobal, M: 
     let (listeners, clients) = room;
     let places = Semaphore::new(alloc, clients.min(CONNECTIONS))?;
     let places = Arc::new(alloc, places)?;
+    let timers = runtime.handle().time().clone()?;
     let tasks = runtime.task_set(rt)?;
     let accepting = Accepting {
+        rt,
+        timers,
+        late: None,
         listeners,
         maker,
         places,

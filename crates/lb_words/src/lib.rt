@@ -3,7 +3,6 @@
 //! is bounded. Contracts say which lines these words answer; none speaks of the texts.
 #![tactic(auto)]
 
-mod command;
 mod event;
 mod heard;
 mod lines;
@@ -21,6 +20,6 @@ mod typed;
 mod watch;
 mod word;
 
-pub use event::{event_line, has_lacked};
+pub use event::has_lacked;
 pub use heard::{Heard, Words};
 pub use word::{Word, word_of};

@@ -3,13 +3,14 @@
 use crate::lines::Lines;
 use crate::rules::{Extent, rule_text};
 use crate::seen::Beside;
-use crate::texts::{mode_word, policy_word, pool_named, pool_word, push_addr, push_number};
+use crate::texts::pool_named;
 use crate::told::{Backend, Counted, Store, Told, look, place_of, rule_at};
 use lb_command::{Listener, Protocol};
 use lb_core::{CacheCounts, Count, ServerCounts};
 use lb_desk::{Desk, Naming};
 use lb_sends::{Clients, Closing, Refusal, Sends};
-use lb_servers::{Mode, Pool};
+use lb_servers::{Mode, Pool, PoolName};
+use lb_typed::{addr_word, codes_word, mode_word, policy_word, pool_word};
 use lb_wire::{Addr, RuleId};
 use std::alloc::{AllocError, Global};
 use std::num::NonZeroU16;
@@ -82,8 +83,7 @@ fn server_line(
     let server = &backend.loaded.server;
     let number = server.id.0;
     let name = server.name.as_str();
-    let mut at = String::new(alloc);
-    push_addr(alloc, &mut at, &server.addr)?;
+    let at = addr_word(alloc, &server.addr)?;
     let port = server.port.get();
     let state = if is_up(backend) { "up" } else { "down" };
     let mode = mode_word(server.mode);
@@ -187,27 +187,28 @@ fn cache_line(alloc: Global, told: &Told, store: &Store) -> Result<String, Alloc
 
 /// The name of the pool that has a cache.
 pub(crate) fn pool_with<'a>(told: &'a Told, store: &Store) -> &'a str {
+    match name_with(told, store) {
+        Some(name) => pool_word(name),
+        None => "?",
+    }
+}
+
+/// The pool that has a cache.
+pub(crate) fn name_with<'a>(told: &'a Told, store: &Store) -> Option<&'a PoolName> {
     for pool in &told.pools {
         if pool.cache == Some(store.id) {
-            return pool_word(&pool.name);
+            return Some(&pool.name);
         }
     }
-    "?"
+    None
 }
 
 /// Codes of options, joined by commas; `none` if there are none.
-pub(crate) fn codes(alloc: Global, codes: &[u16]) -> Result<String, AllocError> {
+fn codes(alloc: Global, codes: &[u16]) -> Result<String, AllocError> {
     if codes.is_empty() {
         return String::from_str(alloc, "none");
     }
-    let mut text = String::new(alloc);
-    for (place, code) in codes.iter().enumerate() {
-        if place > 0 {
-            text.push_str(",")?;
-        }
-        push_number(alloc, &mut text, u64::from(*code))?;
-    }
-    Ok(text)
+    codes_word(alloc, codes)
 }
 
 /// The counts of events, by what they are.
@@ -371,8 +372,7 @@ pub(crate) fn protocol_word(protocol: Protocol) -> &'static str {
 
 /// An address and a port, as they are typed.
 pub(crate) fn at_text(alloc: Global, addr: &Addr, port: NonZeroU16) -> Result<String, AllocError> {
-    let mut at = String::new(alloc);
-    push_addr(alloc, &mut at, addr)?;
+    let at = addr_word(alloc, addr)?;
     let port = port.get();
     format!(in alloc; "{at} {port}")
 }

@@ -2,7 +2,7 @@
 
 use crate::lines::Lines;
 use crate::lists::{ANSWERS, protocol_word};
-use crate::texts::{push_addr, push_number, push_type};
+use crate::texts::push_number;
 use crate::told::Told;
 use crate::typed::{next_word, number_of};
 use lb_command::{CommandFault, FaultKind, Listener};
@@ -11,6 +11,7 @@ use lb_masks::Mask;
 use lb_name::Name;
 use lb_recent::{Question, Record, Rings};
 use lb_servers::Ident;
+use lb_typed::{addr_word, type_word};
 use lb_wire::{RuleId, ServerId};
 use std::alloc::{AllocError, Global};
 use std::sync::Wait;
@@ -227,7 +228,7 @@ fn record_line(
     let at = record.at;
     let ago = now.saturating_sub(at);
     let mut line = format!(in alloc; "query at {at} ago {ago} from ")?;
-    push_addr(alloc, &mut line, &record.source)?;
+    line.push_str(addr_word(alloc, &record.source)?.as_str())?;
     line.push_str(" ")?;
     push_number(alloc, &mut line, u64::from(record.port))?;
     line.push_str(" by ")?;
@@ -240,7 +241,7 @@ fn record_line(
             line.push_str(" name ")?;
             push_labels(alloc, &mut line, question)?;
             line.push_str(" type ")?;
-            push_type(alloc, &mut line, question.qtype())?;
+            line.push_str(type_word(alloc, question.qtype())?.as_str())?;
         }
         None => line.push_str(" name - type -")?,
     }

@@ -2,8 +2,9 @@
 
 use crate::lines::Lines;
 use crate::recent::{Filter, OFF, push_labels};
-use crate::texts::{push_addr, push_number};
+use crate::texts::push_number;
 use lb_recent::{Question, Record, Rings};
+use lb_typed::addr_word;
 use lb_wire::{Addr, RuleId};
 use std::alloc::{AllocError, Global};
 use std::cmp::Ordering;
@@ -138,7 +139,7 @@ fn key_line(alloc: Global, key: &Key, count: usize, all: usize) -> Result<String
     match key {
         Key::Source(addr) => {
             line.push_str("source ")?;
-            push_addr(alloc, &mut line, addr)?;
+            line.push_str(addr_word(alloc, addr)?.as_str())?;
         }
         Key::Name(question) => {
             line.push_str("name ")?;
