@@ -1,6 +1,7 @@
 -- Counts by the numbers of rules, servers and caches.
-use Rattle.std.specs.Prelude.{◌≡◌, ℕ, Option, None, Some, option_map}
-use Rattle.lb_tallies.specs.Tallies.{tally_of, AreSame, Changes}
+use Rattle.std.specs.Prelude.{◌≡◌, ℕ, ◌+◌, ◌-◌, ◌^◌, ◌≤◌, ◌==◌, Bool, false, min, List, ◌∷◌, Option, None, Some, option_map}
+use Rattle.std.specs.List.{AllByRecursion}
+use Rattle.lb_tallies.specs.Tallies.{raised, shut, tally_of, AreSame, Changes}
 use Rattle.lb_wire.specs.declared.ids.CacheId.{CacheId}
 use Rattle.lb_wire.specs.declared.ids.ServerId.{ServerId}
 use Rattle.lb_core.specs.declared.answer.Answer.{Answer}
@@ -12,6 +13,7 @@ use Rattle.lb_core.specs.declared.counts_by_number.CountsByNumber.{CountsByNumbe
 use Rattle.lb_core.specs.declared.counts_by_number.CacheCounts.{CacheCounts}
 use Rattle.lb_core.specs.declared.counts_by_number.ServerCounts.{ServerCounts}
 use Rattle.lb_core.specs.declared.noted.Noted.{Noted}
+use Rattle.lb_core.specs.Counts.{one_if}
 
 -- the counts of a server, and of a cache
 abbrev pub server_counts : CountsByNumber → ServerId → ServerCounts
@@ -60,6 +62,18 @@ abbrev pub expired_at : Answer → Noted → Option ℕ
 expired_at (Expired origin bytes) noted = option_map (λ s. s.server.0) noted.served
 expired_at _ noted = None
 
+-- the rule that ended the walk, whatever its verdict
+abbrev pub ended_by : Answer → Noted → Option ℕ
+ended_by answer noted = option_map (λ r. r.0) noted.rule
+
+-- the cache that was asked
+abbrev pub asked_of : Answer → Noted → Option ℕ
+asked_of answer noted = option_map (λ c. c.0) noted.cache
+
+-- the server that a query was sent to
+abbrev pub sent_to : Answer → Noted → Option ℕ
+sent_to answer noted = forwarded_to answer
+
 abbrev pub hit_in : Answer → Noted → Option ℕ
 hit_in (Local bytes Hit) noted = option_map (λ c. c.0) noted.cache
 hit_in _ noted = None
@@ -99,3 +113,42 @@ pub record AreWalked (noted : Noted) (old new : CountsByNumber) : Type 0 where
   pub expired : AreSame old.expired new.expired
   pub asked : Changes None (option_map (λ c. c.0) noted.cache) old.asked new.asked
   pub hit : AreSame old.hit new.hit
+
+-- what a number has after a run with these answers, of whose steps these were noted: at each step its
+-- count goes if the answer removes it, and then rises if the step is of that number
+abbrev pub tally_after : (Answer → Option ℕ) → (Answer → Noted → Option ℕ) → List Answer → List Noted → ℕ → ℕ → ℕ
+tally_after removed named (answer ∷ answers) (noted ∷ notes) id tally =
+    tally_after removed named answers notes id (raised (named answer noted) id (shut (removed answer) id tally))
+tally_after removed named _ _ id tally = tally
+
+-- each count after a run with these answers, of whose steps these were noted
+pub record AreCountedIn (answers : List Answer) (notes : List Noted) (old new : CountsByNumber) : Type 0 where
+  pub ended : (id : ℕ) → tally_of id new.ended ≡ tally_after (by_note rule_removed) ended_by answers notes id (tally_of id old.ended)
+  pub forwarded : (id : ℕ) → tally_of id new.forwarded ≡ tally_after (by_note server_removed) sent_to answers notes id (tally_of id old.forwarded)
+  pub replied : (id : ℕ) → tally_of id new.replied ≡ tally_after (by_note server_removed) replied_by answers notes id (tally_of id old.replied)
+  pub expired : (id : ℕ) → tally_of id new.expired ≡ tally_after (by_note server_removed) expired_at answers notes id (tally_of id old.expired)
+  pub asked : (id : ℕ) → tally_of id new.asked ≡ tally_after (by_note cache_removed) asked_of answers notes id (tally_of id old.asked)
+  pub hit : (id : ℕ) → tally_of id new.hit ≡ tally_after (by_note cache_removed) hit_in answers notes id (tally_of id old.hit)
+
+-- the counts of a run if no memory for one was refused: then none was refused before it
+pub record AreExact (answers : List Answer) (notes : List Noted) (old new : CountsByNumber) : Type 0 where
+  pub before : old.lacked ≡ false
+  pub counted : AreCountedIn answers notes old new
+
+-- whether a step is of a number
+abbrev pub is_of : Option ℕ → ℕ → Bool
+is_of (Some one) id = id == one
+is_of None id = false
+
+-- how many steps of a run are of a number
+abbrev pub times_named : (Answer → Noted → Option ℕ) → List Answer → List Noted → ℕ → ℕ
+times_named named (answer ∷ answers) (noted ∷ notes) id = one_if (is_of (named answer noted) id) + times_named named answers notes id
+times_named named _ _ id = 0
+
+-- if no step of a run removes a number, its count is the one from before and how many steps are of
+-- that number; at 2^64-1 it stays
+abbrev pub CountsAreNumbers : Type 0
+CountsAreNumbers =
+    (removed : Answer → Option ℕ) (named : Answer → Noted → Option ℕ) (answers : List Answer) (notes : List Noted) (id tally : ℕ) →
+    tally ≤ 2 ^ 64 - 1 → AllByRecursion (λ answer. removed answer ≡ Some id → ⊥) answers →
+    tally_after removed named answers notes id tally ≡ min (tally + times_named named answers notes id) (2 ^ 64 - 1)

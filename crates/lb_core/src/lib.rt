@@ -39,9 +39,10 @@ pub use counts::Counts;
 pub use counts_by_number::{CacheCounts, CountsByNumber, ServerCounts};
 pub use event::Event;
 pub use laws::{
-    balancers_cross_threads, cached_answers_are_kept_replies, equal_snapshots_are_of_equal_states,
-    equal_snapshots_have_equal_runs, hits_come_from_replies, marks_follow_results,
-    one_run_per_marks, refusals_change_nothing, routes_follow, ticks_end_the_due,
+    balancers_cross_threads, cached_answers_are_kept_replies, counts_are_numbers,
+    equal_snapshots_are_of_equal_states, equal_snapshots_have_equal_runs, hits_come_from_replies,
+    marks_follow_results, one_run_per_marks, refusals_change_nothing, routes_follow,
+    ticks_end_the_due,
 };
 pub use noted::{Noted, Served};
 pub use plain::Plain;

@@ -1,8 +1,9 @@
 //! Runs over lists of events.
 
-ghost use Rattle.std.specs.Prelude.{◌≡◌, [], IfOk, IfErr, List, OnErr};
+ghost use Rattle.std.specs.Prelude.{◌≡◌, [], IfOk, IfErr, List, OnErr, false};
 ghost use Rattle.lb_core.specs.declared.noted.Noted.{Noted as NotedValue};
 ghost use Rattle.lb_core.specs.Counts.{times_in, AreRaised, IsNotedRun};
+ghost use Rattle.lb_core.specs.CountsByNumber.{AreExact};
 ghost use Rattle.lb_core.specs.Provenance.{MeetsHits, MeetsProvenance};
 ghost use Rattle.lb_core.specs.Routes.{routes_of};
 ghost use Rattle.lb_core.specs.Runs.{IsRun};
@@ -43,15 +44,16 @@ pub fn run(
     Ok(answers)
 }
 
-/// The same run, which counts its events and answers: each count is the one from before and the number of those that it is named
-/// for.
+/// The same run, which counts its events and answers: each count is the one from before and the
+/// number of those that it is named for. Unless memory for a count was refused, so is each count of
+/// a rule, a server and a cache by what the steps noted; what is removed takes its counts with it.
 pub fn run_counted(
     alloc: Global,
     balancer: &mut Balancer,
     tally: &mut Tally,
     events: Vec<Event>,
 ) -> Result<Vec<Answer>, (AllocError, Vec<Event>)>
-    ensures run { IfOk result (λ answers. (notes : List NotedValue) × IsNotedRun balancer.old events.items answers.items notes balancer.new) }
+    ensures run { IfOk result (λ answers. (notes : List NotedValue) × IsNotedRun balancer.old events.items answers.items notes balancer.new × (tally.new.by_number.lacked ≡ false → AreExact answers.items notes tally.old.by_number tally.new.by_number)) }
     ensures counts { IfOk result (λ answers. AreRaised (times_in events.items answers.items) tally.old.counts.items tally.new.counts.items) }
     ensures back { IfErr result (λ e. e.1.items ≡ events.items) }
     ensures unchanged { OnErr result (balancer.new ≡ balancer.old) }

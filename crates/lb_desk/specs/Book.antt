@@ -1,14 +1,14 @@
 -- What lies under the lock of a desk.
 use Rattle.std.specs.Prelude.{◌≡◌, ℕ, ◌-◌, ◌^◌, ◌≤◌, ◌<◌, false, List, length, Option, Some}
 use Rattle.lb_core.specs.declared.answer.Answer.{Answer}
+use Rattle.lb_core.specs.declared.counts_by_number.CountsByNumber.{CountsByNumber}
 use Rattle.lb_core.specs.declared.event.Event.{Event}
 use Rattle.lb_core.specs.declared.noted.Noted.{Noted}
 use Rattle.lb_core.specs.declared.tally.Tally.{Tally}
-use Rattle.lb_core.specs.Counts.{count_at, raised, times, times_in, AreRaised}
-use Rattle.lb_core.specs.CountsByNumber.{AreCounted}
+use Rattle.lb_core.specs.Counts.{count_at, raised, times, times_in, AreRaised, IsNotedRun}
+use Rattle.lb_core.specs.CountsByNumber.{AreCounted, AreCountedIn, AreNone}
 use Rattle.lb_core.specs.Noted.{IsNoted}
 use Rattle.lb_core.specs.Plain.{Plain}
-use Rattle.lb_core.specs.Runs.{IsRun}
 use Rattle.lb_core.specs.Snapshot.{IsShown, Snapshot, snapshot_of}
 use Rattle.lb_desk.specs.Entry.{Tells}
 use Rattle.lb_desk.specs.declared.book.ticket.Ticket.{Ticket}
@@ -30,17 +30,22 @@ pub record Keeps (opening : Snapshot) (limit count : ℕ) (log : List Entry) (ba
   pub tells : Tells opening log end
   pub current : count ≤ limit → balancer ≡ end
 
--- the counts of a balancer that has answered so many calls: those of a run of so many events from a snapshot to it, also past the
--- log's limit; at 2^64-1 a count stays
-pub record Counted (opening : Snapshot) (count : ℕ) (balancer : Plain) (counts : List ℕ) : Type 0 where
+-- the counts of a balancer that has answered so many calls: those of a run of so many events from a
+-- snapshot to it, also past the log's limit; at 2^64-1 a count stays. The counts of rules, servers and
+-- caches are those of what its steps note, unless memory for one was refused.
+pub record Counted (opening : Snapshot) (count : ℕ) (balancer : Plain) (tally : Tally) : Type 0 where
   pub start : Plain
   pub shown : IsShown start
   pub opens : snapshot_of start ≡ opening
   pub events : List Event
   pub answers : List Answer
+  pub notes : List Noted
   pub many : length events ≡ count
-  pub run : IsRun start events answers balancer
-  pub counted : (place : ℕ) → count_at place counts ≡ raised (times_in events answers place) 0
+  pub run : IsNotedRun start events answers notes balancer
+  pub counted : (place : ℕ) → count_at place tally.counts.items ≡ raised (times_in events answers place) 0
+  pub first : CountsByNumber
+  pub none : AreNone first
+  pub numbers : tally.by_number.lacked ≡ false → AreCountedIn answers notes first tally.by_number
 
 -- what a call counts: its event and its answer; and, unless memory for a count was refused, what its step notes, by number
 pub record Counts (balancer : Plain) (event : Event) (answer : Answer) (old new : Tally) : Type 0 where

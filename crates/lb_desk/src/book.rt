@@ -46,7 +46,7 @@ pub struct Book<J: Naming> {
     ghost seated: { All (λ e. e.seat.0 < J.seats) log.items },
     ghost roomy: { ForSome spare (λ _. vec_len log < vec_capacity log) },
     ghost told: { ∥ Keeps J.opening limit count log.items balancer ∥₁ },
-    ghost tallied: { ∥ Counted J.opening count balancer tally.counts.items ∥₁ },
+    ghost tallied: { ∥ Counted J.opening count balancer tally ∥₁ },
 }
 
 impl<J: Naming> Model for Book<J> {
@@ -328,9 +328,9 @@ impl<J: Naming> Book<J> {
     }
 
     /// A law: the counts are those of a run from the opening to the balancer, of as many events as
-    /// there were calls. It does nothing.
+    /// there were calls, those of rules, servers and caches too. It does nothing.
     pub fn law_of_counts(&self)
-        ensures { ∥ Counted J.opening self.now.count self.now.balancer self.now.tally.counts.items ∥₁ }
+        ensures { ∥ Counted J.opening self.now.count self.now.balancer self.now.tally ∥₁ }
     {
         // Read, so that what the book keeps true is at hand.
         let _ = self.log.len();

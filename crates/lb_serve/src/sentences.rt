@@ -6,7 +6,7 @@ ghost use Rattle.lb_serve.specs.Sentences.{are_sentences};
 use crate::descriptors::{Clients, limit, wanted};
 use crate::fault::Fault;
 use crate::listening::line_of;
-use crate::switches::{Switch, Unknown};
+use crate::switches::{Switch, Unknowns};
 use lb_command::Protocol;
 use lb_lines::Endpoint;
 use lb_program::Setup;
@@ -22,6 +22,9 @@ const LOOPBACK: [u8; 16] = [0, 0, 0, 0, 0, 0, 0, 0, 0, 0, 0, 0, 0, 0, 0, 1];
 
 /// The most unknown words of the environment that are reported.
 const MOST_WORDS: u32 = 16;
+
+/// The most bytes of such a word's name that are reported.
+const MOST_SHOWN: usize = 256;
 
 /// Sentences that are still to be reported.
 #[derive(Debug, Drop)]
@@ -129,15 +132,12 @@ impl Sentences {
         alloc: Global,
         rt: &R,
     ) -> Result<(), AllocError> {
-        let mut place = 0usize;
+        let mut unknowns = Unknowns::new(alloc)?;
         for _ in 0..MOST_WORDS {
-            let Some((unknown, next)) = Unknown::from(rt, place) else {
+            let Some(name) = unknowns.next_name(rt) else {
                 return Ok(());
             };
-            if let Some(name) = unknown.name() {
-                self.add(alloc, format!(in alloc; "{name} is no switch")?)?;
-            }
-            place = next;
+            self.add(alloc, no_switch(alloc, name)?)?;
         }
         Ok(())
     }
@@ -215,4 +215,13 @@ fn is_loopback(addr: Addr) -> bool {
 /// Whether an address stands for all of a machine's.
 fn is_wildcard(addr: Addr) -> bool {
     addr == Addr::V4([0; 4]) || addr == Addr::V6([0; 16])
+}
+
+/// That a word of the environment is no switch.
+fn no_switch(alloc: Global, name: &str) -> Result<String, AllocError> {
+    if name.len() > MOST_SHOWN {
+        let len = name.len();
+        return format!(in alloc; "a word of the environment that begins with LB_ and has a name of {len} bytes is no switch");
+    }
+    format!(in alloc; "{name} is no switch")
 }

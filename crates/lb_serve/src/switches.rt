@@ -4,7 +4,7 @@ use crate::fault::Fault;
 use lb_lines::Endpoint;
 use lb_masks::{decimal_up_to, parse_addr};
 use lb_wire::Addr;
-use std::alloc::Global;
+use std::alloc::{AllocError, Global};
 use std::env::{Env, FillError};
 use std::io::ErrorKind;
 use std::num::NonZeroUsize;
@@ -61,8 +61,8 @@ const DIGITS: usize = 16;
 /// The most bytes of an address with a port.
 const PLACE: usize = 64;
 
-/// The most bytes of a word of the environment that is looked at, its value counted in.
-const ENTRY: usize = 256;
+/// The most bytes of a word of the environment that the system allows, its value counted in.
+const ENTRY: usize = 131_072;
 
 /// The most words of the environment that are looked at.
 const ENTRIES: usize = 65_536;
@@ -263,24 +263,38 @@ fn number_of(digits: &[u8]) -> Option<u32> {
     Some(number)
 }
 
-/// A word of the environment that begins as a switch does and is none.
+/// The words of the environment that begin as a switch does and are none. It has room for the
+/// longest word that the system allows.
 #[derive(Debug, Drop)]
-pub(crate) struct Unknown {
-    entry: [u8; ENTRY],
-    len: usize,
+pub(crate) struct Unknowns {
+    room: Vec<u8>,
+    /// The place of the next word to look at.
+    next: usize,
 }
 
-impl Unknown {
-    /// The first at or after a place, and the place after it.
-    pub(crate) fn from<R: Env>(rt: &R, place: usize) -> Option<(Unknown, usize)> {
-        for at in place..ENTRIES {
-            let mut entry = [0u8; ENTRY];
-            match rt.var_at(at, &mut entry) {
+impl Unknowns {
+    /// None was looked at. The one error is lack of memory.
+    pub(crate) fn new(alloc: Global) -> Result<Unknowns, AllocError> {
+        let mut room = Vec::with_capacity(alloc, ENTRY)?;
+        room.resize(ENTRY, 0)?;
+        Ok(Unknowns { room, next: 0 })
+    }
+
+    /// The name of the next one. One that is no text is passed over.
+    pub(crate) fn next_name<R: Env>(&mut self, rt: &R) -> Option<&str> {
+        let len = self.find(rt)?;
+        str::from_utf8(self.room.get(..len)?).ok()
+    }
+
+    /// Finds the next one, whose name is text: so many bytes at the start of the room.
+    fn find<R: Env>(&mut self, rt: &R) -> Option<usize> {
+        for at in self.next..ENTRIES {
+            self.next = at.saturating_add(1);
+            match rt.var_at(at, self.room.as_mut_slice()) {
                 Ok(len) => {
-                    let name = name_of(entry.get(..len).unwrap_or_default());
-                    if name.starts_with(BEGIN) && !is_switch(name) {
-                        let len = name.len();
-                        return Some((Unknown { entry, len }, at.saturating_add(1)));
+                    let name = name_of(self.room.get(..len).unwrap_or_default());
+                    if is_unknown(name) {
+                        return Some(name.len());
                     }
                 }
                 Err(FillError::TooLong) => {}
@@ -289,11 +303,11 @@ impl Unknown {
         }
         None
     }
+}
 
-    /// Its name, if it is text.
-    pub(crate) fn name(&self) -> Option<&str> {
-        str::from_utf8(self.entry.get(..self.len)?).ok()
-    }
+/// Whether the name of a word of the environment is text that begins as a switch does, and is none.
+fn is_unknown(name: &[u8]) -> bool {
+    name.starts_with(BEGIN) && !is_switch(name) && str::from_utf8(name).is_ok()
 }
 
 /// Whether a switch has this name.

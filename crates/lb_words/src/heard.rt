@@ -6,6 +6,7 @@ ghost use Rattle.lb_words.specs.Heard.{IsHeard, IsListed, IsSaid};
 use crate::lines::Lines;
 use crate::lists;
 use crate::metrics::metrics;
+use crate::program;
 use crate::recent::{Wanted, fault, recent};
 use crate::seen::Beside;
 use crate::setup::setup;
@@ -26,7 +27,7 @@ use std::time::{Clock, Instant};
 /// What `help` says, a line each.
 const HELP: [&str; 38] = [
     "help                                 these lines",
-    "version                              the program, and for how many seconds it has run",
+    "version                              the program, its SHA-256, and for how many seconds it has run",
     "quit                                 closes this connection",
     "stop                                 ends serving, and says how many calls the desk had",
     "rules                                each rule: its number, its place, how many walks it ended, its text",
@@ -311,10 +312,15 @@ impl Words {
         }
     }
 
+    /// What `version` says.
     fn version<R: Clock>(&self, rt: &R) -> Result<String, AllocError> {
         let alloc = self.alloc;
         let mut lines = Lines::new(alloc);
         lines.add("curlewrack, not released yet")?;
+        if let Some(sum) = program::sum() {
+            let sum = hex::encode(alloc, sum.as_slice())?;
+            lines.add(format!(in alloc; "program {sum}")?.as_str())?;
+        }
         let ran = self.ran(rt) / 1_000;
         let line = format!(in alloc; "running for {ran} seconds")?;
         lines.add(line.as_str())?;

@@ -9,6 +9,7 @@ mod lines;
 mod lists;
 mod metrics;
 mod process;
+mod program;
 mod recent;
 mod rules;
 mod seen;

@@ -1,11 +1,11 @@
 //! What changed since the last look, as sentences.
 
-use crate::lists::{at_text, is_up};
-use crate::told::{Backend, Told};
+use crate::lists::{at_text, is_up, pool_with};
+use crate::told::{Backend, Store, Told};
 use lb_core::Count;
 use lb_sends::{Refusal, Sends};
 use lb_servers::Mode;
-use lb_wire::ServerId;
+use lb_wire::{CacheId, ServerId};
 use std::alloc::{AllocError, Global};
 
 /// What was seen of a server.
@@ -54,6 +54,8 @@ impl Lacked {
 pub(crate) struct Watch {
     alloc: Global,
     servers: Vec<Seen>,
+    /// The attached caches that were reported as full.
+    full: Vec<CacheId>,
     /// None before the first look.
     lacked: Option<Lacked>,
 }
@@ -64,6 +66,7 @@ impl Watch {
         Watch {
             alloc,
             servers: Vec::new(alloc),
+            full: Vec::new(alloc),
             lacked: None,
         }
     }
@@ -80,11 +83,13 @@ impl Watch {
         let mut said = Vec::new(self.alloc);
         let servers = self.seen(told, now, &mut said)?;
         let lacked = Lacked::by_now(told, sends);
+        let full = self.full(told, &lacked, &mut said)?;
         if let Some(before) = self.lacked {
             say_lacks(self.alloc, &before, &lacked, &mut said)?;
             say_full(self.alloc, &before, sends, &mut said)?;
         }
         self.servers = servers;
+        self.full = full;
         self.lacked = Some(lacked);
         Ok(said)
     }
@@ -111,6 +116,31 @@ impl Watch {
         Ok(servers)
     }
 
+    /// The attached caches that were reported as full. If replies found no room since the last look,
+    /// those that keep all that they may are reported now, each once.
+    fn full(
+        &self,
+        told: &Told,
+        now: &Lacked,
+        said: &mut Vec<String>,
+    ) -> Result<Vec<CacheId>, AllocError> {
+        let is_refused = match &self.lacked {
+            Some(before) => now.room > before.room,
+            None => false,
+        };
+        let mut full = Vec::with_capacity(self.alloc, told.caches.len())?;
+        for store in &told.caches {
+            let was_full = self.full.iter().any(|id| *id == store.id);
+            if was_full || is_refused && is_filled(store) {
+                full.push(store.id)?;
+            }
+            if !was_full && is_refused && is_filled(store) {
+                said.push(full_text(self.alloc, told, store)?)?;
+            }
+        }
+        Ok(full)
+    }
+
     /// Since when a server is up or down as it was at the last look, in milliseconds.
     pub(crate) fn since(&self, id: ServerId) -> Option<u64> {
         Some(self.was(id)?.since)
@@ -134,10 +164,6 @@ fn say_lacks(
     now: &Lacked,
     said: &mut Vec<String>,
 ) -> Result<(), AllocError> {
-    if before.room == 0 && now.room > 0 {
-        let words = "a cache is full of replies that are still valid, and turns new ones away";
-        said.push(String::from_str(alloc, words)?)?;
-    }
     let lacked = now.memory.saturating_sub(before.memory);
     if lacked > 0 {
         said.push(format!(in alloc; "memory was refused for {lacked} queries and replies")?)?;
@@ -155,6 +181,21 @@ fn say_lacks(
         )?)?;
     }
     Ok(())
+}
+
+/// Whether a cache keeps as many replies as it may.
+fn is_filled(store: &Store) -> bool {
+    u64::try_from(store.kept).unwrap_or(u64::MAX) >= u64::from(store.max.get())
+}
+
+/// That a cache is full.
+fn full_text(alloc: Global, told: &Told, store: &Store) -> Result<String, AllocError> {
+    let number = store.id.0;
+    let pool = pool_with(told, store);
+    let max = store.max.get();
+    format!(in alloc;
+        "cache {number} of pool {pool} is full of replies that are still valid ({max}), and turns new ones away"
+    )
 }
 
 /// Says that no more clients are taken in, or that they are again.

@@ -38,6 +38,13 @@ impl Answered {
         Answered { answer, ticket }
     }
 
+    /// The answer.
+    pub(crate) fn answer(&self) -> &Answer
+        ensures { result.now ≡ self.now.answer }
+    {
+        &self.answer
+    }
+
     /// Whether the log has the call.
     #[inline(always)]
     pub(crate) fn is_logged(&self) -> bool {

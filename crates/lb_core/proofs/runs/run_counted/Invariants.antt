@@ -9,4 +9,4 @@ invariant-loop-event l =
     (goal.iterator-loop-event).can_next l.event-iterator
     × (goal.iterator-loop-event).is_finite l.event-iterator
     × (vec_len l.answers + length (into_iter_items l.event-iterator) ≤ vec_capacity l.answers)
-    × Continues l.fn.balancer l.fn.tally.counts.items l.fn.events.items l.answers.items l.balancer l.tally.counts.items (into_iter_items l.event-iterator)
+    × Continues l.fn.balancer l.fn.tally l.fn.events.items l.answers.items l.balancer l.tally (into_iter_items l.event-iterator)

@@ -30,8 +30,8 @@ invariant_of-self-inside g c =
     in
     let kept = subst (λ n. ∥ Keeps g.J.Naming.opening b.limit n c.push_reserved.new.self.items c.step_counted-answer.new.self ∥₁) (sym raised) grown in
     let tallied =
-    subst (λ n. ∥ Counted g.J.Naming.opening n c.step_counted-answer.new.self c.step_counted-answer.new.tally.counts.items ∥₁) (sym raised)
-    (∥∥₁_map b.tallied (counted_grown g.J.Naming.opening b.count b.balancer c.step_counted-answer.new.self b.tally.counts.items c.step_counted-answer.new.tally.counts.items c.args.event c.step_counted-answer.result c.step_counted-answer.ensures.answers c.step_counted-answer.ensures.counts))
+    subst (λ n. ∥ Counted g.J.Naming.opening n c.step_counted-answer.new.self c.step_counted-answer.new.tally ∥₁) (sym raised)
+    (∥∥₁_map b.tallied (counted_grown g.J.Naming.opening b.count b.balancer c.step_counted-answer.new.self b.tally c.step_counted-answer.new.tally c.args.event c.step_counted-answer.result c.step_counted-answer.new.noted c.step_counted-answer.ensures.answers c.step_counted-answer.ensures.noted c.step_counted-answer.ensures.counts c.step_counted-answer.ensures.numbers c.step_counted-answer.ensures.before))
     in
     let seats = seated_grown _ _ _ _ b.seated c.requires.seat c.push_reserved.ensures.items in
     (omega arith, (b.limited, (omega arith, (seats, (search rules, (kept, (tallied, tt)))))))

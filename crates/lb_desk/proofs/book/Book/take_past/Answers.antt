@@ -17,8 +17,8 @@ invariant_of-self-inside g c =
     (∥∥₁_map b.told (keeps_past g.J.Naming.opening b.limit b.count b.log.items b.balancer c.step_counted.new.self past))
     in
     let tallied =
-    subst (λ n. ∥ Counted g.J.Naming.opening n c.step_counted.new.self c.step_counted.new.tally.counts.items ∥₁) (sym raised)
-    (∥∥₁_map b.tallied (counted_grown g.J.Naming.opening b.count b.balancer c.step_counted.new.self b.tally.counts.items c.step_counted.new.tally.counts.items c.args.event c.step_counted.result c.step_counted.ensures.answers c.step_counted.ensures.counts))
+    subst (λ n. ∥ Counted g.J.Naming.opening n c.step_counted.new.self c.step_counted.new.tally ∥₁) (sym raised)
+    (∥∥₁_map b.tallied (counted_grown g.J.Naming.opening b.count b.balancer c.step_counted.new.self b.tally c.step_counted.new.tally c.args.event c.step_counted.result c.step_counted.new.noted c.step_counted.ensures.answers c.step_counted.ensures.noted c.step_counted.ensures.counts c.step_counted.ensures.numbers c.step_counted.ensures.before))
     in (
       omega arith,
       (b.limited, (omega arith, (b.seated, (b.roomy, (told, (tallied, tt)))))),
