@@ -10,7 +10,7 @@ use crate::tally::MOST;
 use lb_lines::{Datagrams, Front, Line, Outside, Posts, Roster, Taker, WaitFailed};
 use lb_outbox::{Job, Sender};
 use lb_probes::Probes;
-use std::alloc::{AllocError, Global};
+use std::alloc::Global;
 use std::marker::Model;
 use std::mem;
 use std::sync::Wait;
@@ -48,24 +48,25 @@ impl<S: Datagrams, P: Posts, T: Taker, O: Outside> Model for ClockLoop<S, P, T, 
 }
 
 impl<S: Datagrams, P: Posts, T: Taker, O: Outside> ClockLoop<S, P, T, O> {
-    /// A loop that probes no server yet. The one error is want of memory.
+    /// A loop that had no turn, with sockets and the servers that it probes. It takes no memory.
     pub fn made(
         alloc: Global,
-        sockets: S,
+        probing: (S, Probes),
         sender: Sender,
         fronts: Vec<Front>,
         posts: P,
         taker: T,
         outside: O,
-    ) -> Result<ClockLoop<S, P, T, O>, AllocError>
-        ensures sockets { IfOk result (λ c. (c.given ≡ S.given sockets) × (c.taken ≡ S.taken sockets) × (c.there ≡ listened (S.listens sockets)) × (c.failures ≡ S.failures sockets)) }
-        ensures probes { IfOk result (λ c. c.probes ≡ record { version = None; watched = [] }) }
-        ensures parts { IfOk result (λ c. (c.outbox ≡ sender) × (c.fronts ≡ fronts.items) × (c.handed ≡ P.handed posts)) }
-        ensures others { IfOk result (λ c. (c.answered ≡ T.answered taker) × (c.pairs ≡ T.pairs taker) × (c.said ≡ O.said outside) × (c.outside ≡ O.failures outside)) }
+    ) -> ClockLoop<S, P, T, O>
+        ensures sockets { (result.given ≡ S.given probing.0) × (result.taken ≡ S.taken probing.0) × (result.there ≡ listened (S.listens probing.0)) × (result.failures ≡ S.failures probing.0) }
+        ensures probes { result.probes ≡ probing.1 }
+        ensures parts { (result.outbox ≡ sender) × (result.fronts ≡ fronts.items) × (result.handed ≡ P.handed posts) }
+        ensures others { (result.answered ≡ T.answered taker) × (result.pairs ≡ T.pairs taker) × (result.said ≡ O.said outside) × (result.outside ≡ O.failures outside) }
     {
-        Ok(ClockLoop {
+        let (sockets, probes) = probing;
+        ClockLoop {
             alloc,
-            probes: Probes::made(alloc)?,
+            probes,
             sockets,
             sender,
             fronts,
@@ -73,7 +74,7 @@ impl<S: Datagrams, P: Posts, T: Taker, O: Outside> ClockLoop<S, P, T, O> {
             taker,
             outside,
             lines: Vec::new(alloc),
-        })
+        }
     }
 
     /// Takes the room of a report's lines back for the next turn. The lines go.

@@ -19,6 +19,7 @@ pub use datagram_loop::DatagramLoop;
 pub use fault::LoopFault;
 pub use laws::callers_cross_threads;
 pub use lb_clock::{ClockLoop, clock_turn};
+pub use lb_connections::Connections;
 pub use lb_datagrams::{Spare, datagram_turn};
 pub use lb_frames::{Framer, Incoming, Message, Outgoing, cuts_do_not_matter, frame, one_division};
 pub use lb_lines::{
@@ -27,6 +28,7 @@ pub use lb_lines::{
     Streams, Taker, WaitFailed, Waker, Way, Why, one_send_a_line,
 };
 pub use lb_outbox::{Delivery, Job, Outbox, Receiver, Sender, SenderId, Settled, finish};
+pub use lb_probes::Probes;
 pub use lb_streams::{StreamLoop, stream_turn};
 pub use parts::{ClockParts, DatagramParts, Ended, Parts, StreamParts};
 pub use threads::run_loops;

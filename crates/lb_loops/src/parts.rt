@@ -1,7 +1,10 @@
-//! What loops are made of, and what they leave.
+//! What loops are made of, and what they leave. Room that a loop needs for as long as it runs is part
+//! of what it is made of, so that a thread takes none before its first turn.
 
+use lb_connections::Connections;
 use lb_lines::{Front, Roster};
 use lb_outbox::{Receiver, Sender};
+use lb_probes::Probes;
 use lb_sends::Sends;
 use std::sync::atomic::AtomicBool;
 use std::sync::{Arc, Mutex};
@@ -11,6 +14,8 @@ use std::sync::{Arc, Mutex};
 pub struct DatagramParts<S, T, O> {
     /// Its listeners, and a socket for each server.
     pub sockets: S,
+    /// Its copy of the roster.
+    pub roster: Roster,
     /// Its event handler.
     pub taker: T,
     /// Its source of moments and words.
@@ -22,6 +27,10 @@ pub struct DatagramParts<S, T, O> {
 pub struct StreamParts<S, T, O, P> {
     /// Its listeners and connections.
     pub sockets: S,
+    /// The table of its connections.
+    pub table: Connections,
+    /// Its copy of the roster.
+    pub roster: Roster,
     /// The jobs that other loops send to it.
     pub receiver: Receiver,
     /// What listens at each place of the listen lines.
@@ -42,6 +51,10 @@ pub struct StreamParts<S, T, O, P> {
 pub struct ClockParts<S, T, O, P> {
     /// The listeners' shared sockets, and one of its own for each server that is probed.
     pub sockets: S,
+    /// The servers that are probed.
+    pub probes: Probes,
+    /// Its copy of the roster.
+    pub roster: Roster,
     /// Sender two of the outbox.
     pub sender: Sender,
     /// What listens at each place of the listen lines.
@@ -56,14 +69,16 @@ pub struct ClockParts<S, T, O, P> {
 
 /// What the loops are made of, each in a thread of its own.
 #[derive(Drop)]
-pub struct Parts<D, S, C, G, W> {
+pub struct Parts<D, T, S, C, G, W> {
     /// The loops of datagrams.
     pub datagrams: Vec<D>,
+    /// Room for their event handlers, when they have ended. What is in it goes.
+    pub takers: Vec<T>,
     /// The loop of streams.
     pub streams: S,
     /// The loop of the clock.
     pub clock: C,
-    /// Where servers are. Each loop copies it before a turn, if it was changed.
+    /// Where servers are. Each loop takes it over into its copy before a turn, if it was changed.
     pub roster: Arc<Mutex<Roster>>,
     /// What each event passes before it goes to the desk.
     pub gate: G,

@@ -14,8 +14,8 @@ use std::sync::Wait;
 use std::thread::{Threads, join};
 
 /// Runs a loop of datagrams for each of these parts, each in a thread of its own, until the flag is
-/// set. Gives their event handlers, in order. A loop that has a fault ends all others. If several
-/// have one, the fault of the first in the list is given.
+/// set. Gives their event handlers, in order, in the list that is handed in. A loop that has a fault
+/// ends all others. If several have one, the fault of the first in the list is given.
 pub(crate) fn run_row<
     R: Threads + Wait + Sync,
     S: Datagrams + Send,
@@ -28,12 +28,14 @@ pub(crate) fn run_row<
     alloc: Global,
     around: &Around<G, W>,
     parts: Vec<DatagramParts<S, T, O>>,
+    mut takers: Vec<T>,
 ) -> Result<Vec<T>, LoopFault>
-    ensures { IfOk result (λ takers. HaveGoneOn T.answered (map (λ part. part.taker) parts.items) takers.items) }
+    ensures { IfOk result (λ all. HaveGoneOn T.answered (map (λ part. part.taker) parts.items) all.items) }
 {
-    // Room is taken before the first turn, so that none is lacked after the last.
-    match Vec::with_capacity(alloc, parts.len()) {
-        Ok(takers) => run_some(rt, alloc, around, parts, takers),
+    takers.clear();
+    // Room is there before the first turn, so that none is lacked after the last.
+    match takers.reserve(parts.len()) {
+        Ok(()) => run_some(rt, alloc, around, parts, takers),
         Err(refused) => {
             around.end();
             Err(LoopFault::from(refused))

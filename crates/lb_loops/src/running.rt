@@ -57,29 +57,29 @@ fn loop_of_datagrams<R: Wait, S: Datagrams, T: Taker, O: Outside, G: Gate, W: Wa
 {
     let DatagramParts {
         sockets,
+        mut roster,
         taker,
         outside,
     } = parts;
     let mut part = DatagramLoop::made(alloc, sockets, taker, outside);
-    all_datagrams(rt, alloc, around, &mut part)?;
+    all_datagrams(rt, around, &mut part, &mut roster)?;
     Ok(part.into_taker())
 }
 
 fn all_datagrams<R: Wait, S: Datagrams, T: Taker, O: Outside, G: Gate, W: Waker>(
     rt: &R,
-    alloc: Global,
     around: &Around<G, W>,
     part: &mut DatagramLoop<S, T, O>,
+    roster: &mut Roster,
 ) -> Result<(), LoopFault>
     ensures { T.answered part.old.taker ≤ T.answered part.new.taker }
 {
-    let mut roster = Roster::made(alloc)?;
     for _ in rt.forever() {
         if around.is_over() {
             return Ok(());
         }
-        around.follow(rt, &mut roster);
-        one_of_datagrams(around, part, &roster)?;
+        around.follow(rt, roster);
+        one_of_datagrams(around, part, roster)?;
     }
     unreachable!()
 }
@@ -135,6 +135,8 @@ fn loop_of_streams<R: Wait, S: Streams, T: Taker, O: Outside, P: Posts, G: Gate,
 {
     let StreamParts {
         sockets,
+        table,
+        mut roster,
         receiver,
         fronts,
         posts,
@@ -142,29 +144,29 @@ fn loop_of_streams<R: Wait, S: Streams, T: Taker, O: Outside, P: Posts, G: Gate,
         outside,
         idle,
     } = parts;
-    let mut part = StreamLoop::made(alloc, sockets, receiver, fronts, posts, taker, outside)?;
+    let net = (sockets, table);
+    let mut part = StreamLoop::made(alloc, net, receiver, fronts, posts, taker, outside);
     part.limit_idle(idle);
-    all_streams(rt, alloc, around, &mut part)?;
+    all_streams(rt, around, &mut part, &mut roster)?;
     Ok(part.into_parts())
 }
 
 #[tactic(auto, using(crate::proofs::Continuing::receives_none, crate::proofs::Continuing::receives_twice))]
 fn all_streams<R: Wait, S: Streams, T: Taker, O: Outside, P: Posts, G: Gate, W: Waker>(
     rt: &R,
-    alloc: Global,
     around: &Around<G, W>,
     part: &mut StreamLoop<S, T, O, P>,
+    roster: &mut Roster,
 ) -> Result<(), LoopFault>
     ensures answered { part.old.answered ≤ part.new.answered }
     ensures received { ReceivesOn part.old.jobs part.new.jobs }
 {
-    let mut roster = Roster::made(alloc)?;
     for _ in rt.forever() {
         if around.is_over() {
             return Ok(());
         }
-        around.follow(rt, &mut roster);
-        one_of_streams(rt, around, part, &roster)?;
+        around.follow(rt, roster);
+        one_of_streams(rt, around, part, roster)?;
     }
     unreachable!()
 }
@@ -223,34 +225,36 @@ fn loop_of_the_clock<R: Wait, S: Datagrams, T: Taker, O: Outside, P: Posts, G: G
 {
     let ClockParts {
         sockets,
+        probes,
+        mut roster,
         sender,
         fronts,
         posts,
         taker,
         outside,
     } = parts;
-    let mut part = ClockLoop::made(alloc, sockets, sender, fronts, posts, taker, outside)?;
-    all_ticks(rt, alloc, around, &mut part)?;
+    let probing = (sockets, probes);
+    let mut part = ClockLoop::made(alloc, probing, sender, fronts, posts, taker, outside);
+    all_ticks(rt, around, &mut part, &mut roster)?;
     Ok(part.into_parts())
 }
 
 #[tactic(auto, using(crate::proofs::Continuing::sends_none, crate::proofs::Continuing::sends_twice))]
 fn all_ticks<R: Wait, S: Datagrams, P: Posts, T: Taker, O: Outside, G: Gate, W: Waker>(
     rt: &R,
-    alloc: Global,
     around: &Around<G, W>,
     part: &mut ClockLoop<S, P, T, O>,
+    roster: &mut Roster,
 ) -> Result<(), LoopFault>
     ensures answered { part.old.answered ≤ part.new.answered }
     ensures sent { SendsOn part.old.outbox part.new.outbox }
 {
-    let mut roster = Roster::made(alloc)?;
     for _ in rt.forever() {
         if around.is_over() {
             return Ok(());
         }
-        around.follow(rt, &mut roster);
-        one_of_ticks(rt, around, part, &roster)?;
+        around.follow(rt, roster);
+        one_of_ticks(rt, around, part, roster)?;
     }
     unreachable!()
 }

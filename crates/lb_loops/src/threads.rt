@@ -45,7 +45,7 @@ pub fn run_loops<
 >(
     rt: &R,
     alloc: Global,
-    parts: Parts<DatagramParts<D, T, O>, StreamParts<S, U, N, P>, ClockParts<C, V, M, Q>, G, W>,
+    parts: Parts<DatagramParts<D, T, O>, T, StreamParts<S, U, N, P>, ClockParts<C, V, M, Q>, G, W>,
 ) -> Result<Ended<T, U, V>, LoopFault>
     // No handler's count of answered calls has fallen.
     ensures datagrams { IfOk result (λ e. HaveGoneOn T.answered (map (λ part. part.taker) parts.datagrams.items) e.datagrams.items) }
@@ -59,6 +59,7 @@ pub fn run_loops<
     sends_cross_threads();
     let Parts {
         datagrams,
+        takers,
         streams,
         clock,
         roster,
@@ -79,7 +80,8 @@ pub fn run_loops<
         streams: streams_waker,
         clock: clock_waker,
     };
-    let (datagrams, (streams, clock)) = run_all(rt, alloc, &around, datagrams, streams, clock);
+    let row = (datagrams, takers);
+    let (datagrams, (streams, clock)) = run_all(rt, alloc, &around, row, streams, clock);
     let datagrams = datagrams?;
     let (streams, receiver) = streams?;
     let (clock, sender) = clock?;
@@ -112,17 +114,18 @@ fn run_all<
     rt: &R,
     alloc: Global,
     around: &Around<G, W>,
-    datagrams: Vec<DatagramParts<D, T, O>>,
+    row: (Vec<DatagramParts<D, T, O>>, Vec<T>),
     streams: StreamParts<S, U, N, P>,
     clock: ClockParts<C, V, M, Q>,
 ) -> (Result<Vec<T>, LoopFault>, Others<U, V>)
-    ensures datagrams { IfOk result.0 (λ all. HaveGoneOn T.answered (map (λ part. part.taker) datagrams.items) all.items) }
+    ensures datagrams { IfOk result.0 (λ all. HaveGoneOn T.answered (map (λ part. part.taker) row.0.items) all.items) }
     ensures streams { IfOk result.1.0 (λ r. (U.answered streams.taker ≤ U.answered r.0) × ReceivesOn streams.receiver r.1) }
     ensures clock { IfOk result.1.1 (λ r. (V.answered clock.taker ≤ V.answered r.0) × SendsOn clock.sender r.1) }
 {
+    let (datagrams, takers) = row;
     join(
         rt,
-        move || run_row(rt, alloc, around, datagrams),
+        move || run_row(rt, alloc, around, datagrams, takers),
         move ||
             requires streams { IsSend S.row × IsSend U.row × IsSend N.row × IsSend P.row }
             requires clock { IsSend C.row × IsSend V.row × IsSend M.row × IsSend Q.row }

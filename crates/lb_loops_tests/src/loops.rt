@@ -5,8 +5,8 @@ use crate::callers::{has_ruled, is_raised};
 use lb_core::{Answer, Event, StatedAction};
 use lb_desk::{Desk, DeskFault, Naming, Seat, desks_cross_threads};
 use lb_loops::{
-    ClockParts, Datagram, DatagramParts, Ended, Endpoint, Front, Gate, LoopFault, Outbox, Parts,
-    Roster, Socket, StreamParts, Taker, Waker, frame, run_loops,
+    ClockParts, Connections, Datagram, DatagramParts, Ended, Endpoint, Front, Gate, LoopFault,
+    Outbox, Parts, Probes, Roster, Socket, StreamParts, Taker, Waker, frame, run_loops,
 };
 use lb_memory::{
     Failing, MemoryDatagrams, MemoryOutside, MemoryPosts, MemoryStreams, Moments, Packets,
@@ -327,6 +327,7 @@ fn run_at_desk<'a, J: Naming + Send + Sync, R: Threads + Wait + Clock + Sync>(
         datagrams
             .push(DatagramParts {
                 sockets: sockets(rt, alloc, packets)?,
+                roster: Roster::made(alloc)?,
                 taker: shared.answering(rt, desk, seat)?,
                 outside: shared.outside(rt)?,
             })
@@ -340,6 +341,8 @@ fn run_at_desk<'a, J: Naming + Send + Sync, R: Threads + Wait + Clock + Sync>(
             Arc::try_clone(&shared.wires)?,
             StreamFailing::default(),
         ),
+        table: Connections::made(alloc)?,
+        roster: Roster::made(alloc)?,
         receiver,
         fronts: fronts(alloc)?,
         posts: posts(rt, alloc)?,
@@ -350,6 +353,8 @@ fn run_at_desk<'a, J: Naming + Send + Sync, R: Threads + Wait + Clock + Sync>(
     let none = Arc::new(alloc, Mutex::new(Packets::new(alloc)))?;
     let clock = ClockParts {
         sockets: sockets(rt, alloc, &none)?,
+        probes: Probes::made(alloc)?,
+        roster: Roster::made(alloc)?,
         sender: second_sender,
         fronts: fronts(alloc)?,
         posts: posts(rt, alloc)?,
@@ -357,6 +362,7 @@ fn run_at_desk<'a, J: Naming + Send + Sync, R: Threads + Wait + Clock + Sync>(
         outside: shared.outside(rt)?,
     };
     let parts = Parts {
+        takers: Vec::with_capacity(alloc, datagrams.len())?,
         datagrams,
         streams,
         clock,
@@ -405,6 +411,7 @@ fn run<'a, J: Naming + Send + Sync, R: Threads + Wait + Clock + Sync>(
     alloc: Global,
     parts: Parts<
         Datagramming<'a, R, J>,
+        Answering<'a, R, J>,
         Streaming<'a, R, J>,
         Clocking<'a, R, J>,
         InTurn<'a, R>,

@@ -4,7 +4,9 @@
 use crate::fault::Fault;
 use crate::playing::play_all;
 use crate::stage::{Sides, Stage};
-use lb_loops::{ClockLoop, DatagramLoop, Outbox, Receiver, Sender, StreamLoop, Taker};
+use lb_loops::{
+    ClockLoop, Connections, DatagramLoop, Outbox, Probes, Receiver, Sender, StreamLoop, Taker,
+};
 use lb_memory::{MemoryDatagrams, MemoryOutside, MemoryPosts, MemoryStreams};
 use std::sync::Wait;
 
@@ -72,22 +74,14 @@ fn streaming<'a, R: Wait, T: Taker>(
     stage: &Stage<'a, R>,
     receiver: Receiver,
 ) -> Result<Streaming<'a, R, T>, Fault> {
-    let sockets = stage.streams()?;
+    let net = (stage.streams()?, Connections::made(stage.alloc)?);
     let Sides {
         posts,
         fronts,
         outside,
     } = stage.sides()?;
     let handler = next(handlers)?;
-    Ok(StreamLoop::made(
-        stage.alloc,
-        sockets,
-        receiver,
-        fronts,
-        posts,
-        handler,
-        outside,
-    )?)
+    Ok(StreamLoop::made(stage.alloc, net, receiver, fronts, posts, handler, outside))
 }
 
 /// Plays the lines with a loop of the clock beside the others.
@@ -115,7 +109,7 @@ fn clocking<'a, R: Wait, T: Taker>(
     stage: &Stage<'a, R>,
     second: Sender,
 ) -> Result<Clocking<'a, R, T>, Fault> {
-    let sockets = stage.probes()?;
+    let probing = (stage.probes()?, Probes::made(stage.alloc)?);
     let Sides {
         posts,
         fronts,
@@ -124,11 +118,11 @@ fn clocking<'a, R: Wait, T: Taker>(
     let handler = next(handlers)?;
     Ok(ClockLoop::made(
         stage.alloc,
-        sockets,
+        probing,
         second,
         fronts,
         posts,
         handler,
         outside,
-    )?)
+    ))
 }

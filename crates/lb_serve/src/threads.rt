@@ -50,6 +50,7 @@ impl Over {
 /// What the loops are made of: each has sockets of its own, and handlers and sources of one kind.
 pub(crate) type LoopParts<D, S, T, O, P> = Parts<
     DatagramParts<D, T, O>,
+    T,
     StreamParts<S, T, O, P>,
     ClockParts<D, T, O, P>,
     OpenGate,

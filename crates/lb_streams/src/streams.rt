@@ -1,13 +1,12 @@
 //! What the loop of streams holds.
 
-ghost use Rattle.std.specs.Prelude.{[], IfOk, length, vec_capacity, vec_len, ◌≡◌};
-ghost use Rattle.lb_connections.specs.Table.{IsNew};
+ghost use Rattle.std.specs.Prelude.{[], None, length, vec_capacity, vec_len, ◌≡◌};
 
 use crate::links::Links;
 use lb_connections::Connections;
 use lb_lines::{Front, Line, Outside, Posts, Streams, Taker, WaitFailed};
 use lb_outbox::Receiver;
-use std::alloc::{AllocError, Global};
+use std::alloc::Global;
 use std::marker::Model;
 use std::mem;
 
@@ -42,27 +41,27 @@ impl<S: Streams, T: Taker, O: Outside, P: Posts> Model for StreamLoop<S, T, O, P
 }
 
 impl<S: Streams, T: Taker, O: Outside, P: Posts> StreamLoop<S, T, O, P> {
-    /// A loop without connections. The one error is want of memory.
+    /// A loop that had no turn, with sockets and the table of their connections. It takes no memory.
     pub fn made(
         alloc: Global,
-        sockets: S,
+        net: (S, Connections),
         receiver: Receiver,
         fronts: Vec<Front>,
         posts: P,
         taker: T,
         outside: O,
-    ) -> Result<StreamLoop<S, T, O, P>, AllocError>
-        ensures net { IfOk result (λ l. IsNew l.net.table × (l.net.told ≡ S.told sockets)) }
-        ensures parts { IfOk result (λ l. (l.jobs ≡ receiver) × (l.fronts ≡ fronts.items) × (l.handed ≡ P.handed posts)) }
-        ensures others { IfOk result (λ l. (l.answered ≡ T.answered taker) × (l.pairs ≡ T.pairs taker) × (l.said ≡ O.said outside) × (l.outside ≡ O.failures outside)) }
+    ) -> StreamLoop<S, T, O, P>
+        ensures net { result.net ≡ record { told = S.told net.0; table = net.1; device = None } }
+        ensures parts { (result.jobs ≡ receiver) × (result.fronts ≡ fronts.items) × (result.handed ≡ P.handed posts) }
+        ensures others { (result.answered ≡ T.answered taker) × (result.pairs ≡ T.pairs taker) × (result.said ≡ O.said outside) × (result.outside ≡ O.failures outside) }
     {
-        let table = Connections::made(alloc)?;
+        let (sockets, table) = net;
         let links = Links {
             sockets,
             table,
             device: None,
         };
-        Ok(StreamLoop {
+        StreamLoop {
             alloc,
             links,
             receiver,
@@ -71,7 +70,7 @@ impl<S: Streams, T: Taker, O: Outside, P: Posts> StreamLoop<S, T, O, P> {
             taker,
             outside,
             lines: Vec::new(alloc),
-        })
+        }
     }
 
     /// Sets for how many milliseconds a client may send no message while none of its queries is
