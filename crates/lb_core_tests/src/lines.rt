@@ -1,7 +1,7 @@
 //! What a balancer is told, as lines that lb_command reads, and the lines of its answers.
 
 use lb_chain::ChainFault;
-use lb_command::read_event_line;
+use lb_command::{FaultKind, read_event_line};
 use lb_core::{Answer, Balancer, EditFault, Event};
 use lb_servers::ParkFault;
 use std::alloc::Global;
@@ -65,11 +65,20 @@ pub(crate) const TOLD: &[&str] = &[
     "edit 0 server add s2 127.0.0.1 5301 fall 2 rise 3",
 ];
 
-/// The event of a line.
+/// The event of a line. If memory was lacking for it, the line is read once more.
 pub(crate) fn event(alloc: Global, line: &str) -> Result<Event, Fail> {
     match read_event_line(alloc, line) {
         Ok(event) => Ok(event),
+        Err(fault) if fault.kind == FaultKind::NoMemory => event_again(alloc, line),
         Err(_) => Err(Fail::from("a line that is no event")),
+    }
+}
+
+/// The event of a line for which memory was lacking once.
+fn event_again(alloc: Global, line: &str) -> Result<Event, Fail> {
+    match read_event_line(alloc, line) {
+        Ok(event) => Ok(event),
+        Err(_) => Err(Fail::from("a line that is no event the second time")),
     }
 }
 

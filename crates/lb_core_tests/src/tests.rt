@@ -32,7 +32,7 @@ fn expect_equal_events<T: Abort + AllocGlobal>(rt: &T, events: &[Event]) -> Resu
 
 /// Whether an event is equal to its copy, and its command too.
 fn is_event_copied(alloc: Global, event: &Event) -> Result<bool, AllocError> {
-    let copy = event.copy(alloc)?;
+    let copy = event.copy(alloc).or_else(|_refused| event.copy(alloc))?;
     Ok(event.equals(&copy) && has_equal_command(event, &copy))
 }
 
@@ -70,7 +70,7 @@ fn is_copied(alloc: Global, answer: &Answer) -> Result<bool, AllocError> {
 }
 
 fn is_copied_anew(alloc: Global, answer: &Answer) -> Result<bool, AllocError> {
-    let copy = answer.copy(alloc)?;
+    let copy = answer.copy(alloc).or_else(|_refused| answer.copy(alloc))?;
     Ok(copy.equals(answer))
 }
 
@@ -150,7 +150,22 @@ fn run_answers(alloc: Global) -> Result<Vec<Answer>, Fail> {
 fn run_answers_of(alloc: Global, balancer: &mut Balancer) -> Result<Vec<Answer>, Fail> {
     match run(alloc, balancer, events(alloc)?) {
         Ok(answers) => Ok(answers),
-        Err((refused, _)) => Err(Fail::from(refused)),
+        Err((_, back)) => run_again(alloc, balancer, back),
+    }
+}
+
+/// The answers to events that were handed back, as there was no room for their answers.
+fn run_again(
+    alloc: Global,
+    balancer: &mut Balancer,
+    back: Vec<Event>,
+) -> Result<Vec<Answer>, Fail> {
+    if back.len() != TOLD.len() {
+        return Err(Fail::from("events that did not come back"));
+    }
+    match run(alloc, balancer, back) {
+        Ok(answers) => Ok(answers),
+        Err(_) => Err(Fail::from("no room for answers the second time")),
     }
 }
 
@@ -273,7 +288,14 @@ fn is_of_kept(plain: &Plain) -> bool {
 fn snapshot_of_kept(alloc: Global) -> Result<Plain, Fail> {
     let mut balancer = Balancer::new(alloc)?;
     keep_reply(alloc, &mut balancer)?;
-    Ok(balancer.snapshot(alloc)?)
+    Ok(taken(alloc, &balancer)?)
+}
+
+/// A snapshot. If memory was lacking for it, it is taken once more.
+fn taken(alloc: Global, balancer: &Balancer) -> Result<Plain, AllocError> {
+    balancer
+        .snapshot(alloc)
+        .or_else(|_refused| balancer.snapshot(alloc))
 }
 
 /// Has a balancer keep a reply.

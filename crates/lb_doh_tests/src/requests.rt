@@ -119,9 +119,18 @@ fn is_read(read: &Result<Vec<u8>, DohFault>, wanted: Result<&[u8], u16>) -> bool
     }
 }
 
-/// What a request is read as whose body is too long.
+/// What a request is read as whose body is too long. If memory was lacking, it is read once more.
 fn read_long(alloc: Global, method: &str, path: &str, query: &str) -> Result<Vec<u8>, DohFault> {
-    read_request(alloc, method, path, query, "", DohBody::TooLong)
+    let read = read_request(alloc, method, path, query, "", DohBody::TooLong);
+    if is_lacking(&read) {
+        return read_request(alloc, method, path, query, "", DohBody::TooLong);
+    }
+    read
+}
+
+/// Whether memory was lacking.
+fn is_lacking(read: &Result<Vec<u8>, DohFault>) -> bool {
+    matches!(read, Err(fault) if fault.status() == 503)
 }
 
 #[test]
@@ -136,8 +145,21 @@ fn requests(rt: HostRuntime) -> Result<(), Fail> {
     Ok(())
 }
 
-/// What a POST is read as. Its query is passed over.
+/// What a POST is read as. If memory was lacking, it is read once more.
 fn read_post(
+    alloc: Global,
+    media: &str,
+    body: &[u8],
+) -> Result<Result<Vec<u8>, DohFault>, AllocError> {
+    let read = read_post_once(alloc, media, body)?;
+    if is_lacking(&read) {
+        return read_post_once(alloc, media, body);
+    }
+    Ok(read)
+}
+
+/// What a POST is read as. Its query is passed over.
+fn read_post_once(
     alloc: Global,
     media: &str,
     body: &[u8],

@@ -2,7 +2,8 @@
 //! lent where it can be, so that few functions have one to drop.
 
 use crate::events::{query, rule_for_all};
-use lb_core::{Event, StatedAction};
+use lb_chain::ChainFault;
+use lb_core::{Answer, EditFault, Event, StatedAction};
 use lb_desk::{Desk, DeskFault, Naming, Seat};
 use std::alloc::Global;
 use std::sync::Wait;
@@ -20,12 +21,12 @@ pub(crate) enum Caller {
     /// It does so, and at each call is told the wrong thing of the log, which has room for so many:
     /// that it is full while it is not, and that it is not once it is.
     IsMisled(u64, u64),
-    /// It asks so many queries.
+    /// It asks so many queries, each of them once more if memory was lacking for it.
     Asks(u64),
     /// It asks three queries, each of them once more where it was refused. A refused call has to
     /// change nothing.
     AsksAgain,
-    /// It adds so many rules that do nothing.
+    /// It adds so many rules that do nothing, likewise.
     Edits(u64),
     /// It adds a rule that drops every query.
     Drops,
@@ -127,14 +128,42 @@ fn has_asked<J: Naming, R: Wait>(
     calls: u64,
 ) -> bool {
     for now in 0..calls {
-        let Ok(event) = query(alloc, now) else {
-            return false;
-        };
-        if !is_answered(rt, desk, seat, event) {
+        if !(is_asked(rt, alloc, desk, seat, now) || is_asked(rt, alloc, desk, seat, now)) {
             return false;
         }
     }
     true
+}
+
+/// Whether a query was answered, for which memory sufficed.
+fn is_asked<J: Naming, R: Wait>(
+    rt: &R,
+    alloc: Global,
+    desk: &Desk<J>,
+    seat: &mut Seat<J>,
+    now: u64,
+) -> bool {
+    let Ok(event) = query(alloc, now) else {
+        return false;
+    };
+    suffices(rt, desk, seat, event)
+}
+
+/// Whether memory sufficed for a call, at once or when it was made once more, and for its answer.
+fn suffices<J: Naming, R: Wait>(rt: &R, desk: &Desk<J>, seat: &mut Seat<J>, event: Event) -> bool {
+    match desk.call(rt, seat, event) {
+        Ok(answer) => !is_wanting(&answer),
+        Err((DeskFault::NoMemory, back)) => is_answered(rt, desk, seat, back),
+        Err(_) => false,
+    }
+}
+
+/// Whether memory was lacking for a query or an edit.
+pub(crate) fn is_wanting(answer: &Answer) -> bool {
+    matches!(
+        answer,
+        Answer::NoMemory(_) | Answer::Refused(EditFault::Rules(ChainFault::NoMemory))
+    )
 }
 
 fn has_edited<J: Naming, R: Wait>(
@@ -145,7 +174,10 @@ fn has_edited<J: Naming, R: Wait>(
     calls: u64,
 ) -> bool {
     for now in 0..calls {
-        if !has_ruled(rt, alloc, desk, seat, now, StatedAction::None) {
+        let action = StatedAction::None;
+        if !(has_ruled(rt, alloc, desk, seat, now, action)
+            || has_ruled(rt, alloc, desk, seat, now, StatedAction::None))
+        {
             return false;
         }
     }
@@ -161,7 +193,7 @@ pub(crate) fn has_ruled<J: Naming, R: Wait>(
     action: StatedAction,
 ) -> bool {
     match rule_for_all(alloc, now, action) {
-        Some(event) => is_answered(rt, desk, seat, event),
+        Some(event) => suffices(rt, desk, seat, event),
         None => false,
     }
 }
@@ -173,7 +205,7 @@ fn has_asked_again<J: Naming, R: Wait + Eprint>(
     seat: &mut Seat<J>,
 ) -> bool {
     for now in 0..3 {
-        let Ok(event) = query(alloc, now) else {
+        let Ok(event) = query(alloc, now).or_else(|_refused| query(alloc, now)) else {
             return false;
         };
         if !is_answered_again(rt, desk, seat, event) {

@@ -1,6 +1,6 @@
 //! Calls of desks, from one thread and from several.
 
-use crate::callers::Caller;
+use crate::callers::{Caller, is_wanting};
 use crate::rounds::{Left, Round, go_round};
 use lb_core::{Answer, DropReason, Event, Note};
 use lb_desk::{Audit, CloseFault, Entry, SeatId};
@@ -90,18 +90,20 @@ fn two_threads_share_a_desk(rt: HostRuntime) -> Result<(), Fail> {
 }
 
 fn expect_shared<T: Abort + AllocGlobal>(rt: &T, audit: &Audit) -> Result<(), Fail> {
+    // With `rt try --test --fail-alloc N` a call that lacked memory is counted and logged besides.
+    let lacked = u64::from(audit.log.iter().any(|entry| is_wanting(&entry.answer)));
     let counts = (audit.count, calls_of(audit, 0), calls_of(audit, 1));
-    assert!(rt; counts == (200, 100, 100), "{counts:?}");
+    assert!(rt; counts == (200 + lacked, 100, 100), "{counts:?}");
     assert!(rt; are_copied(rt.alloc(), audit.log.as_slice())?);
     Ok(())
 }
 
-/// How many calls of a seat the log has.
+/// How many calls of a seat the log has for which memory sufficed.
 fn calls_of(audit: &Audit, seat: u8) -> usize {
     audit
         .log
         .iter()
-        .filter(|entry| entry.seat == SeatId(seat))
+        .filter(|entry| entry.seat == SeatId(seat) && !is_wanting(&entry.answer))
         .count()
 }
 
@@ -116,12 +118,12 @@ fn are_copied(alloc: Global, log: &[Entry]) -> Result<bool, AllocError> {
 }
 
 fn is_event_copied(alloc: Global, event: &Event) -> Result<bool, AllocError> {
-    let copy = event.copy(alloc)?;
+    let copy = event.copy(alloc).or_else(|_refused| event.copy(alloc))?;
     Ok(copy.equals(event))
 }
 
 fn is_answer_copied(alloc: Global, answer: &Answer) -> Result<bool, AllocError> {
-    let copy = answer.copy(alloc)?;
+    let copy = answer.copy(alloc).or_else(|_refused| answer.copy(alloc))?;
     Ok(copy.equals(answer))
 }
 

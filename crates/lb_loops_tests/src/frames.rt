@@ -23,13 +23,34 @@ fn fed(alloc: Global, ends: &[usize]) -> Result<(Vec<Message>, usize), AllocErro
     let mut begin = 0;
     for end in ends {
         if let Some(piece) = STREAM.get(begin..*end) {
-            for message in framer.feed(piece)? {
+            for message in feed(&mut framer, piece)? {
                 messages.push(message)?;
             }
         }
         begin = *end;
     }
     Ok((messages, framer.len()))
+}
+
+/// Feeds a piece. If memory was lacking, it is fed once more.
+fn feed(framer: &mut Framer, piece: &[u8]) -> Result<Vec<Message>, AllocError> {
+    match framer.feed(piece) {
+        Ok(messages) => Ok(messages),
+        Err(_refused) => framer.feed(piece),
+    }
+}
+
+/// A message after its length. If memory was lacking, it is asked for once more.
+fn framed(alloc: Global, message: &[u8]) -> Result<Vec<u8>, AllocError> {
+    frame(alloc, message).or_else(|_refused| frame(alloc, message))
+}
+
+/// Puts octets after what is to be written. If memory was lacking, they are put there once more.
+fn push(outgoing: &mut Outgoing, octets: &[u8]) -> Result<(), AllocError> {
+    match outgoing.push(octets) {
+        Ok(()) => Ok(()),
+        Err(_refused) => outgoing.push(octets),
+    }
 }
 
 /// Whether these are the two messages.
@@ -83,12 +104,12 @@ fn framed_messages(rt: HostRuntime) -> Result<(), Fail> {
     let mut outgoing = Outgoing::new(rt.alloc());
     expect_written(&rt, &mut outgoing)?;
     let longest = Vec::from_elem(rt.alloc(), 7u8, 65_535)?;
-    let octets = frame(rt.alloc(), longest.as_slice())?;
+    let octets = framed(rt.alloc(), longest.as_slice())?;
     expect_whole(&rt, octets.as_slice(), longest.as_slice())
 }
 
 fn expect_written<T: Abort + AllocGlobal>(rt: &T, outgoing: &mut Outgoing) -> Result<(), Fail> {
-    outgoing.push(frame(rt.alloc(), MESSAGES[0])?.as_slice())?;
+    push(outgoing, framed(rt.alloc(), MESSAGES[0])?.as_slice())?;
     assert!(rt; outgoing.as_slice() == &STREAM[..14]);
     outgoing.advance(14);
     assert!(rt; outgoing.len() == 0, "something is left");
@@ -98,7 +119,7 @@ fn expect_written<T: Abort + AllocGlobal>(rt: &T, outgoing: &mut Outgoing) -> Re
 /// These octets are fed at once, and this message comes out.
 fn expect_whole<T: Abort + AllocGlobal>(rt: &T, octets: &[u8], longest: &[u8]) -> Result<(), Fail> {
     let mut framer = Framer::new(rt.alloc());
-    let messages = framer.feed(octets)?;
+    let messages = feed(&mut framer, octets)?;
     let are_whole = messages.len() == 1 && framer.len() == 0;
     assert!(rt; are_whole && messages[0].as_slice() == longest);
     Ok(())

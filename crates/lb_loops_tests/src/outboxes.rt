@@ -5,7 +5,7 @@ ghost use Rattle.lb_outbox.specs.declared.rule.SenderId.TheVariants.{One, Two};
 
 use lb_loops::{Job, Outbox, Receiver, Sender, Settled, finish};
 use lb_wire::{Addr, Octets, Origin};
-use std::alloc::Global;
+use std::alloc::{AllocError, Global};
 use std::process::Abort;
 use std::sync::Wait;
 use std::test::Fail;
@@ -32,10 +32,15 @@ fn marks_of(job: &Job) -> Option<(u8, u64)> {
     }
 }
 
+/// An outbox with room for two jobs. If memory was lacking, it is asked for once more.
+fn made(alloc: Global) -> Result<(Sender, Sender, Receiver), AllocError> {
+    Outbox::made(alloc, 2).or_else(|_refused| Outbox::made(alloc, 2))
+}
+
 /// The third job comes back, and the receiver gets the two and no more.
 #[test]
 fn a_full_outbox(rt: HostRuntime) -> Result<(), Fail> {
-    let (mut one, mut two, mut receiver) = Outbox::made(rt.alloc(), 2)?;
+    let (mut one, mut two, mut receiver) = made(rt.alloc())?;
     expect_full(&rt, &mut one, &mut two)?;
     expect_room(&rt, &mut two, &mut receiver)
 }
@@ -110,7 +115,7 @@ fn ended<R: Wait>(
 
 #[test]
 fn an_ended_outbox(rt: HostRuntime) -> Result<(), Fail> {
-    let (one, two, receiver) = Outbox::made(rt.alloc(), 2)?;
+    let (one, two, receiver) = made(rt.alloc())?;
     let (a, b) = (job(rt.alloc(), 1, 1), job(rt.alloc(), 1, 2));
     assert!(rt; ended(&rt, one, two, receiver, a, b).is_some());
     Ok(())

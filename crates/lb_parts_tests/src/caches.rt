@@ -177,6 +177,12 @@ fn are_lives(list: &[CachedReply], lives: &[u32]) -> bool {
     list.len() == lives.len()
 }
 
+/// Whether a cache lists replies of these lives.
+fn lists(alloc: Global, cache: &Cache, lives: &[u32]) -> Result<bool, AllocError> {
+    let list = cache.list(alloc).or_else(|_refused| cache.list(alloc))?;
+    Ok(are_lives(list.as_slice(), lives))
+}
+
 /// Tells a cache a line, and compares.
 fn tell_one(alloc: Global, cache: &mut Cache, told: &Tells) -> Result<bool, Fail> {
     Ok(match told {
@@ -193,7 +199,7 @@ fn tell_one(alloc: Global, cache: &mut Cache, told: &Tells) -> Result<bool, Fail
         Tells::ExpungesAll(gone) => cache.expunge_all() == *gone,
         Tells::PurgesDead(now, gone) => cache.purge_dead(*now) == *gone,
         Tells::Has(count) => cache.len() == *count,
-        Tells::Lists(lives) => are_lives(cache.list(alloc)?.as_slice(), lives),
+        Tells::Lists(lives) => lists(alloc, cache, lives)?,
     })
 }
 

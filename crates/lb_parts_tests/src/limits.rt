@@ -91,7 +91,8 @@ fn tell(clock: &mut Clock, line: &Line) -> Result<bool, AllocError> {
 
 /// Whether these are the passes that a limiter lists, in order.
 fn lists(alloc: Global, clock: &Clock, passes: &[Pass]) -> Result<bool, AllocError> {
-    let list = clock.limiter.list(alloc)?;
+    let limiter = &clock.limiter;
+    let list = limiter.list(alloc).or_else(|_refused| limiter.list(alloc))?;
     Ok(list.as_slice() == passes && clock.limiter.len() == passes.len())
 }
 

@@ -357,7 +357,7 @@ fn is_key(
         return Ok(false);
     }
     let key = key_of(alloc, query, &view, kind, skips)?;
-    let copy = key.copy(alloc)?;
+    let copy = key.copy(alloc).or_else(|_refused| key.copy(alloc))?;
     let same = copy.octets.as_slice() == wanted && copy.octets.equals(&key.octets);
     Ok(same && key.kind == kind && copy.kind == kind)
 }

@@ -350,7 +350,7 @@ const SOME: &[Op] = &[
 
 /// Whether a term and its copy are equal, and another one is not.
 fn is_copied(alloc: Global, term: &CheckedTerm, other: &CheckedTerm) -> Result<bool, AllocError> {
-    let copy = term.copy(alloc)?;
+    let copy = term.copy(alloc).or_else(|_refused| term.copy(alloc))?;
     let text = format!(in alloc; "{:?}", term.as_term())?;
     let copied = format!(in alloc; "{:?}", copy.as_term())?;
     Ok(text == copied && copy.equals(term) && !copy.equals(other))
