@@ -107,23 +107,26 @@ ends old mid tally between events left answers none so_far =
 
 -- a count that is not removed
 stays : (b : Bool) (tally : ℕ) → (b ≡ true → ⊥) → let none : ℕ = 0 in cond b none tally ≡ tally
-stays true tally no = absurd (no refl)
-stays false tally no = refl
+stays true tally differs = absurd (differs refl)
+stays false tally differs = refl
 
 not_shut : (removed : Option ℕ) (id tally : ℕ) → (removed ≡ Some id → ⊥) → shut removed id tally ≡ tally
-not_shut None id tally no = refl
-not_shut (Some one) id tally no = stays (id == one) tally (λ is. no (ap Some (sym (eqb-true id one is))))
+not_shut None id tally differs = refl
+not_shut (Some one) id tally differs = stays (id == one) tally (λ is. differs (ap Some (sym (eqb-true id one is))))
 
 -- a count that rises, and then by more
 one_of : (t n m : ℕ) → min (min (t + 1) m + n) m ≡ min (t + (1 + n)) m
 one_of t n m = omega arith
 
+none_more : (t n m : ℕ) → min (t + n) m ≡ min (t + (0 + n)) m
+none_more t n m = omega arith
+
 rises : (b : Bool) (tally n : ℕ) → min (cond b (one_more tally) tally + n) (2 ^ 64 - 1) ≡ min (tally + (one_if b + n)) (2 ^ 64 - 1)
 rises true tally n = one_of tally n (2 ^ 64 - 1)
-rises false tally n = refl
+rises false tally n = none_more tally n (2 ^ 64 - 1)
 
 named_rises : (named : Option ℕ) (id tally n : ℕ) → min (raised_at named id tally + n) (2 ^ 64 - 1) ≡ min (tally + (one_if (is_of named id) + n)) (2 ^ 64 - 1)
-named_rises None id tally n = refl
+named_rises None id tally n = none_more tally n (2 ^ 64 - 1)
 named_rises (Some one) id tally n = rises (id == one) tally n
 
 -- it stays within its bound
