@@ -5,7 +5,8 @@ tools/play/refuse.
    time: if something takes K requests, then each of them is refused in turn. A request is a call of
    malloc or realloc, or of calloc, from the program's begin on. With REFUSE_ON_SIGNAL=1 it counts
    from the signal USR1 on, until USR2. REFUSE_FD=N names a descriptor, to which it writes `ASKED
-   REFUSED` as the program ends: how many requests there were, and how many were refused. */
+   REFUSED` as the program ends: how many requests there were, and how many were refused.
+   REFUSE_NOTE_FD=N names one to which it writes an octet for each that it refuses. */
 #define _GNU_SOURCE
 #include <errno.h>
 #include <signal.h>
@@ -21,7 +22,7 @@ extern void *__libc_calloc(size_t count, size_t size);
 
 static atomic_long asked, refused;
 static long which, each;
-static int told = -1;
+static int told = -1, noted = -1;
 static volatile sig_atomic_t is_begun;
 
 static long number_in(const char *name)
@@ -40,6 +41,7 @@ __attribute__((constructor)) static void begin(void)
     which = number_in("REFUSE");
     each = number_in("REFUSE_EACH");
     told = getenv("REFUSE_FD") ? (int)number_in("REFUSE_FD") : -1;
+    noted = getenv("REFUSE_NOTE_FD") ? (int)number_in("REFUSE_NOTE_FD") : -1;
     if (number_in("REFUSE_ON_SIGNAL")) {
         signal(SIGUSR1, begin_or_pause);
         signal(SIGUSR2, begin_or_pause);
@@ -56,6 +58,8 @@ static int is_refused(void)
     if (place != which && !(each && place % each == place / each % each))
         return 0;
     refused++;
+    if (noted >= 0 && write(noted, "r", 1) != 1)
+        _exit(99);
     errno = ENOMEM;
     return 1;
 }
