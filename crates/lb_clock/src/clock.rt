@@ -44,7 +44,7 @@ impl<S: Datagrams, P: Posts, T: Taker, O: Outside> Model for ClockLoop<S, P, T, 
 
     ghost coded = { Prim.hlevel (codes, contract.the_row.coded) };
 
-    ghost view = { λ c. record { probes = c.probes; given = S.given c.sockets; taken = S.taken c.sockets; there = listened (S.listens c.sockets); failures = S.failures c.sockets; outbox = c.sender; fronts = c.fronts.items; handed = P.handed c.posts; answered = T.answered c.taker; pairs = T.pairs c.taker; said = O.said c.outside; outside = O.failures c.outside } };
+    ghost view = { λ c. record { probes = c.probes; given = S.given c.sockets; taken = S.taken c.sockets; there = listened (S.listens c.sockets); failures = S.failures c.sockets; outbox = c.sender; fronts = c.fronts.items; handed = P.handed c.posts; answered = T.answered c.taker; pairs = T.pairs c.taker; said = O.said c.outside; outside = O.failures c.outside; reads = S.reads c.sockets } };
 }
 
 impl<S: Datagrams, P: Posts, T: Taker, O: Outside> ClockLoop<S, P, T, O> {
@@ -58,7 +58,7 @@ impl<S: Datagrams, P: Posts, T: Taker, O: Outside> ClockLoop<S, P, T, O> {
         taker: T,
         outside: O,
     ) -> Result<ClockLoop<S, P, T, O>, AllocError>
-        ensures sockets { IfOk result (λ c. (c.given ≡ S.given sockets) × (c.taken ≡ S.taken sockets) × (c.there ≡ listened (S.listens sockets)) × (c.failures ≡ S.failures sockets)) }
+        ensures sockets { IfOk result (λ c. (c.given ≡ S.given sockets) × (c.taken ≡ S.taken sockets) × (c.there ≡ listened (S.listens sockets)) × (c.failures ≡ S.failures sockets) × (c.reads ≡ S.reads sockets)) }
         ensures probes { IfOk result (λ c. c.probes ≡ record { version = None; watched = [] }) }
         ensures parts { IfOk result (λ c. (c.outbox ≡ sender) × (c.fronts ≡ fronts.items) × (c.handed ≡ P.handed posts)) }
         ensures others { IfOk result (λ c. (c.answered ≡ T.answered taker) × (c.pairs ≡ T.pairs taker) × (c.said ≡ O.said outside) × (c.outside ≡ O.failures outside)) }

@@ -51,7 +51,7 @@ Client = ℕ × Endpoint
 
 -- what sockets of streams tell: the pieces that they gave and took; the clients that came and the ends that were dialled, each with its
 -- connection's number; the connections whose peer closed its side, and those whose peer takes no more; how many clients were turned
--- away; how often a device failed
+-- away; how often a device failed; and how often a connection was read or a client that waits was asked for, whatever came of it
 pub record Traffic : Type 0 where
   pub given : List Piece
   pub taken : List Piece
@@ -61,6 +61,11 @@ pub record Traffic : Type 0 where
   pub gone : List ℕ
   pub turned : ℕ
   pub failures : ℕ
+  pub reads : ℕ
+
+-- the same after one read or accept more
+abbrev pub read_once : Traffic → Traffic
+read_once t = record t { reads = t.reads + 1 }
 
 -- a device failed, and nothing else is told
 abbrev pub Faulty : Traffic → Traffic → Type 0
@@ -68,11 +73,11 @@ Faulty old new = (n : ℕ) × Fails old.failures n × (new ≡ record old { fail
 
 -- a read of a stream: what it answers, the connection, what was told before and after
 abbrev pub GavePiece : {E : Type 0} → Result Read E → ℕ → Traffic → Traffic → Type 0
-GavePiece (Ok (reads.Piece octets)) c old new = new ≡ record old { given = old.given ++ (c, octets) ∷ [] }
-GavePiece (Ok reads.Nothing) c old new = new ≡ old
-GavePiece (Ok reads.Ended) c old new = new ≡ record old { ended = old.ended ++ c ∷ [] }
-GavePiece (Ok reads.Failed) c old new = Faulty old new
-GavePiece (Err refused) c old new = new ≡ old
+GavePiece (Ok (reads.Piece octets)) c old new = new ≡ record old { given = old.given ++ (c, octets) ∷ []; reads = old.reads + 1 }
+GavePiece (Ok reads.Nothing) c old new = new ≡ read_once old
+GavePiece (Ok reads.Ended) c old new = new ≡ record old { ended = old.ended ++ c ∷ []; reads = old.reads + 1 }
+GavePiece (Ok reads.Failed) c old new = Faulty (read_once old) new
+GavePiece (Err refused) c old new = new ≡ read_once old
 
 -- a write to a stream: how many of the octets were taken
 abbrev pub Took : Result ℕ Why → ℕ → List ℕ → Traffic → Traffic → Type 0
@@ -83,16 +88,16 @@ Took (Err _) c octets old new = ⊥
 
 -- a client taken in
 abbrev pub Came : {E : Type 0} → Result Accepted E → ℕ → Traffic → Traffic → Type 0
-Came (Ok (accepted.Client front peer)) c old new = new ≡ record old { came = old.came ++ (c, (front, peer)) ∷ [] }
-Came (Ok accepted.Nothing) c old new = new ≡ old
-Came (Ok accepted.Failed) c old new = Faulty old new
-Came (Err refused) c old new = new ≡ old
+Came (Ok (accepted.Client front peer)) c old new = new ≡ record old { came = old.came ++ (c, (front, peer)) ∷ []; reads = old.reads + 1 }
+Came (Ok accepted.Nothing) c old new = new ≡ read_once old
+Came (Ok accepted.Failed) c old new = Faulty (read_once old) new
+Came (Err refused) c old new = new ≡ read_once old
 
 -- a client taken in and closed at once
 abbrev pub TurnedAway : Accepted → Traffic → Traffic → Type 0
-TurnedAway (accepted.Client front peer) old new = new ≡ record old { turned = old.turned + 1 }
-TurnedAway accepted.Nothing old new = new ≡ old
-TurnedAway accepted.Failed old new = Faulty old new
+TurnedAway (accepted.Client front peer) old new = new ≡ record old { turned = old.turned + 1; reads = old.reads + 1 }
+TurnedAway accepted.Nothing old new = new ≡ read_once old
+TurnedAway accepted.Failed old new = Faulty (read_once old) new
 
 -- a connection begun
 abbrev pub Dialed : Result (Unit {0}) Why → ℕ → Endpoint → Traffic → Traffic → Type 0

@@ -70,6 +70,7 @@ pub struct MemoryStreams<'a, R: Wait> {
     failing: StreamFailing,
     calls: Calls,
     failures: u64,
+    asked: Log<u64, u64>,
     given: Log<u64, Octets>,
     taken: Log<u64, Taken>,
     came: Log<u64, (u8, Endpoint)>,
@@ -94,6 +95,7 @@ impl<'a, R: Wait> MemoryStreams<'a, R> {
             failing,
             calls: Calls::default(),
             failures: 0,
+            asked: Log::new(),
             given: Log::new(),
             taken: Log::new(),
             came: Log::new(),
@@ -130,7 +132,7 @@ impl<R: Wait> Streams for MemoryStreams<'_, R> {
     ghost use Rattle.std.specs.Prelude.{length};
     ghost use Rattle.lb_memory.specs.Streams.{firsts};
 
-    ghost told = { λ m. record { given = m.given.items; taken = m.taken.items; came = m.came.items; dialed = m.dialed.items; ended = firsts m.ended.items; gone = firsts m.gone.items; turned = length m.turned.items; failures = m.failures } };
+    ghost told = { λ m. record { given = m.given.items; taken = m.taken.items; came = m.came.items; dialed = m.dialed.items; ended = firsts m.ended.items; gone = firsts m.gone.items; turned = length m.turned.items; failures = m.failures; reads = length m.asked.items } };
 
     fn ready(&mut self) -> Ready {
         self.wires.lock(self.rt).ready()
@@ -141,6 +143,7 @@ impl<R: Wait> Streams for MemoryStreams<'_, R> {
     }
 
     fn accept(&mut self, connection: u64) -> Result<Accepted, AllocError> {
+        self.asked = self.asked.and(&connection, &0);
         self.calls.accepts = self.calls.accepts.wrapping_add(1);
         if self.calls.accepts == self.failing.accept {
             self.failures = self.failures.saturating_add(1);
@@ -160,6 +163,7 @@ impl<R: Wait> Streams for MemoryStreams<'_, R> {
     }
 
     fn turn_away(&mut self) -> Accepted {
+        self.asked = self.asked.and(&0, &0);
         let mut wires = self.wires.lock(self.rt);
         let Some((front, from)) = wires.client() else {
             return Accepted::Nothing;
@@ -181,6 +185,7 @@ impl<R: Wait> Streams for MemoryStreams<'_, R> {
     }
 
     fn read_from(&mut self, connection: u64) -> Result<Read, AllocError> {
+        self.asked = self.asked.and(&connection, &0);
         self.calls.reads = self.calls.reads.wrapping_add(1);
         if self.calls.reads == self.failing.refused {
             refuse(self.alloc)?;

@@ -108,6 +108,7 @@ impl<R: Net> Streams for TcpSockets<'_, R> {
     }
 
     fn accept(&mut self, connection: u64) -> Result<Accepted, AllocError> {
+        self.told.asked();
         match self.arrivals.welcome(&self.watch, connection) {
             Ok(Some((front, from))) => {
                 self.told.came(connection, front, from);
@@ -122,6 +123,7 @@ impl<R: Net> Streams for TcpSockets<'_, R> {
     }
 
     fn turn_away(&mut self) -> Accepted {
+        self.told.asked();
         match self.arrivals.dismiss() {
             Ok(Some((front, from))) => {
                 self.told.turned(front, from);
@@ -149,6 +151,7 @@ impl<R: Net> Streams for TcpSockets<'_, R> {
     }
 
     fn read_from(&mut self, connection: u64) -> Result<Read, AllocError> {
+        self.told.asked();
         self.intake.prepare()?;
         match self.arrivals.read(connection, &mut self.intake) {
             Ok(Some(octets)) => {

@@ -1,7 +1,7 @@
 //! What sockets of streams tell.
 
 ghost use Rattle.std.specs.Prelude.{[], IfOk, length, ◌+◌, ◌++◌, ◌∷◌, ◌≡◌, ◌≤◌};
-ghost use Rattle.lb_lines.specs.Moves.{Faulty};
+ghost use Rattle.lb_lines.specs.Moves.{Faulty, read_once};
 ghost use Rattle.lb_sockets.specs.Told.{nothing};
 
 use http_server::Log;
@@ -54,6 +54,7 @@ impl Taken {
 pub(crate) struct Told {
     last: Taken,
     failures: u64,
+    asked: Log<u64, u64>,
     given: Log<u64, Octets>,
     taken: Log<u64, Taken>,
     came: Log<u64, (u8, Endpoint)>,
@@ -70,7 +71,7 @@ impl Model for Told {
 
     ghost Value = { Traffic };
 
-    ghost view = { λ t. record { given = t.given.items; taken = t.taken.items; came = t.came.items; dialed = t.dialed.items; ended = firsts t.ended.items; gone = firsts t.gone.items; turned = length t.turned.items; failures = t.failures } };
+    ghost view = { λ t. record { given = t.given.items; taken = t.taken.items; came = t.came.items; dialed = t.dialed.items; ended = firsts t.ended.items; gone = firsts t.gone.items; turned = length t.turned.items; failures = t.failures; reads = length t.asked.items } };
 }
 
 impl Told {
@@ -81,6 +82,7 @@ impl Told {
         Ok(Told {
             last: Taken::made(alloc)?,
             failures: 0,
+            asked: Log::new(),
             given: Log::new(),
             taken: Log::new(),
             came: Log::new(),
@@ -103,6 +105,13 @@ impl Told {
         ensures { Faulty self.old self.new }
     {
         self.failures = self.failures.saturating_add(1);
+    }
+
+    /// A connection is read, or a client that waits is asked for.
+    pub(crate) fn asked(&mut self)
+        ensures { self.new ≡ read_once self.old }
+    {
+        self.asked = self.asked.and(&0, &0);
     }
 
     /// A connection gave these octets.

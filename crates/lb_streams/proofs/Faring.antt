@@ -273,6 +273,7 @@ all_on a b c m n s r one two =
     let failures_one = one.failures in let failures_two = two.failures in let refusals_one = one.refusals in let refusals_two = two.refusals in
     let next_one = one.next in let next_two = two.next in let gone_one = one.gone in let gone_two = two.gone in let came_one = one.came in let came_two = two.came in
     let few_one = one.connected in let few_two = two.connected in
+    let counted_one = one.counted in let counted_two = two.counted in
     record {
       fares = λ k. fares_on (link k a) (link k b) (link k c) (wants a) (wants b) (wants c) (m k) (n k) (s k) (r k) failures_one refusals_one failures_two refusals_two (one.fares k) (two.fares k);
       failures = omega arith;
@@ -281,6 +282,7 @@ all_on a b c m n s r one two =
       gone = omega arith;
       came = omega arith;
       connected = omega arith;
+      counted = omega (arith, counted_one, counted_two);
       noted = notes_on a.device b.device c.device a.told.failures b.told.failures c.told.failures failures_one failures_two one.noted two.noted;
       turned = turned_on a b c came_one came_two next_one next_two few_one one.turned two.turned;
     }

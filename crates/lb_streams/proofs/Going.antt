@@ -10,12 +10,12 @@ use Rattle.lb_connections.specs.Writing.{Puts, max_waiting}
 use Rattle.lb_connections.specs.declared.connection.Connection.{Connection}
 use Rattle.lb_frames.specs.Frames.{AreMessages, NoneWhole, framed, frames}
 use Rattle.lb_lines.specs.Counts.{Fails, Rose}
-use Rattle.lb_lines.specs.Moves.{Faulty, Took, Traffic, octets_of}
+use Rattle.lb_lines.specs.Moves.{Faulty, Took, Traffic, octets_of, read_once}
 use Rattle.lb_lines.specs.declared.report.DeviceFault.{DeviceFault}
 use Rattle.lb_lines.specs.declared.report.DeviceFault.TheVariants as devices
 use Rattle.lb_lines.specs.declared.report.Why.{Why}
 use Rattle.lb_lines.specs.declared.report.Why.TheVariants as whys
-use Rattle.lb_streams.proofs.Apart.{Apart, apart_ended, apart_failed, apart_given, apart_gone, apart_none, apart_taken, count_here, is_other, is_same, octets_here}
+use Rattle.lb_streams.proofs.Apart.{Apart, apart_ended, apart_failed, apart_given, apart_gone, apart_looked, apart_none, apart_taken, count_here, is_other, is_same, octets_here}
 use Rattle.lb_streams.proofs.Faring.{rose_earlier}
 use Rattle.lb_streams.proofs.Steps.{fares_ended, fares_moved, fares_same, goes_step, lives_at}
 use Rattle.lb_streams.specs.Goes.{Goes, IsFull, IsOver, Notes, just, none, noted, noted_by}
@@ -156,7 +156,7 @@ not_lt n m e = grind (arith, nat_tests)
 quiet_goes : (a : Net) → Goes a a none none
 quiet_goes a = goes_step 0 a a none none (λ c apart. record { given = refl; taken = refl; came = refl; dialed = refl; ended = refl; gone = refl; below = refl; here = refl }) (λ c apart. (refl, refl))
     (fares_same (link 0 a) (link 0 a) (wants a) (wants a) (record { given = refl; taken = refl; came = refl; dialed = refl; ended = refl; gone = refl; below = refl; here = refl }))
-    (record { failures = omega arith; refusals = omega arith; next = omega arith; gone = omega arith; came = refl; turned = refl; clients = omega arith; noted = same_noted a.device a.device a.told.failures a.told.failures refl refl })
+    (record { failures = omega arith; refusals = omega arith; next = omega arith; gone = omega arith; came = refl; turned = refl; clients = omega arith; noted = same_noted a.device a.device a.told.failures a.told.failures refl refl; counted = omega arith })
 
 goes_nothing_at : (old new : Net) → new ≡ old → Goes old new none none
 goes_nothing_at old new e = subst (λ (z : Net). Goes old z none none) (sym e) (quiet_goes old)
@@ -168,7 +168,7 @@ goes_swap n old new x y m s table told noted only_m only_s moves =
     let refusals = table.refusals in let next = table.next in let few = table.clients in
     goes_step n old new m s (λ c apart. same_of n c old new told apart (table.others c apart) next) (λ c apart. (only_m c apart, only_s c apart))
     (fares_moved (link n old) (link n new) (wants old) (wants new) x y (m n) (s n) moves)
-    (record { failures = told.failures; refusals = omega arith; next = omega arith; gone = told.all_gone; came = told.came; turned = told.turned; clients = omega arith; noted = noted })
+    (record { failures = told.failures; refusals = omega arith; next = omega arith; gone = told.all_gone; came = told.came; turned = told.turned; clients = omega arith; noted = noted; counted = told.counted })
 
 -- one that is closed
 goes_drop : (n : ℕ) (old new : Net) (x : Connection) (m s : ℕ → List (List ℕ)) → Drops n old.table new.table x → Apart n old.told new.told → Notes old.device new.device old.told.failures new.told.failures
@@ -177,7 +177,7 @@ goes_drop n old new x m s table told noted only_m only_s ends =
     let next = table.next in
     goes_step n old new m s (λ c apart. same_of n c old new told apart (table.others c apart) next) (λ c apart. (only_m c apart, only_s c apart))
     (fares_ended (link n old) (link n new) (wants old) (wants new) (m n) (s n) ends)
-    (record { failures = told.failures; refusals = table.refusals; next = omega arith; gone = told.all_gone; came = told.came; turned = told.turned; clients = table.clients; noted = noted })
+    (record { failures = told.failures; refusals = table.refusals; next = omega arith; gone = told.all_gone; came = told.came; turned = told.turned; clients = table.clients; noted = noted; counted = told.counted })
 
 -- What is at the number of a swap.
 
@@ -190,12 +190,12 @@ one_frame message = append-nil (framed message)
 take_drop : (k : ℕ) (xs : List ℕ) → take k xs ++ drop k xs ≡ xs
 take_drop k xs = take-append-drop k xs
 
--- a connection of which nothing but what the loop notes of it changes
-pub goes_kept : (n : ℕ) (old new : Net) (x y : Connection) → Swaps n old.table new.table x y → new.told ≡ old.told → new.device ≡ old.device
+-- a connection of which nothing but what the loop notes of it changes, and of which a read may have given nothing
+pub goes_looked : (n r : ℕ) (old new : Net) (x y : Connection) → Swaps n old.table new.table x y → new.told ≡ record old.told { reads = r } → old.told.reads ≤ r → new.device ≡ old.device
     → y.peer ≡ x.peer → y.incoming ≡ x.incoming → y.outgoing ≡ x.outgoing → y.is_ended ≡ x.is_ended → Goes old new none none
-goes_kept n old new x y table told device peer incoming outgoing ended =
+goes_looked n r old new x y table told le device peer incoming outgoing ended =
     let gone_same : count_by (λ (k : ℕ). k == n) new.told.ended ≡ count_by (λ (k : ℕ). k == n) old.told.ended = ap (λ (t : Traffic). count_by (λ (k : ℕ). k == n) t.ended) told in
-    goes_swap n old new x y none none table (apart_none n old.told new.told told) (same_noted old.device new.device old.told.failures new.told.failures device (ap (λ (t : Traffic). t.failures) told)) (only_none n) (only_none n) (record {
+    goes_swap n old new x y none none table (apart_looked n r old.told new.told told le) (same_noted old.device new.device old.told.failures new.told.failures device (ap (λ (t : Traffic). t.failures) told)) (only_none n) (only_none n) (record {
       was = table.was;
       is = table.is;
       below = below_same n old.table new.table table.next;
@@ -214,8 +214,12 @@ goes_kept n old new x y table told device peer incoming outgoing ended =
       put = outgoing ∙ sym (append-nil x.outgoing);
     })
 
+pub goes_kept : (n : ℕ) (old new : Net) (x y : Connection) → Swaps n old.table new.table x y → new.told ≡ old.told → new.device ≡ old.device
+    → y.peer ≡ x.peer → y.incoming ≡ x.incoming → y.outgoing ≡ x.outgoing → y.is_ended ≡ x.is_ended → Goes old new none none
+goes_kept n old new x y table told device peer incoming outgoing ended = goes_looked n old.told.reads old new x y table told (omega arith) device peer incoming outgoing ended
+
 -- octets came of it
-pub goes_heard : (n : ℕ) (old new : Net) (x y : Connection) (o : List ℕ) → Swaps n old.table new.table x y → new.told ≡ record old.told { given = old.told.given ++ (n, o) ∷ [] } → new.device ≡ old.device
+pub goes_heard : (n : ℕ) (old new : Net) (x y : Connection) (o : List ℕ) → Swaps n old.table new.table x y → new.told ≡ record old.told { given = old.told.given ++ (n, o) ∷ []; reads = old.told.reads + 1 } → new.device ≡ old.device
     → y.peer ≡ x.peer → y.incoming ≡ x.incoming ++ o → y.outgoing ≡ x.outgoing → y.is_ended ≡ x.is_ended → Goes old new none none
 goes_heard n old new x y o table told device peer incoming outgoing ended =
     let gone_same : count_by (λ (k : ℕ). k == n) new.told.ended ≡ count_by (λ (k : ℕ). k == n) old.told.ended = ap (λ (t : Traffic). count_by (λ (k : ℕ). k == n) t.ended) told in
@@ -239,7 +243,7 @@ goes_heard n old new x y o table told device peer incoming outgoing ended =
     })
 
 -- its peer closed its side
-pub goes_asked : (n : ℕ) (old new : Net) (x y : Connection) → Swaps n old.table new.table x y → new.told ≡ record old.told { ended = old.told.ended ++ n ∷ [] } → new.device ≡ old.device
+pub goes_asked : (n : ℕ) (old new : Net) (x y : Connection) → Swaps n old.table new.table x y → new.told ≡ record old.told { ended = old.told.ended ++ n ∷ []; reads = old.told.reads + 1 } → new.device ≡ old.device
     → y.peer ≡ x.peer → y.incoming ≡ x.incoming → y.outgoing ≡ x.outgoing → Goes old new none none
 goes_asked n old new x y table told device peer incoming outgoing =
     let more : count_by (λ (k : ℕ). k == n) new.told.ended ≡ count_by (λ (k : ℕ). k == n) old.told.ended + 1 = ap (λ (t : Traffic). count_by (λ (k : ℕ). k == n) t.ended) told ∙ count_here n old.told.ended in
@@ -348,13 +352,13 @@ below_of : (n : ℕ) (t : Table) → n < t.next → nat_lt n t.next ≡ true
 below_of n t lt = given_of t n lt
 
 -- a device failed
-pub goes_failed : (n : ℕ) (old new : Net) (x : Connection) → Drops n old.table new.table x → Faulty old.told new.told → new.device ≡ noted old.device → Goes old new none none
-goes_failed n old new x table faulty device =
-    let told = faulty.2 in let le = faulty.1.0 in
-    let fails : Fails old.told.failures new.told.failures = subst (λ (k : ℕ). Fails old.told.failures k) (sym (ap (λ (t : Traffic). t.failures) told)) faulty.1 in
+pub goes_failed_by : (n k r : ℕ) (old new : Net) (x : Connection) → Drops n old.table new.table x → new.told ≡ record old.told { failures = k; reads = r } → Fails old.told.failures k → old.told.reads ≤ r → new.device ≡ noted old.device → Goes old new none none
+goes_failed_by n k r old new x table told faulty more device =
+    let le = faulty.0 in
+    let fails : Fails old.told.failures new.told.failures = subst (λ (i : ℕ). Fails old.told.failures i) (sym (ap (λ (t : Traffic). t.failures) told)) faulty in
     let ends : count_by (λ (k : ℕ). k == n) new.told.ended ≡ count_by (λ (k : ℕ). k == n) old.told.ended = ap (λ (t : Traffic). count_by (λ (k : ℕ). k == n) t.ended) told in
     let gone : count_by (λ (k : ℕ). k == n) new.told.gone ≡ count_by (λ (k : ℕ). k == n) old.told.gone = ap (λ (t : Traffic). count_by (λ (k : ℕ). k == n) t.gone) told in
-    goes_drop n old new x none none table (apart_failed n faulty.0 old.told new.told told le) (faulty_noted old.device new.device old.told.failures new.told.failures device fails) (only_none n) (only_none n) (record {
+    goes_drop n old new x none none table (apart_failed n k r old.told new.told told le more) (faulty_noted old.device new.device old.told.failures new.told.failures device fails) (only_none n) (only_none n) (record {
       here = table.is;
       before = lives_at (link n old) x table.was;
       below = below_of n new.table table.given;
@@ -367,12 +371,20 @@ goes_failed n old new x table faulty device =
       cause = inl fails.1;
     })
 
+-- at a write
+pub goes_failed : (n : ℕ) (old new : Net) (x : Connection) → Drops n old.table new.table x → Faulty old.told new.told → new.device ≡ noted old.device → Goes old new none none
+goes_failed n old new x table faulty device = goes_failed_by n faulty.0 old.told.reads old new x table faulty.2 faulty.1 (omega arith) device
+
+-- at a read
+pub goes_failed_read : (n : ℕ) (old new : Net) (x : Connection) → Drops n old.table new.table x → Faulty (read_once old.told) new.told → new.device ≡ noted old.device → Goes old new none none
+goes_failed_read n old new x table faulty device = goes_failed_by n faulty.0 (old.told.reads + 1) old new x table faulty.2 faulty.1 (omega arith) device
+
 -- memory was wanting, before it was read or behind that
-pub goes_wanting : (n : ℕ) (old new : Net) (x : Connection) → Drops n old.table new.table x → Rose old.table.refusals new.table.refusals → new.told ≡ old.told → new.device ≡ old.device → Goes old new none none
-goes_wanting n old new x table rose told device =
+pub goes_wanting_by : (n r : ℕ) (old new : Net) (x : Connection) → Drops n old.table new.table x → Rose old.table.refusals new.table.refusals → new.told ≡ record old.told { reads = r } → old.told.reads ≤ r → new.device ≡ old.device → Goes old new none none
+goes_wanting_by n r old new x table rose told more device =
     let ends : count_by (λ (k : ℕ). k == n) new.told.ended ≡ count_by (λ (k : ℕ). k == n) old.told.ended = ap (λ (t : Traffic). count_by (λ (k : ℕ). k == n) t.ended) told in
     let gone : count_by (λ (k : ℕ). k == n) new.told.gone ≡ count_by (λ (k : ℕ). k == n) old.told.gone = ap (λ (t : Traffic). count_by (λ (k : ℕ). k == n) t.gone) told in
-    goes_drop n old new x none none table (apart_none n old.told new.told told) (same_noted old.device new.device old.told.failures new.told.failures device (ap (λ (t : Traffic). t.failures) told)) (only_none n) (only_none n) (record {
+    goes_drop n old new x none none table (apart_looked n r old.told new.told told more) (same_noted old.device new.device old.told.failures new.told.failures device (ap (λ (t : Traffic). t.failures) told)) (only_none n) (only_none n) (record {
       here = table.is;
       before = lives_at (link n old) x table.was;
       below = below_of n new.table table.given;
@@ -385,7 +397,10 @@ goes_wanting n old new x table rose told device =
       cause = inr (inl rose);
     })
 
-pub goes_wanting_read : (n : ℕ) (old new : Net) (x : Connection) (o : List ℕ) → Drops n old.table new.table x → Rose old.table.refusals new.table.refusals → new.told ≡ record old.told { given = old.told.given ++ (n, o) ∷ [] } → new.device ≡ old.device → Goes old new none none
+pub goes_wanting : (n : ℕ) (old new : Net) (x : Connection) → Drops n old.table new.table x → Rose old.table.refusals new.table.refusals → new.told ≡ old.told → new.device ≡ old.device → Goes old new none none
+goes_wanting n old new x table rose told device = goes_wanting_by n old.told.reads old new x table rose told (omega arith) device
+
+pub goes_wanting_read : (n : ℕ) (old new : Net) (x : Connection) (o : List ℕ) → Drops n old.table new.table x → Rose old.table.refusals new.table.refusals → new.told ≡ record old.told { given = old.told.given ++ (n, o) ∷ []; reads = old.told.reads + 1 } → new.device ≡ old.device → Goes old new none none
 goes_wanting_read n old new x o table rose told device =
     let ends : count_by (λ (k : ℕ). k == n) new.told.ended ≡ count_by (λ (k : ℕ). k == n) old.told.ended = ap (λ (t : Traffic). count_by (λ (k : ℕ). k == n) t.ended) told in
     let gone : count_by (λ (k : ℕ). k == n) new.told.gone ≡ count_by (λ (k : ℕ). k == n) old.told.gone = ap (λ (t : Traffic). count_by (λ (k : ℕ). k == n) t.gone) told in
@@ -421,7 +436,7 @@ goes_wanting_taken n old new x message table rose told device =
     })
 
 -- its server closed its side
-pub goes_left : (n : ℕ) (old new : Net) (x : Connection) → Drops n old.table new.table x → is_client x.peer ≡ false → new.told ≡ record old.told { ended = old.told.ended ++ n ∷ [] } → new.device ≡ old.device → Goes old new none none
+pub goes_left : (n : ℕ) (old new : Net) (x : Connection) → Drops n old.table new.table x → is_client x.peer ≡ false → new.told ≡ record old.told { ended = old.told.ended ++ n ∷ []; reads = old.told.reads + 1 } → new.device ≡ old.device → Goes old new none none
 goes_left n old new x table server told device =
     let ends : count_by (λ (k : ℕ). k == n) new.told.ended ≡ count_by (λ (k : ℕ). k == n) old.told.ended + 1 = ap (λ (t : Traffic). count_by (λ (k : ℕ). k == n) t.ended) told ∙ count_here n old.told.ended in
     let gone : count_by (λ (k : ℕ). k == n) new.told.gone ≡ count_by (λ (k : ℕ). k == n) old.told.gone = ap (λ (t : Traffic). count_by (λ (k : ℕ). k == n) t.gone) told in

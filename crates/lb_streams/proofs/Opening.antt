@@ -8,7 +8,7 @@ use Rattle.std.proofs.lemmas.List.{append-nil, length-append}
 use Rattle.lb_connections.specs.Table.{Narrows, Table, at, at_place, client_count, clients, is_client, is_none}
 use Rattle.lb_connections.specs.declared.connection.Connection.{Connection}
 use Rattle.lb_lines.specs.Counts.{Fails, Rose}
-use Rattle.lb_lines.specs.Moves.{Client, Dialed, Faulty, Traffic, TurnedAway, octets_of}
+use Rattle.lb_lines.specs.Moves.{Client, Dialed, Faulty, Traffic, TurnedAway, octets_of, read_once}
 use Rattle.lb_lines.specs.declared.endpoint.Endpoint.{Endpoint}
 use Rattle.lb_lines.specs.declared.report.DeviceFault.{DeviceFault}
 use Rattle.lb_lines.specs.declared.report.Why.{Why}
@@ -20,6 +20,7 @@ use Rattle.lb_lines.specs.declared.traffic.Peer.TheVariants as peers
 use Rattle.lb_streams.proofs.Apart.{Apart, apart_dialed, number_here, number_other}
 use Rattle.lb_streams.proofs.Faring.{all_on}
 use Rattle.lb_streams.proofs.Going.{faulty_noted, same_noted}
+use Rattle.lb_streams.proofs.Pieces.{Counted, counted_client, counted_none, counted_turned}
 use Rattle.lb_streams.proofs.Steps.{and_false, fares_same, goes_step}
 use Rattle.lb_streams.specs.Goes.{Goes, Lacks, Notes, TurnsAway, TurnsOneAway, none, noted, noted_by}
 use Rattle.lb_streams.specs.Links.{Fares, HasBeen, Link, Net, NewPeer, Same, Wants, held, link, of_number, shut, unwritten, wants}
@@ -87,8 +88,8 @@ below_on : (c m n : ℕ) → m ≤ n → nat_lt c m ≡ true → nat_lt c n ≡ 
 below_on c m n le is = grind (arith, nat_tests)
 
 goes_quiet : (old new : Net) → ((c : ℕ) → Quiet (link c old) (link c new)) → old.told.failures ≤ new.told.failures → old.table.refusals ≤ new.table.refusals → old.table.next ≤ new.table.next
-    → new.told.gone ≡ old.told.gone → new.told.came ≡ old.told.came → clients new.table ≡ clients old.table → TurnsAway old new → Notes old.device new.device old.told.failures new.told.failures → Goes old new none none
-goes_quiet old new quiet failures refusals next gone came few turned noted =
+    → new.told.gone ≡ old.told.gone → new.told.came ≡ old.told.came → clients new.table ≡ clients old.table → TurnsAway old new → Notes old.device new.device old.told.failures new.told.failures → Counted old.told new.told → Goes old new none none
+goes_quiet old new quiet failures refusals next gone came few turned noted counted =
     let gone_len : length new.told.gone ≡ length old.told.gone = ap (λ zs. length zs) gone in
     let came_len : length new.told.came ≡ length old.told.came = ap (λ zs. length zs) came in
     record {
@@ -101,11 +102,17 @@ goes_quiet old new quiet failures refusals next gone came few turned noted =
       connected = omega (arith, came_len, few);
       turned = turned;
       noted = noted;
+      counted = counted;
     }
 
--- numbers are passed over
-pub goes_narrow : (old new : Net) → Narrows old.table new.table → new.told ≡ old.told → new.device ≡ old.device → Goes old new none none
-goes_narrow old new narrow told device =
+told_same : (a b : Traffic) → b ≡ a → Counted a b
+told_same a b e = let reads = ap (λ (t : Traffic). t.reads) e in
+    counted_none a b (ap (λ (t : Traffic). t.given) e) (ap (λ (t : Traffic). t.came) e) (ap (λ (t : Traffic). t.ended) e) (ap (λ (t : Traffic). t.turned) e) (omega (arith, reads))
+
+-- numbers are passed over, and a client may have been asked for
+goes_narrow_by : (r : ℕ) (old new : Net) → Narrows old.table new.table → new.told ≡ record old.told { reads = r } → old.told.reads ≤ r → new.device ≡ old.device → Goes old new none none
+goes_narrow_by r old new narrow told more device =
+    let reads : new.told.reads ≡ r = ap (λ (t : Traffic). t.reads) told in
     let failures = ap (λ (t : Traffic). t.failures) told in
     let refusals : new.table.refusals ≡ old.table.refusals = ap (λ (t : Table). t.refusals) narrow.same in
     goes_quiet old new (λ c. record {
@@ -118,7 +125,13 @@ goes_narrow old new narrow told device =
       below = below_on c old.table.next new.table.next narrow.next;
       here = narrow.all c;
     }) (omega (arith, failures)) (omega (arith, refusals)) narrow.next (ap (λ (t : Traffic). t.gone) told) (ap (λ (t : Traffic). t.came) told) (ap clients narrow.same) (inl (ap (λ (t : Traffic). t.turned) told))
-    (same_noted old.device new.device old.told.failures new.told.failures device failures)
+    (same_noted old.device new.device old.told.failures new.told.failures device failures) (counted_none old.told new.told (ap (λ (t : Traffic). t.given) told) (ap (λ (t : Traffic). t.came) told) (ap (λ (t : Traffic). t.ended) told) (ap (λ (t : Traffic). t.turned) told) (omega (arith, reads, more)))
+
+pub goes_narrow : (old new : Net) → Narrows old.table new.table → new.told ≡ old.told → new.device ≡ old.device → Goes old new none none
+goes_narrow old new narrow told device = goes_narrow_by old.told.reads old new narrow told (omega arith) device
+
+pub goes_narrow_read : (old new : Net) → Narrows old.table new.table → new.told ≡ read_once old.told → new.device ≡ old.device → Goes old new none none
+goes_narrow_read old new narrow told device = goes_narrow_by (old.told.reads + 1) old new narrow told (omega arith) device
 
 -- want of memory is counted
 pub goes_counted : (old new : Net) → new.table ≡ record old.table { refusals = new.table.refusals } → old.table.refusals ≤ new.table.refusals → new.told ≡ old.told → new.device ≡ old.device → Goes old new none none
@@ -135,7 +148,7 @@ goes_counted old new table more told device =
       below = λ e. ap (λ (k : ℕ). nat_lt c k) next ∙ e;
       here = ap (λ (t : Table). at c t) table;
     }) (omega (arith, failures)) more (omega (arith, next)) (ap (λ (t : Traffic). t.gone) told) (ap (λ (t : Traffic). t.came) told) (ap clients table) (inl (ap (λ (t : Traffic). t.turned) told))
-    (same_noted old.device new.device old.told.failures new.told.failures device failures)
+    (same_noted old.device new.device old.told.failures new.told.failures device failures) (told_same old.told new.told told)
 
 noted_from : (f g h : Option DeviceFault) (a b c : ℕ) → g ≡ f → b ≡ a → Notes g h b c → Notes f h a c
 noted_from f g h a b c e is notes = subst (λ (z : Option DeviceFault). Notes z h a c) e (subst (λ (k : ℕ). Notes g h k c) is notes)
@@ -149,6 +162,7 @@ record Turned (old new : Traffic) : Type 0 where
   pub ended : new.ended ≡ old.ended
   pub gone : new.gone ≡ old.gone
   pub failures : old.failures ≤ new.failures
+  pub counted : Counted old new
 
 turned_by : (result : Accepted) (old new : Traffic) → TurnedAway result old new → Turned old new
 turned_by (accepted.Client front peer) old new e = record {
@@ -159,6 +173,7 @@ turned_by (accepted.Client front peer) old new e = record {
   ended = ap (λ (t : Traffic). t.ended) e;
   gone = ap (λ (t : Traffic). t.gone) e;
   failures = let same = ap (λ (t : Traffic). t.failures) e in omega (arith, same);
+  counted = counted_turned old new (ap (λ (t : Traffic). t.given) e) (ap (λ (t : Traffic). t.came) e) (ap (λ (t : Traffic). t.ended) e) (ap (λ (t : Traffic). t.turned) e) (ap (λ (t : Traffic). t.reads) e);
 }
 turned_by accepted.Nothing old new e = record {
   given = ap (λ (t : Traffic). t.given) e;
@@ -168,6 +183,7 @@ turned_by accepted.Nothing old new e = record {
   ended = ap (λ (t : Traffic). t.ended) e;
   gone = ap (λ (t : Traffic). t.gone) e;
   failures = let same = ap (λ (t : Traffic). t.failures) e in omega (arith, same);
+  counted = let read = ap (λ (t : Traffic). t.reads) e in counted_none old new (ap (λ (t : Traffic). t.given) e) (ap (λ (t : Traffic). t.came) e) (ap (λ (t : Traffic). t.ended) e) (ap (λ (t : Traffic). t.turned) e) (omega (arith, read));
 }
 turned_by accepted.Failed old new faulty = let e = faulty.2 in let le = faulty.1.0 in record {
   given = ap (λ (t : Traffic). t.given) e;
@@ -177,6 +193,7 @@ turned_by accepted.Failed old new faulty = let e = faulty.2 in let le = faulty.1
   ended = ap (λ (t : Traffic). t.ended) e;
   gone = ap (λ (t : Traffic). t.gone) e;
   failures = let same = ap (λ (t : Traffic). t.failures) e in omega (arith, same, le);
+  counted = let read = ap (λ (t : Traffic). t.reads) e in counted_none old new (ap (λ (t : Traffic). t.given) e) (ap (λ (t : Traffic). t.came) e) (ap (λ (t : Traffic). t.ended) e) (ap (λ (t : Traffic). t.turned) e) (omega (arith, read));
 }
 
 -- a client is turned away, behind numbers that were passed over
@@ -199,7 +216,7 @@ goes_turned old mid new narrow told device turns away =
       below = below_on c old.table.next new.table.next further;
       here = ap (at c) turns.table ∙ narrow.all c;
     }) (omega (arith, failures, more)) (omega (arith, refusals)) further (all.gone ∙ ap (λ (t : Traffic). t.gone) told) (all.came ∙ ap (λ (t : Traffic). t.came) told)
-    (ap clients turns.table ∙ ap clients narrow.same) away (noted_from old.device mid.device new.device old.told.failures mid.told.failures new.told.failures device failures turns.noted)
+    (ap clients turns.table ∙ ap clients narrow.same) away (noted_from old.device mid.device new.device old.told.failures mid.told.failures new.told.failures device failures turns.noted) (subst (λ (t : Traffic). Counted t new.told) told all.counted)
 
 -- A connection is opened.
 
@@ -264,7 +281,7 @@ same_below c n a b apart e next = ap (λ (k : ℕ). nat_lt c k) (next ∙ ap (λ
 
 -- a client is taken in
 pub goes_admitted : (n : ℕ) (old new : Net) (x : Connection) (front : ℕ) (from : Endpoint) → Adds n old.table new.table x → x.peer ≡ peers.Client front from → x.incoming ≡ [] → x.outgoing ≡ [] → x.is_ended ≡ false
-    → new.told ≡ record old.told { came = old.told.came ++ (n, (front, from)) ∷ [] } → new.device ≡ old.device → Goes old new none none
+    → new.told ≡ record old.told { came = old.told.came ++ (n, (front, from)) ∷ []; reads = old.told.reads + 1 } → new.device ≡ old.device → Goes old new none none
 goes_admitted n old new x front from table peer incoming outgoing asks told device =
     let next = table.next in let refusals = table.refusals in let few = table.clients in
     let one : client_count x ≡ 1 = ap (λ (p : Peer). if is_client p then 1 else 0) peer in
@@ -299,6 +316,7 @@ goes_admitted n old new x front from table peer incoming outgoing asks told devi
       connected = omega (arith, came_len, few, one);
       turned = inl (ap (λ (t : Traffic). t.turned) told);
       noted = same_noted old.device new.device old.told.failures new.told.failures device failures;
+      counted = counted_client old.told new.told (n, (front, from)) (ap (λ (t : Traffic). t.given) told) (ap (λ (t : Traffic). t.came) told) (ap (λ (t : Traffic). t.ended) told) (ap (λ (t : Traffic). t.turned) told) (ap (λ (t : Traffic). t.reads) told);
     }
 
 -- a server is dialled
@@ -333,17 +351,19 @@ goes_dialed n old new x to table server peer incoming outgoing asks told device 
       turned = apart_all.turned;
       clients = omega (arith, few, none_more);
       noted = same_noted old.device new.device old.told.failures new.told.failures device failures;
+      counted = apart_all.counted;
     })
 
 -- the peer that was dialled
 pub new_peer : (n : ℕ) (old new : Net) (server : ServerId) (lane : ℕ) (to : Endpoint) → new.told ≡ record old.told { dialed = old.told.dialed ++ (n, to) ∷ [] } → NewPeer (link n old) (link n new) (peers.Server server lane to)
 new_peer n old new server lane to told = (to ∷ [], ap (λ (t : Traffic). of_number n t.dialed) told ∙ number_here n old.told.dialed to, contains_one to)
 
--- nothing but a device's failure was told
-pub goes_faulty : (old new : Net) → new.table ≡ old.table → Faulty old.told new.told → new.device ≡ noted old.device → Goes old new none none
-goes_faulty old new table faulty device =
-    let told = faulty.2 in let le = faulty.1.0 in
-    let failures : new.told.failures ≡ faulty.0 = ap (λ (t : Traffic). t.failures) told in
+-- nothing but a device's failure was told, and reads
+pub goes_faulty_by : (k r : ℕ) (old new : Net) → new.table ≡ old.table → new.told ≡ record old.told { failures = k; reads = r } → Fails old.told.failures k → old.told.reads ≤ r → new.device ≡ noted old.device → Goes old new none none
+goes_faulty_by k r old new table told faulty more device =
+    let le = faulty.0 in
+    let reads : new.told.reads ≡ r = ap (λ (t : Traffic). t.reads) told in
+    let failures : new.told.failures ≡ k = ap (λ (t : Traffic). t.failures) told in
     let refusals : new.table.refusals ≡ old.table.refusals = ap (λ (t : Table). t.refusals) table in
     let next : new.table.next ≡ old.table.next = ap (λ (t : Table). t.next) table in
     let further : old.table.next ≤ new.table.next = omega (arith, next) in
@@ -357,7 +377,11 @@ goes_faulty old new table faulty device =
       below = below_on c old.table.next new.table.next further;
       here = ap (at c) table;
     }) (omega (arith, failures, le)) (omega (arith, refusals)) further (ap (λ (t : Traffic). t.gone) told) (ap (λ (t : Traffic). t.came) told) (ap clients table) (inl (ap (λ (t : Traffic). t.turned) told))
-    (faulty_noted old.device new.device old.told.failures new.told.failures device (subst (λ (k : ℕ). Fails old.told.failures k) (sym failures) faulty.1))
+    (faulty_noted old.device new.device old.told.failures new.told.failures device (subst (λ (i : ℕ). Fails old.told.failures i) (sym failures) faulty))
+    (counted_none old.told new.told (ap (λ (t : Traffic). t.given) told) (ap (λ (t : Traffic). t.came) told) (ap (λ (t : Traffic). t.ended) told) (ap (λ (t : Traffic). t.turned) told) (omega (arith, reads, more)))
+
+pub goes_faulty : (old new : Net) → new.table ≡ old.table → Faulty old.told new.told → new.device ≡ noted old.device → Goes old new none none
+goes_faulty old new table faulty device = goes_faulty_by faulty.0 old.told.reads old new table faulty.2 faulty.1 (omega arith) device
 
 -- In the order of the calls: numbers are passed over first.
 
@@ -372,8 +396,12 @@ goes_turned_none old mid new narrow number told device turns = goes_turned old m
 pub goes_narrow_faulty : (old mid new : Net) → Narrows old.table mid.table → mid.told ≡ old.told → mid.device ≡ old.device → new.table ≡ mid.table → Faulty mid.told new.told → new.device ≡ noted mid.device → Goes old new none none
 goes_narrow_faulty old mid new narrow told device table faulty fault = all_on old mid new none none none none (goes_narrow old mid narrow told device) (goes_faulty mid new table faulty fault)
 
+pub goes_narrow_failed : (old mid new : Net) → Narrows old.table mid.table → mid.told ≡ old.told → mid.device ≡ old.device → new.table ≡ mid.table → Faulty (read_once mid.told) new.told → new.device ≡ noted mid.device → Goes old new none none
+goes_narrow_failed old mid new narrow told device table faulty fault =
+    all_on old mid new none none none none (goes_narrow old mid narrow told device) (goes_faulty_by faulty.0 (mid.told.reads + 1) mid new table faulty.2 faulty.1 (omega arith) fault)
+
 pub goes_came : (n : ℕ) (old mid new : Net) (x : Connection) (front : ℕ) (from : Endpoint) → Narrows old.table mid.table → mid.told ≡ old.told → mid.device ≡ old.device → Adds n mid.table new.table x
-    → x.peer ≡ peers.Client front from → x.incoming ≡ [] → x.outgoing ≡ [] → x.is_ended ≡ false → new.told ≡ record mid.told { came = mid.told.came ++ (n, (front, from)) ∷ [] } → new.device ≡ mid.device → Goes old new none none
+    → x.peer ≡ peers.Client front from → x.incoming ≡ [] → x.outgoing ≡ [] → x.is_ended ≡ false → new.told ≡ record mid.told { came = mid.told.came ++ (n, (front, from)) ∷ []; reads = mid.told.reads + 1 } → new.device ≡ mid.device → Goes old new none none
 goes_came n old mid new x front from narrow told device table peer incoming outgoing asks came same =
     all_on old mid new none none none none (goes_narrow old mid narrow told device) (goes_admitted n mid new x front from table peer incoming outgoing asks came same)
 

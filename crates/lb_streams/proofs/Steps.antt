@@ -122,4 +122,5 @@ goes_step n old new m s others nothing here beside =
       connected = omega arith;
       turned = inl beside.turned;
       noted = beside.noted;
+      counted = beside.counted;
     }

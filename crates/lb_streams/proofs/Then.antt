@@ -25,6 +25,7 @@ goes_as a b m n s r em es g = record {
   connected = g.connected;
   turned = g.turned;
   noted = g.noted;
+  counted = g.counted;
 }
 
 pub goes_before : (a b c : Net) (m s : ℕ → List (List ℕ)) → Goes a b none none → Goes b c m s → Goes a c m s

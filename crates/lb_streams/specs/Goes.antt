@@ -43,7 +43,16 @@ Notes None None before after = after ≡ before
 Notes None (Some devices.Sockets) before after = Fails before after
 Notes None (Some devices.Outside) before after = ⊥
 
+-- how often connections were read and clients that wait were asked for, whatever came of it
+abbrev pub reads_of : Net → ℕ
+reads_of net = net.told.reads
+
+-- how often that gave something: a piece, a client, the end of a peer's side, or a client that was turned away
+abbrev pub gave_of : Net → ℕ
+gave_of net = length net.told.given + length net.told.came + length net.told.ended + net.told.turned
+
 -- What happens to connections while these messages are taken from them, and these are sent to them, each by the number of its connection.
+-- Each thing that sockets gave, a read or an accept of its own gave.
 pub record Goes (old new : Net) (messages sends : ℕ → List (List ℕ)) : Type 0 where
   pub fares : (c : ℕ) → Fares (link c old) (link c new) (wants old) (wants new) (messages c) (sends c)
   pub failures : old.told.failures ≤ new.told.failures
@@ -54,15 +63,11 @@ pub record Goes (old new : Net) (messages sends : ℕ → List (List ℕ)) : Typ
   pub connected : clients new.table + length old.told.came ≤ clients old.table + length new.told.came
   pub turned : TurnsAway old new
   pub noted : Notes old.device new.device old.told.failures new.told.failures
+  pub counted : gave_of new + reads_of old ≤ gave_of old + reads_of new
 
 -- sockets that turned a client away, or had none to, or failed
 abbrev pub TurnedFrom : Traffic → Traffic → Type 0
 TurnedFrom old new = (result : Accepted) × TurnedAway result old new
-
--- how often sockets of streams gave something: pieces, clients, and clients' and servers' ends; and how many
--- clients were turned away
-abbrev pub reads_of : Net → ℕ
-reads_of net = length net.told.given + length net.told.came + length net.told.ended + net.told.turned
 
 -- what a step does beside the connection that it is about: no client comes or is turned away
 pub record Beside (old new : Net) : Type 0 where
@@ -74,6 +79,7 @@ pub record Beside (old new : Net) : Type 0 where
   pub turned : new.told.turned ≡ old.told.turned
   pub clients : clients new.table ≤ clients old.table
   pub noted : Notes old.device new.device old.told.failures new.told.failures
+  pub counted : gave_of new + reads_of old ≤ gave_of old + reads_of new
 
 -- a step of one connection, which fares so, while no other is touched, is what all go through
 abbrev pub OneGoes : Type 0
