@@ -51,8 +51,9 @@ pub trait Datagrams: Drop {
 }
 
 /// The stream connections of a loop, by the numbers that the loop gives them. They tell each piece
-/// that they gave and took, who came and whom was dialled, which ended, how often they were read or
-/// asked for a client, and how often a device failed (up to 2^64-1, where the count stays).
+/// that they gave and took, who came and whom was dialled, which ended, at which a device failed,
+/// for which there was no room, how often they were read or asked for a client, and how often a
+/// device failed (up to 2^64-1, where the count stays).
 pub trait Streams: Drop {
     ghost told: { Self → Traffic };
 

@@ -152,7 +152,10 @@ impl<R: Net> Streams for TcpSockets<'_, R> {
 
     fn read_from(&mut self, connection: u64) -> Result<Read, AllocError> {
         self.told.asked();
-        self.intake.prepare()?;
+        if let Err(refused) = self.intake.prepare() {
+            self.told.lacked(connection);
+            return Err(refused);
+        }
         match self.arrivals.read(connection, &mut self.intake) {
             Ok(Some(octets)) => {
                 self.told.gave(connection, &octets);
@@ -164,7 +167,7 @@ impl<R: Net> Streams for TcpSockets<'_, R> {
             }
             Err(error) if is_nothing(&error) => Ok(Read::Nothing),
             Err(_) => {
-                self.told.failed();
+                self.told.failed_at(connection);
                 Ok(Read::Failed)
             }
         }
@@ -182,7 +185,7 @@ impl<R: Net> Streams for TcpSockets<'_, R> {
                 Err(Why::Gone)
             }
             Err(_) => {
-                self.told.failed();
+                self.told.failed_at(connection);
                 Err(Why::Device)
             }
         }

@@ -67,6 +67,8 @@ pub record Apart (n : ℕ) (a b : Traffic) : Type 0 where
   pub dialed : (c : ℕ) → c ≢ n → of_number c b.dialed ≡ of_number c a.dialed
   pub ended : (c : ℕ) → c ≢ n → count_by (λ (k : ℕ). k == c) b.ended ≡ count_by (λ (k : ℕ). k == c) a.ended
   pub gone : (c : ℕ) → c ≢ n → count_by (λ (k : ℕ). k == c) b.gone ≡ count_by (λ (k : ℕ). k == c) a.gone
+  pub failed : (c : ℕ) → c ≢ n → count_by (λ (k : ℕ). k == c) b.failed ≡ count_by (λ (k : ℕ). k == c) a.failed
+  pub lacked : (c : ℕ) → c ≢ n → count_by (λ (k : ℕ). k == c) b.lacked ≡ count_by (λ (k : ℕ). k == c) a.lacked
   pub all_gone : length a.gone ≤ length b.gone
   pub turned : b.turned ≡ a.turned
   pub failures : a.failures ≤ b.failures
@@ -80,6 +82,8 @@ apart_looked n r a b e le = record {
   dialed = λ c apart. ap (λ (t : Traffic). of_number c t.dialed) e;
   ended = λ c apart. ap (λ (t : Traffic). count_by (λ (k : ℕ). k == c) t.ended) e;
   gone = λ c apart. ap (λ (t : Traffic). count_by (λ (k : ℕ). k == c) t.gone) e;
+  failed = λ c apart. ap (λ (t : Traffic). count_by (λ (k : ℕ). k == c) t.failed) e;
+  lacked = λ c apart. ap (λ (t : Traffic). count_by (λ (k : ℕ). k == c) t.lacked) e;
   all_gone = let same = ap (λ (t : Traffic). length t.gone) e in omega (arith, same);
   turned = ap (λ (t : Traffic). t.turned) e;
   failures = let same = ap (λ (t : Traffic). t.failures) e in omega (arith, same);
@@ -97,6 +101,8 @@ apart_given n a b o e = record {
   dialed = λ c apart. ap (λ (t : Traffic). of_number c t.dialed) e;
   ended = λ c apart. ap (λ (t : Traffic). count_by (λ (k : ℕ). k == c) t.ended) e;
   gone = λ c apart. ap (λ (t : Traffic). count_by (λ (k : ℕ). k == c) t.gone) e;
+  failed = λ c apart. ap (λ (t : Traffic). count_by (λ (k : ℕ). k == c) t.failed) e;
+  lacked = λ c apart. ap (λ (t : Traffic). count_by (λ (k : ℕ). k == c) t.lacked) e;
   all_gone = let same = ap (λ (t : Traffic). length t.gone) e in omega (arith, same);
   turned = ap (λ (t : Traffic). t.turned) e;
   failures = let same = ap (λ (t : Traffic). t.failures) e in omega (arith, same);
@@ -111,6 +117,8 @@ apart_taken n a b o e = record {
   dialed = λ c apart. ap (λ (t : Traffic). of_number c t.dialed) e;
   ended = λ c apart. ap (λ (t : Traffic). count_by (λ (k : ℕ). k == c) t.ended) e;
   gone = λ c apart. ap (λ (t : Traffic). count_by (λ (k : ℕ). k == c) t.gone) e;
+  failed = λ c apart. ap (λ (t : Traffic). count_by (λ (k : ℕ). k == c) t.failed) e;
+  lacked = λ c apart. ap (λ (t : Traffic). count_by (λ (k : ℕ). k == c) t.lacked) e;
   all_gone = let same = ap (λ (t : Traffic). length t.gone) e in omega (arith, same);
   turned = ap (λ (t : Traffic). t.turned) e;
   failures = let same = ap (λ (t : Traffic). t.failures) e in omega (arith, same);
@@ -125,6 +133,8 @@ apart_ended n a b e = record {
   dialed = λ c apart. ap (λ (t : Traffic). of_number c t.dialed) e;
   ended = λ c apart. ap (λ (t : Traffic). count_by (λ (k : ℕ). k == c) t.ended) e ∙ count_other c n a.ended apart;
   gone = λ c apart. ap (λ (t : Traffic). count_by (λ (k : ℕ). k == c) t.gone) e;
+  failed = λ c apart. ap (λ (t : Traffic). count_by (λ (k : ℕ). k == c) t.failed) e;
+  lacked = λ c apart. ap (λ (t : Traffic). count_by (λ (k : ℕ). k == c) t.lacked) e;
   all_gone = let same = ap (λ (t : Traffic). length t.gone) e in omega (arith, same);
   turned = ap (λ (t : Traffic). t.turned) e;
   failures = let same = ap (λ (t : Traffic). t.failures) e in omega (arith, same);
@@ -139,6 +149,8 @@ apart_gone n a b e = record {
   dialed = λ c apart. ap (λ (t : Traffic). of_number c t.dialed) e;
   ended = λ c apart. ap (λ (t : Traffic). count_by (λ (k : ℕ). k == c) t.ended) e;
   gone = λ c apart. ap (λ (t : Traffic). count_by (λ (k : ℕ). k == c) t.gone) e ∙ count_other c n a.gone apart;
+  failed = λ c apart. ap (λ (t : Traffic). count_by (λ (k : ℕ). k == c) t.failed) e;
+  lacked = λ c apart. ap (λ (t : Traffic). count_by (λ (k : ℕ). k == c) t.lacked) e;
   all_gone = let more : length b.gone ≡ length a.gone + 1 = ap (λ (t : Traffic). length t.gone) e ∙ length-append a.gone (n ∷ []) in omega (arith, more);
   turned = ap (λ (t : Traffic). t.turned) e;
   failures = let same = ap (λ (t : Traffic). t.failures) e in omega (arith, same);
@@ -153,13 +165,15 @@ apart_dialed n a b to e = record {
   dialed = λ c apart. ap (λ (t : Traffic). of_number c t.dialed) e ∙ number_other c n a.dialed to apart;
   ended = λ c apart. ap (λ (t : Traffic). count_by (λ (k : ℕ). k == c) t.ended) e;
   gone = λ c apart. ap (λ (t : Traffic). count_by (λ (k : ℕ). k == c) t.gone) e;
+  failed = λ c apart. ap (λ (t : Traffic). count_by (λ (k : ℕ). k == c) t.failed) e;
+  lacked = λ c apart. ap (λ (t : Traffic). count_by (λ (k : ℕ). k == c) t.lacked) e;
   all_gone = let same = ap (λ (t : Traffic). length t.gone) e in omega (arith, same);
   turned = ap (λ (t : Traffic). t.turned) e;
   failures = let same = ap (λ (t : Traffic). t.failures) e in omega (arith, same);
   counted = counted_none a b (ap (λ (t : Traffic). t.given) e) (ap (λ (t : Traffic). t.came) e) (ap (λ (t : Traffic). t.ended) e) (ap (λ (t : Traffic). t.turned) e) (let reads = ap (λ (t : Traffic). t.reads) e in omega (arith, reads));
 }
 
-pub apart_failed : (n k r : ℕ) (a b : Traffic) → b ≡ record a { failures = k; reads = r } → a.failures ≤ k → a.reads ≤ r → Apart n a b
+pub apart_failed : (n k r : ℕ) (a b : Traffic) → b ≡ record a { failures = k; reads = r; failed = a.failed ++ n ∷ [] } → a.failures ≤ k → a.reads ≤ r → Apart n a b
 apart_failed n k r a b e le more = record {
   given = λ c apart. ap (λ (t : Traffic). octets_of c t.given) e;
   taken = λ c apart. ap (λ (t : Traffic). octets_of c t.taken) e;
@@ -167,8 +181,26 @@ apart_failed n k r a b e le more = record {
   dialed = λ c apart. ap (λ (t : Traffic). of_number c t.dialed) e;
   ended = λ c apart. ap (λ (t : Traffic). count_by (λ (k : ℕ). k == c) t.ended) e;
   gone = λ c apart. ap (λ (t : Traffic). count_by (λ (k : ℕ). k == c) t.gone) e;
+  failed = λ c apart. ap (λ (t : Traffic). count_by (λ (k : ℕ). k == c) t.failed) e ∙ count_other c n a.failed apart;
+  lacked = λ c apart. ap (λ (t : Traffic). count_by (λ (k : ℕ). k == c) t.lacked) e;
   all_gone = let same = ap (λ (t : Traffic). length t.gone) e in omega (arith, same);
   turned = ap (λ (t : Traffic). t.turned) e;
   failures = let same = ap (λ (t : Traffic). t.failures) e in omega (arith, same, le);
   counted = counted_none a b (ap (λ (t : Traffic). t.given) e) (ap (λ (t : Traffic). t.came) e) (ap (λ (t : Traffic). t.ended) e) (ap (λ (t : Traffic). t.turned) e) (let reads = ap (λ (t : Traffic). t.reads) e in omega (arith, reads, more));
+}
+
+pub apart_lacked : (n : ℕ) (a b : Traffic) → b ≡ record a { lacked = a.lacked ++ n ∷ []; reads = a.reads + 1 } → Apart n a b
+apart_lacked n a b e = record {
+  given = λ c apart. ap (λ (t : Traffic). octets_of c t.given) e;
+  taken = λ c apart. ap (λ (t : Traffic). octets_of c t.taken) e;
+  came = ap (λ (t : Traffic). t.came) e;
+  dialed = λ c apart. ap (λ (t : Traffic). of_number c t.dialed) e;
+  ended = λ c apart. ap (λ (t : Traffic). count_by (λ (k : ℕ). k == c) t.ended) e;
+  gone = λ c apart. ap (λ (t : Traffic). count_by (λ (k : ℕ). k == c) t.gone) e;
+  failed = λ c apart. ap (λ (t : Traffic). count_by (λ (k : ℕ). k == c) t.failed) e;
+  lacked = λ c apart. ap (λ (t : Traffic). count_by (λ (k : ℕ). k == c) t.lacked) e ∙ count_other c n a.lacked apart;
+  all_gone = let same = ap (λ (t : Traffic). length t.gone) e in omega (arith, same);
+  turned = ap (λ (t : Traffic). t.turned) e;
+  failures = let same = ap (λ (t : Traffic). t.failures) e in omega (arith, same);
+  counted = counted_none a b (ap (λ (t : Traffic). t.given) e) (ap (λ (t : Traffic). t.came) e) (ap (λ (t : Traffic). t.ended) e) (ap (λ (t : Traffic). t.turned) e) (let reads = ap (λ (t : Traffic). t.reads) e in omega (arith, reads));
 }

@@ -9,7 +9,7 @@ use Rattle.lb_lines.specs.declared.report.DeviceFault.TheVariants as devices
 use Rattle.lb_lines.specs.declared.report.Why.{Why}
 use Rattle.lb_lines.specs.declared.report.Why.TheVariants as whys
 use Rattle.lb_lines.specs.declared.traffic.Accepted.{Accepted}
-use Rattle.lb_streams.specs.Links.{Fares, Net, Over, Same, link, shut, wants}
+use Rattle.lb_streams.specs.Links.{Fares, Net, Over, Same, link, shut}
 
 -- how many clients may be connected, and how many connections a table has places for
 abbrev pub max_clients : ℕ
@@ -54,9 +54,8 @@ gave_of net = length net.told.given + length net.told.came + length net.told.end
 -- What happens to connections while these messages are taken from them, and these are sent to them, each by the number of its connection.
 -- Each thing that sockets gave, a read or an accept of its own gave.
 pub record Goes (old new : Net) (messages sends : ℕ → List (List ℕ)) : Type 0 where
-  pub fares : (c : ℕ) → Fares (link c old) (link c new) (wants old) (wants new) (messages c) (sends c)
+  pub fares : (c : ℕ) → Fares (link c old) (link c new) (messages c) (sends c)
   pub failures : old.told.failures ≤ new.told.failures
-  pub refusals : old.table.refusals ≤ new.table.refusals
   pub next : old.table.next ≤ new.table.next
   pub gone : length old.told.gone ≤ length new.told.gone
   pub came : length old.told.came ≤ length new.told.came
@@ -72,7 +71,6 @@ TurnedFrom old new = (result : Accepted) × TurnedAway result old new
 -- what a step does beside the connection that it is about: no client comes or is turned away
 pub record Beside (old new : Net) : Type 0 where
   pub failures : old.told.failures ≤ new.told.failures
-  pub refusals : old.table.refusals ≤ new.table.refusals
   pub next : old.table.next ≤ new.table.next
   pub gone : length old.told.gone ≤ length new.told.gone
   pub came : new.told.came ≡ old.told.came
@@ -84,7 +82,7 @@ pub record Beside (old new : Net) : Type 0 where
 -- a step of one connection, which fares so, while no other is touched, is what all go through
 abbrev pub OneGoes : Type 0
 OneGoes = (n : ℕ) (old new : Net) (messages sends : ℕ → List (List ℕ)) → ((c : ℕ) → c ≢ n → Same (link c old) (link c new)) → ((c : ℕ) → c ≢ n → (messages c ≡ []) × (sends c ≡ []))
-    → Fares (link n old) (link n new) (wants old) (wants new) (messages n) (sends n) → Beside old new → Goes old new messages sends
+    → Fares (link n old) (link n new) (messages n) (sends n) → Beside old new → Goes old new messages sends
 
 -- nothing
 abbrev pub none : ℕ → List (List ℕ)

@@ -65,7 +65,7 @@ impl<S: Streams> Links<S> {
                 Ok(()) => self.table.put(connection),
                 Err(refused) => {
                     self.sockets.close(number);
-                    self.table.lacks(refused);
+                    self.table.lacks(number, refused);
                 }
             },
             Ok(Read::Nothing) => self.table.put(connection),
@@ -82,7 +82,7 @@ impl<S: Streams> Links<S> {
             }
             Err(refused) => {
                 self.sockets.close(number);
-                self.table.lacks(refused);
+                self.table.lacks(number, refused);
             }
         }
     }
