@@ -1,6 +1,6 @@
 -- What happens to the connections of a loop.
 use Rattle.std.specs.Prelude.{◌≡◌, ◌≢◌, ℕ, ◌+◌, ◌≤◌, ◌^◌, ◌⊎◌, Bool, List, [], ◌∷◌, ◌++◌, Option, Some, None, Result, Ok, Err, length, true, false, if◌then◌else◌, ◌==◌}
-use Rattle.lb_connections.specs.Table.{clients, is_client}
+use Rattle.lb_connections.specs.Table.{IsDone, at, clients, is_client}
 use Rattle.lb_connections.specs.declared.connection.Connection.{Connection}
 use Rattle.lb_lines.specs.Counts.{Fails, Rose}
 use Rattle.lb_lines.specs.Moves.{Traffic, TurnedAway}
@@ -142,6 +142,10 @@ Lacks old new whys.Gone = NoNumber old new
 Lacks old new whys.Device = Rose old.told.failures new.told.failures
 Lacks old new whys.NoMemory = Unit {0}
 Lacks old new _ = ⊥
+
+-- the connection of a number is not open at its end: its peer has not closed its side, or something is left to be answered or written
+abbrev pub IsUndone : ℕ → Net → Type 0
+IsUndone n net = (x : Connection) → at n net.table ≡ Some x → IsDone x → ⊥
 
 -- a client that waited was turned away, or there was none
 pub record TurnsOneAway (old new : Net) : Type 0 where
