@@ -6,8 +6,7 @@ use Rattle.lb_probes.proofs.probes.Probes.quiet_for.Goals as goal
 pub loop-index-preserved : goal.loop-index-preserved
 loop-index-preserved c =
     let first = c.lesser-quiet.ensures.first in
-    let bound = c.loop-index.invariant.0 in
-    (
+    let bound = c.loop-index.invariant.0 in (
       omega (arith, first, bound),
       quiet_on c.args.roster.now.listed c.args.now _ _ _ _ _ first c.lesser-quiet.ensures.second c.loop-index.invariant.1 c.quiet_at.ensures.quiet,
       longest_on c.args.roster.now.listed c.args.now c.args.at_most _ _ _ _ _ c.lesser-quiet.ensures.one c.loop-index.invariant.2 c.quiet_at.ensures.up,
