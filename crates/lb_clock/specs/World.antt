@@ -11,9 +11,10 @@ use Rattle.lb_outbox.specs.declared.job.Job.{Job}
 use Rattle.lb_probes.specs.Probes.{Probed}
 use Rattle.lb_wire.specs.declared.addr.Origin.{Origin}
 
--- what its parts tell: the servers that are probed; the datagrams that its sockets gave and took, at which places they listen, how
--- often they failed, and how often they were asked for a datagram; the jobs that were sent; what listens at each place; what was handed to requests; the answered calls and the pairs;
--- the stamps that were said, and the failures outside
+-- what its parts tell: the servers that are probed; the datagrams that its sockets gave and took,
+-- at which places they listen, how often they failed, and how often they were asked for a datagram;
+-- the jobs that were sent; what listens at each place; what was handed to requests; the answered
+-- calls and the pairs; the stamps that were said, and the failures outside
 pub record World : Type 0 where
   pub probes : Probed
   pub given : List Datagram

@@ -49,10 +49,12 @@ octets_of c = flat_map (λ (piece : Piece). if piece.0 == c then piece.1 else []
 abbrev pub Client : Type 0
 Client = ℕ × Endpoint
 
--- what sockets of streams tell: the pieces that they gave and took; the clients that came and the ends that were dialled, each with its
--- connection's number; the connections whose peer closed its side, and those whose peer takes no more; how many clients were turned
--- away; how often a device failed; how often a connection was read or a client that waits was asked for, whatever came of it; the
--- connections at which a device failed when they were read or written; and those of which a piece was refused room
+-- what sockets of streams tell: the pieces that they gave and took; the clients that came and the
+-- ends that were dialled, each with its connection's number; the connections whose peer closed its
+-- side, and those whose peer takes no more; how many clients were turned away; how often a device
+-- failed; how often a connection was read or a client that waits was asked for, whatever came of
+-- it; the connections at which a device failed when they were read or written; and those of which a
+-- piece was refused room
 pub record Traffic : Type 0 where
   pub given : List Piece
   pub taken : List Piece

@@ -146,8 +146,8 @@ IsQuietFor roster now wait w = (moment : ℕ) → now ≤ moment → moment < no
 abbrev pub IsUpAt : List Listed → ℕ → Watched → Type 0
 IsUpAt roster moment w = ((x : Waits) × (w.waits ≡ Some x) × IsOver moment x) ⊎ ((place : Place) × IsDue roster moment w place)
 
--- it is quiet for so many milliseconds from this moment on and no longer: that is as long as may be, or a server is up then, or no later
--- moment can be told
+-- it is quiet for so many milliseconds from this moment on and no longer: that is as long as may
+-- be, or a server is up then, or no later moment can be told
 abbrev pub IsLongest : List Listed → ℕ → ℕ → ℕ → List Watched → Type 0
 IsLongest roster now at_most wait p = (wait ≡ at_most) ⊎ ((2 ^ 64 - 1 ≤ now + wait) ⊎ ((i : ℕ) × (w : Watched) × (slice_get p i ≡ Some w) × IsUpAt roster (now + wait) w))
 

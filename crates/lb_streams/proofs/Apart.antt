@@ -59,7 +59,8 @@ count_here n ns = let all = count_more n n ns in let one = tally_here n in omega
 pub count_other : (c n : ℕ) (ns : List ℕ) → c ≢ n → count_by (λ (k : ℕ). k == c) (ns ++ n ∷ []) ≡ count_by (λ (k : ℕ). k == c) ns
 count_other c n ns apart = let all = count_more c n ns in let nothing_more = tally_other c n apart in omega (arith, all, nothing_more)
 
--- nothing is told of connections other than this one, no client came, none was turned away, and what was given was given by a read
+-- nothing is told of connections other than this one, no client came, none was turned away, and
+-- what was given was given by a read
 pub record Apart (n : ℕ) (a b : Traffic) : Type 0 where
   pub given : (c : ℕ) → c ≢ n → octets_of c b.given ≡ octets_of c a.given
   pub taken : (c : ℕ) → c ≢ n → octets_of c b.taken ≡ octets_of c a.taken

@@ -212,7 +212,8 @@ one_frame message = append-nil (framed message)
 take_drop : (k : ℕ) (xs : List ℕ) → take k xs ++ drop k xs ≡ xs
 take_drop k xs = take-append-drop k xs
 
--- a connection of which nothing but what the loop notes of it changes, and of which a read may have given nothing
+-- a connection of which nothing but what the loop notes of it changes, and of which a read may have
+-- given nothing
 pub goes_looked : (n r : ℕ) (old new : Net) (x y : Connection) → Swaps n old.table new.table x y → new.told ≡ record old.told { reads = r } → old.told.reads ≤ r → new.device ≡ old.device
     → y.peer ≡ x.peer → y.incoming ≡ x.incoming → y.outgoing ≡ x.outgoing → y.is_ended ≡ x.is_ended → Goes old new none none
 goes_looked n r old new x y table told le device peer incoming outgoing ended =

@@ -1,4 +1,5 @@
--- How often sockets of streams are read and asked for a client, and how often they give something, through each of their calls.
+-- How often sockets of streams are read and asked for a client, and how often they give something,
+-- through each of their calls.
 use Rattle.std.proofs.Common.{◌≡◌, ℕ, ◌+◌, ◌≤◌, List, [], ◌∷◌, ◌++◌, Result, Ok, Err, length, ap, ◌∙◌, arith}
 use Rattle.std.proofs.lemmas.List.{length-append}
 use Rattle.lb_lines.specs.Moves.{Came, Client, Dialed, Faulty, GavePiece, Piece, Took, Traffic, TurnedAway}

@@ -47,7 +47,8 @@ Notes None (Some devices.Outside) before after = ⊥
 abbrev pub reads_of : Net → ℕ
 reads_of net = net.told.reads
 
--- how often that gave something: a piece, a client, the end of a peer's side, or a client that was turned away
+-- how many of these reads gave something: a piece, a client, the end of a peer's side, or a client
+-- that was turned away
 abbrev pub gave_of : Net → ℕ
 gave_of net = length net.told.given + length net.told.came + length net.told.ended + net.told.turned
 
@@ -143,7 +144,8 @@ Lacks old new whys.Device = Rose old.told.failures new.told.failures
 Lacks old new whys.NoMemory = Unit {0}
 Lacks old new _ = ⊥
 
--- the connection of a number is not open at its end: its peer has not closed its side, or something is left to be answered or written
+-- the connection of a number is not open at its end: its peer has not closed its side, or something
+-- is left to be answered or written
 abbrev pub IsUndone : ℕ → Net → Type 0
 IsUndone n net = (x : Connection) → at n net.table ≡ Some x → IsDone x → ⊥
 

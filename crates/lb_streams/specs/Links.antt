@@ -25,9 +25,10 @@ unwritten (Some x) = x.outgoing
 abbrev pub of_number : {A : Type 0} → ℕ → List (ℕ × A) → List A
 of_number {A} c = flat_map (λ (told : ℕ × A). if told.0 == c then told.1 ∷ [] else [])
 
--- all of one connection: the octets that it gave and took, the clients and the ends that came under its number, how often its peer closed
--- its side and took no more, how often a device failed at it, how often a piece of it was refused room, and how often memory was
--- refused for it, whether its number was given, and what it is now
+-- all of one connection: the octets that it gave and took, the clients and the ends that came under
+-- its number, how often its peer closed its side and took no more, how often a device failed at it,
+-- how often a piece of it was refused room, and how often memory was refused for it, whether its
+-- number was given, and what it is now
 pub record Link : Type 0 where
   pub given : List ℕ
   pub taken : List ℕ
@@ -119,8 +120,9 @@ pub record Finished (a b : Link) (messages sends : List (List ℕ)) : Type 0 whe
 abbrev pub Over : Link → List (List ℕ) → List ℕ → Type 0
 Over a sends message = max_waiting < length (unwritten a.here) + length (frames sends) + length (framed message)
 
--- Why a connection is closed, each cause of this connection alone: a device failed at it; memory was refused for it; its peer takes no
--- more; its server closed its side; its client did, and has its answers; or more would wait to be written to it than may.
+-- Why a connection is closed, each cause of this connection alone: a device failed at it; memory
+-- was refused for it; its peer takes no more; its server closed its side; its client did, and has
+-- its answers; or more would wait to be written to it than may.
 abbrev pub Leaves : Link → Link → List (List ℕ) → List (List ℕ) → Type 0
 Leaves a b messages sends =
     (a.failed < b.failed)
@@ -130,7 +132,8 @@ Leaves a b messages sends =
     ⊎ (Finished a b messages sends
     ⊎ ((message : List ℕ) × Over a sends message)))))
 
--- a closed connection stays so: it gives and takes nothing, nothing fails at it, and no message is of it or for it
+-- a closed connection stays so: it gives and takes nothing, nothing fails at it, and no message is
+-- of it or for it
 pub record Still (a b : Link) (messages sends : List (List ℕ)) : Type 0 where
   pub given : b.given ≡ a.given
   pub taken : b.taken ≡ a.taken
@@ -141,9 +144,10 @@ pub record Still (a b : Link) (messages sends : List (List ℕ)) : Type 0 where
   pub no_messages : messages ≡ []
   pub no_sends : sends ≡ []
 
--- How the connection of one number fares: these messages were taken from what was held of it and what came, and these were sent to it.
--- What its socket took, followed by what waits to be written, grew by those; it is who it was; it is opened once; one at which a device
--- failed, or of which a piece was refused room, is not open; and where it is closed there is a cause.
+-- How the connection of one number fares: these messages were taken from what was held of it and
+-- what came, and these were sent to it. What its socket took, followed by what waits to be written,
+-- grew by those; it is who it was; it is opened once; one at which a device failed, or of which a
+-- piece was refused room, is not open; and where it is closed there is a cause.
 pub record Fares (a b : Link) (messages sends : List (List ℕ)) : Type 0 where
   pub taken : (more : List ℕ) × (b.taken ≡ a.taken ++ more)
   pub came : (more : List Client) × (b.came ≡ a.came ++ more)
