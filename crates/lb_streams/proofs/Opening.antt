@@ -111,10 +111,6 @@ goes_quiet old new quiet failures next gone came few turned noted counted =
       counted = counted;
     }
 
-told_same : (a b : Traffic) → b ≡ a → Counted a b
-told_same a b e = let reads = ap (λ (t : Traffic). t.reads) e in
-    counted_none a b (ap (λ (t : Traffic). t.given) e) (ap (λ (t : Traffic). t.came) e) (ap (λ (t : Traffic). t.ended) e) (ap (λ (t : Traffic). t.turned) e) (omega (arith, reads))
-
 -- numbers are passed over, and a client may have been asked for
 goes_narrow_by : (r : ℕ) (old new : Net) → Narrows old.table new.table → new.told ≡ record old.told { reads = r } → old.told.reads ≤ r → new.device ≡ old.device → Goes old new none none
 goes_narrow_by r old new narrow told more device =
