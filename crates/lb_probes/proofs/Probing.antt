@@ -1,5 +1,5 @@
 -- Servers that are probed, place by place.
-use Rattle.std.proofs.Common.{◌≡◌, ℕ, zero, suc, ◌+◌, ◌-◌, ◌^◌, ◌<◌, ◌≤◌, ◌⊎◌, inl, inr, Some, List, [], ◌∷◌, length, sym, ap, subst, arith}
+use Rattle.std.proofs.Common.{◌≡◌, ℕ, zero, suc, ◌+◌, ◌-◌, ◌^◌, ◌<◌, ◌≤◌, ◌⊎◌, inl, inr, None, Some, List, [], ◌∷◌, length, sym, ap, ◌∙◌, subst, arith}
 use Rattle.std.specs.Prelude.{slice_get}
 use Rattle.lb_lines.specs.declared.roster.Listed.{Listed}
 use Rattle.lb_probes.specs.Probes.{Each, First, Here, IsLongest, IsQuietFor, IsUpAt}
@@ -43,3 +43,16 @@ pub longest_on : (roster : List Listed) (now at_most a b least i : ℕ) (p : Lis
 longest_on roster now at_most a b least i p (inl is) before here = subst (λ (n : ℕ). IsLongest roster now at_most n p) (sym is) before
 longest_on roster now at_most a b least i p (inr is) before (inl late) = inr (inl (omega (arith, is, late)))
 longest_on roster now at_most a b least i p (inr is) before (inr up) = subst (λ (n : ℕ). IsLongest roster now at_most n p) (sym is) (inr (inr (i, up.0, up.1, up.2)))
+
+-- who is at a place
+pub one_there : (p : List Watched) (i : ℕ) (w z : Watched) → slice_get p i ≡ Some w → slice_get p i ≡ Some z → w ≡ z
+one_there p i w z here there = let both : Some w ≡ Some z = sym here ∙ there in cc
+
+pub none_there : (p : List Watched) (i : ℕ) (w : Watched) → slice_get p i ≡ None → slice_get p i ≡ Some w → ⊥
+none_there p i w none there = let both : None ≡ Some w = sym none ∙ there in cc
+
+-- the server at a place is up, or no later moment can be told
+pub up_here : (roster : List Listed) (now b i : ℕ) (p : List Watched) (w : Watched) → slice_get p i ≡ Some w → (2 ^ 64 - 1 ≤ now + b) ⊎ IsUpAt roster (now + b) w
+    → (2 ^ 64 - 1 ≤ now + b) ⊎ ((z : Watched) × (slice_get p i ≡ Some z) × IsUpAt roster (now + b) z)
+up_here roster now b i p w there (inl late) = inl late
+up_here roster now b i p w there (inr up) = inr (w, there, up)
