@@ -3,7 +3,7 @@ use Rattle.std.proofs.Common.{◌≡◌, ℕ, ◌+◌, ◌≤◌, inl, inr, Bool
 use Rattle.std.specs.Prelude.{◌||◌}
 use Rattle.std.proofs.lemmas.Grind.{flat_map-append}
 use Rattle.std.proofs.lemmas.List.{append-nil, length-append}
-use Rattle.lb_clock.specs.Acts.{Act, AllProbes, Setting, Stops, StopsAt, any_blind, any_failed, blind_in, device_in, end_by, failed_in, first_device, line_in, lines_in, or_device, read_in, stamp_in}
+use Rattle.lb_clock.specs.Acts.{Act, AllProbes, Setting, Stops, StopsAt, any_blind, any_failed, blind_in, device_in, end_by, failed_in, first_device, line_in, lines_in, or_device, read_in, stamp_in, tried_in, tries_in}
 use Rattle.lb_clock.specs.Lines.{AreLines, datagram_in, datagrams}
 use Rattle.lb_clock.specs.Turn.{FailsBy, Turns}
 use Rattle.lb_clock.specs.World.{World}
@@ -93,6 +93,10 @@ pub stops_on : (xs ys : List Act) (end : Option End) → Stops xs None → Stops
 stops_on [] ys end first after = after
 stops_on (x ∷ xs) ys end first after = stops_at_on (end_by x) xs ys (Stops xs None) (Stops (xs ++ ys) end) end (λ s. stops_on xs ys end s after) first
 
+pub tries_on : (xs ys : List Act) → tries_in (xs ++ ys) ≡ tries_in xs + tries_in ys
+tries_on [] ys = refl
+tries_on (x ∷ xs) ys = let more = tries_on xs ys in omega (arith, more)
+
 -- No act.
 pub turns_none : (on : Setting) (a : World) → Turns on [] a a
 turns_none on a = record {
@@ -109,6 +113,7 @@ turns_none on a = record {
   blind = refl;
   fronts = refl;
   there = refl;
+  reads = omega arith;
 }
 
 -- Acts behind others.
@@ -119,6 +124,9 @@ turns_on on xs ys a b c one two =
     let pairs_len : length (pairs (lines_in (xs ++ ys))) ≡ length (pairs (lines_in xs)) + length (pairs (lines_in ys)) = ap (λ zs. length zs) pairs_all ∙ length-append (pairs (lines_in xs)) (pairs (lines_in ys)) in
     let count_one = one.counted in
     let count_two = two.counted in
+    let reads_one = one.reads in
+    let reads_two = two.reads in
+    let tries = tries_on xs ys in
     record {
       probes = probes_on on xs ys a.probes b.probes c.probes one.probes two.probes;
       given = grown read_in a.given b.given c.given xs ys one.given two.given;
@@ -134,4 +142,5 @@ turns_on on xs ys a b c one two =
       blind = subst (λ z. FailsBy z a.outside c.outside) (sym (any_blind_on xs ys)) (fails_on (any_blind xs) (any_blind ys) a.outside b.outside c.outside one.blind two.blind);
       fronts = two.fronts ∙ one.fronts;
       there = two.there ∙ one.there;
+      reads = omega (arith, reads_one, reads_two, tries);
     }

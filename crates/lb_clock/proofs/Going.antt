@@ -3,13 +3,13 @@ use Rattle.std.proofs.Common.{◌≡◌, ℕ, ◌+◌, ◌≤◌, ◌⊎◌, inl
 use Rattle.std.specs.Prelude.{◌||◌, if◌then◌else◌, option_map, option_to_list, slice_get}
 use Rattle.std.proofs.lemmas.Grind.{flat_map-append}
 use Rattle.std.proofs.lemmas.List.{append-nil, length-append}
-use Rattle.lb_clock.specs.Acts.{Act, Asked, Begun, Blinded, Ended, Followed, Heard, Held, HeldBack, Passed, Probes, Setting, Stops, Ticked, Unread, blind_in, device_in, failed_in, line_in, lines_in, or_device, read_in, reads_in, setting, stamp_in}
+use Rattle.lb_clock.specs.Acts.{Act, Asked, Begun, Blinded, Ended, Followed, Heard, Held, HeldBack, Passed, Probes, Setting, Stops, Ticked, Unread, blind_in, device_in, failed_in, line_in, lines_in, or_device, read_in, setting, stamp_in, tried_in, tries_in}
 use Rattle.lb_clock.specs.Lines.{Comes, ProbeComes, is_done, probe_to, probes_in}
 use Rattle.lb_clock.specs.Turn.{FailsBy, Goes, Rests, Steps, Tells, Turned, Turns, held_by}
 use Rattle.lb_clock.specs.World.{World}
 use Rattle.lb_clock.specs.declared.turn.End.{End}
 use Rattle.lb_clock.specs.declared.turn.End.TheVariants as ends
-use Rattle.lb_clock.proofs.Acting.{device_on, stops_on, turns_none, turns_on}
+use Rattle.lb_clock.proofs.Acting.{device_on, stops_on, tries_on, turns_none, turns_on}
 use Rattle.lb_core.specs.declared.event.Event.{Event}
 use Rattle.lb_core.specs.declared.event.Event.TheVariants.{HealthResult, Tick}
 use Rattle.lb_lines.specs.Counts.{Fails, Grows}
@@ -43,10 +43,11 @@ or_none None = refl
 or_none (Some fault) = refl
 
 -- An act without a line.
-pub turns_still : (on : Setting) (act : Act) (a b : World) (p : Probed) (given : List Datagram) (said : List Stamp) (failures outside : ℕ) → line_in act ≡ [] → b ≡ record a { probes = p; given = given; said = said; failures = failures; outside = outside }
-    → Probes on act a.probes p → given ≡ a.given ++ read_in act → said ≡ a.said ++ stamp_in act → FailsBy (failed_in act) a.failures failures → FailsBy (blind_in act) a.outside outside → Turns on (act ∷ []) a b
-turns_still on act a b p given said failures outside no_line same probes gave told failed blind =
+pub turns_still : (on : Setting) (act : Act) (a b : World) (p : Probed) (given : List Datagram) (said : List Stamp) (failures outside reads : ℕ) → line_in act ≡ [] → b ≡ record a { probes = p; given = given; said = said; failures = failures; outside = outside; reads = reads }
+    → Probes on act a.probes p → given ≡ a.given ++ read_in act → said ≡ a.said ++ stamp_in act → FailsBy (failed_in act) a.failures failures → FailsBy (blind_in act) a.outside outside → reads ≡ a.reads + tried_in act → Turns on (act ∷ []) a b
+turns_still on act a b p given said failures outside reads no_line same probes gave told failed blind tried =
     let none : lines_in (act ∷ []) ≡ [] = ap (λ ls. ls ++ []) no_line in
+    let after : b.reads ≡ reads = ap (λ (w : World). w.reads) same in
     let idle = turns_none on a in
     record {
       probes = (p, probes, ap (λ (w : World). w.probes) same);
@@ -62,6 +63,7 @@ turns_still on act a b p given said failures outside no_line same probes gave to
       blind = subst (λ z. FailsBy z a.outside b.outside) (sym (or_false (blind_in act))) (subst (λ z. FailsBy (blind_in act) a.outside z) (sym (ap (λ (w : World). w.outside) same)) blind);
       fronts = ap (λ (w : World). w.fronts) same;
       there = ap (λ (w : World). w.there) same;
+      reads = omega (arith, after, tried);
     }
 
 -- An event that is told, where it is made once to be handed to the desk and once for its line.
@@ -85,7 +87,7 @@ tells_by old new made again event outcome sending one two is comes taken sent ha
 -- An act whose event is told.
 pub turns_told : (on : Setting) (act : Act) (a mid told b : World) (source : Source) (event : Event) (outcome : Outcome) (sending : report_sending.Sending)
     → line_in act ≡ lines.Event source event outcome sending ∷ [] → failed_in act ≡ is_by_device sending → blind_in act ≡ false
-    → mid ≡ record a { given = a.given ++ read_in act; said = a.said ++ stamp_in act } → Tells mid told event outcome sending → b ≡ record told { probes = b.probes } → Probes on act a.probes b.probes
+    → mid ≡ record a { given = a.given ++ read_in act; said = a.said ++ stamp_in act; reads = a.reads + tried_in act } → Tells mid told event outcome sending → b ≡ record told { probes = b.probes } → Probes on act a.probes b.probes
     → Turns on (act ∷ []) a b
 turns_told on act a mid told b source event outcome sending one failed blind read tells ended probes =
     let line : lines_in (act ∷ []) ≡ lines.Event source event outcome sending ∷ [] = ap (λ ls. ls ++ []) one in
@@ -94,6 +96,7 @@ turns_told on act a mid told b source event outcome sending one failed blind rea
     let count = tells.counted in
     let count_mid : mid.answered ≡ a.answered = ap (λ (w : World). w.answered) read in
     let count_b : b.answered ≡ told.answered = ap (λ (w : World). w.answered) ended in
+    let tried : b.reads ≡ a.reads + tried_in act = ap (λ (w : World). w.reads) ended ∙ ap (λ (w : World). w.reads) tells.same ∙ ap (λ (w : World). w.reads) read in
     record {
       probes = (b.probes, probes, refl);
       given = ap (λ (w : World). w.given) ended ∙ ap (λ (w : World). w.given) tells.same ∙ ap (λ (w : World). w.given) read ∙ ap (λ ds. a.given ++ ds) (sym (append-nil (read_in act)));
@@ -109,6 +112,7 @@ turns_told on act a mid told b source event outcome sending one failed blind rea
       blind = subst (λ z. FailsBy z a.outside b.outside) (sym (or_false (blind_in act) ∙ blind)) (ap (λ (w : World). w.outside) ended ∙ ap (λ (w : World). w.outside) tells.same ∙ ap (λ (w : World). w.outside) read);
       fronts = ap (λ (w : World). w.fronts) ended ∙ ap (λ (w : World). w.fronts) tells.same ∙ ap (λ (w : World). w.fronts) read;
       there = ap (λ (w : World). w.there) ended ∙ ap (λ (w : World). w.there) tells.same ∙ ap (λ (w : World). w.there) read;
+      reads = omega (arith, tried);
     }
 
 -- A probe.
@@ -134,6 +138,7 @@ turns_begun on a mid b stamp i w place sending said here due comes took fails pr
       blind = ap (λ (v : World). v.outside) same ∙ ap (λ (v : World). v.outside) said;
       fronts = ap (λ (v : World). v.fronts) same ∙ ap (λ (v : World). v.fronts) said;
       there = ap (λ (v : World). v.there) same ∙ ap (λ (v : World). v.there) said;
+      reads = ap (λ (v : World). v.reads) same ∙ ap (λ (v : World). v.reads) said ∙ idle.reads;
     }
 
 -- No step, one act, and steps behind others.
@@ -148,16 +153,15 @@ goes_none on n a told device = record {
 }
 
 pub goes_act : (on : Setting) (n : ℕ) (act : Act) (a b : World) (before after : List Line) (device later : Option DeviceFault) (end : Option End) → Turns on (act ∷ []) a b → after ≡ before ++ line_in act
-    → later ≡ or_device device (device_in act) → Stops (act ∷ []) end → length (read_in act) ≤ n → Goes on n a b before after device later end
+    → later ≡ or_device device (device_in act) → Stops (act ∷ []) end → tried_in act ≤ n → Goes on n a b before after device later end
 goes_act on n act a b before after device later end turns told noted stops few =
-    let len : length (reads_in (act ∷ [])) ≡ length (read_in act) = ap (λ ds. length ds) (append-nil (read_in act)) in
     record {
       acts = act ∷ [];
       turns = turns;
       lines = told ∙ ap (λ ls. before ++ ls) (sym (append-nil (line_in act)));
       noted = noted ∙ ap (λ d. or_device device d) (sym (or_none (device_in act)));
       stops = stops;
-      few = omega (arith, few, len);
+      few = omega (arith, few);
     }
 
 pub goes_on : (on : Setting) (n m : ℕ) (a b c : World) (first mid last : List Line) (d e f : Option DeviceFault) (end : Option End) → Goes on n a b first mid d e None → Goes on m b c mid last e f end
@@ -165,7 +169,7 @@ pub goes_on : (on : Setting) (n m : ℕ) (a b c : World) (first mid last : List 
 goes_on on n m a b c first mid last d e f end one two =
     let xs = one.acts in
     let ys = two.acts in
-    let len : length (reads_in (xs ++ ys)) ≡ length (reads_in xs) + length (reads_in ys) = ap (λ ds. length ds) (flat_map-append read_in xs ys) ∙ length-append (reads_in xs) (reads_in ys) in
+    let len = tries_on xs ys in
     let few_one = one.few in
     let few_two = two.few in
     record {
@@ -195,7 +199,7 @@ pub goes_blind : (on : Setting) (n : ℕ) (a b : World) (before after : List Lin
     → Goes on n a b before after device later (Some ends.Blind)
 goes_blind on n a b before after device later blind lines noted =
     goes_act on n Blinded a b before after device later (Some ends.Blind)
-    (turns_still on Blinded a b a.probes a.given a.said a.failures b.outside refl blind.0 refl (sym (append-nil a.given)) (sym (append-nil a.said)) refl blind.1)
+    (turns_still on Blinded a b a.probes a.given a.said a.failures b.outside a.reads refl blind.0 refl (sym (append-nil a.given)) (sym (append-nil a.said)) refl blind.1 (omega arith))
     (lines ∙ sym (append-nil before)) noted (refl, refl) (omega arith)
 
 -- a turn begins
@@ -206,50 +210,52 @@ goes_first roster start word a b told device same follows =
     let mid = record a { said = a.said ++ (start, word) ∷ [] } in
     goes_on on 0 0 a mid b told told told device device device None
     (goes_act on 0 (Asked (start, word)) a mid told told device device None
-    (turns_still on (Asked (start, word)) a mid a.probes a.given (a.said ++ (start, word) ∷ []) a.failures a.outside refl refl refl (sym (append-nil a.given)) refl refl refl)
+    (turns_still on (Asked (start, word)) a mid a.probes a.given (a.said ++ (start, word) ∷ []) a.failures a.outside a.reads refl refl refl (sym (append-nil a.given)) refl refl refl (omega arith))
     (sym (append-nil told)) (sym (or_none device)) refl (omega arith))
     (goes_act on 0 Followed mid b told told device device None
-    (turns_still on Followed mid b b.probes mid.given mid.said mid.failures mid.outside refl same follows (sym (append-nil mid.given)) (sym (append-nil mid.said)) refl refl)
+    (turns_still on Followed mid b b.probes mid.given mid.said mid.failures mid.outside mid.reads refl same follows (sym (append-nil mid.given)) (sym (append-nil mid.said)) refl refl (omega arith))
     (sym (append-nil told)) (sym (or_none device)) refl (omega arith))
 
 -- a read gave nothing, or failed
-pub goes_unread : (on : Setting) (a mid b : World) (stamp : Stamp) (failed : Bool) (before after : List Line) (device later : Option DeviceFault) → mid ≡ record a { said = a.said ++ stamp ∷ [] } → b ≡ record mid { given = b.given; failures = b.failures }
+pub goes_unread : (on : Setting) (a mid b : World) (stamp : Stamp) (failed : Bool) (before after : List Line) (device later : Option DeviceFault) → mid ≡ record a { said = a.said ++ stamp ∷ [] } → b ≡ record mid { given = b.given; failures = b.failures; reads = mid.reads + 1 }
     → b.given ≡ mid.given → FailsBy failed mid.failures b.failures → after ≡ before → later ≡ or_device device (if failed then Some devices.Sockets else None) → Goes on 1 a b before after device later None
 goes_unread on a mid b stamp failed before after device later said same gave fails lines noted =
     goes_act on 1 (Unread stamp failed) a b before after device later None
-    (turns_still on (Unread stamp failed) a b a.probes b.given (a.said ++ stamp ∷ []) b.failures a.outside refl (same ∙ ap (λ (w : World). record w { given = b.given; failures = b.failures }) said) refl
-    (gave ∙ ap (λ (w : World). w.given) said ∙ sym (append-nil a.given)) refl (subst (λ z. FailsBy failed z b.failures) (ap (λ (w : World). w.failures) said) fails) refl)
+    (turns_still on (Unread stamp failed) a b a.probes b.given (a.said ++ stamp ∷ []) b.failures a.outside (a.reads + 1) refl (same ∙ ap (λ (w : World). record w { given = b.given; failures = b.failures; reads = w.reads + 1 }) said) refl
+    (gave ∙ ap (λ (w : World). w.given) said ∙ sym (append-nil a.given)) refl (subst (λ z. FailsBy failed z b.failures) (ap (λ (w : World). w.failures) said) fails) refl refl)
     (lines ∙ sym (append-nil before)) noted refl (omega arith)
 
 -- a datagram was read
-pub read_is : (a mid b : World) (stamp : Stamp) (d : Datagram) → mid ≡ record a { said = a.said ++ stamp ∷ [] } → b ≡ record mid { given = b.given; failures = b.failures } → b.given ≡ mid.given ++ d ∷ [] → b.failures ≡ mid.failures
-    → b ≡ record a { given = a.given ++ d ∷ []; said = a.said ++ stamp ∷ [] }
+pub read_is : (a mid b : World) (stamp : Stamp) (d : Datagram) → mid ≡ record a { said = a.said ++ stamp ∷ [] } → b ≡ record mid { given = b.given; failures = b.failures; reads = mid.reads + 1 } → b.given ≡ mid.given ++ d ∷ [] → b.failures ≡ mid.failures
+    → b ≡ record a { given = a.given ++ d ∷ []; said = a.said ++ stamp ∷ []; reads = a.reads + 1 }
 read_is a mid b stamp d said same gave fails =
-    same ∙ ap (λ (ds : List Datagram). record mid { given = ds; failures = b.failures }) gave ∙ ap (λ (f : ℕ). record mid { given = mid.given ++ d ∷ []; failures = f }) fails ∙ ap (λ (w : World). record w { given = w.given ++ d ∷ [] }) said
+    same ∙ ap (λ (ds : List Datagram). record mid { given = ds; failures = b.failures; reads = mid.reads + 1 }) gave ∙ ap (λ (f : ℕ). record mid { given = mid.given ++ d ∷ []; failures = f; reads = mid.reads + 1 }) fails
+    ∙ ap (λ (w : World). record w { given = w.given ++ d ∷ []; reads = w.reads + 1 }) said
 
-pub goes_passed : (on : Setting) (a b : World) (stamp : Stamp) (d : Datagram) (told : List Line) (device : Option DeviceFault) → b ≡ record a { given = a.given ++ d ∷ []; said = a.said ++ stamp ∷ [] } → Unheard stamp.0 d b.probes.watched
+pub goes_passed : (on : Setting) (a b : World) (stamp : Stamp) (d : Datagram) (told : List Line) (device : Option DeviceFault) → b ≡ record a { given = a.given ++ d ∷ []; said = a.said ++ stamp ∷ []; reads = a.reads + 1 } → Unheard stamp.0 d b.probes.watched
     → Goes on 1 a b told told device device None
 goes_passed on a b stamp d told device read unheard =
     goes_act on 1 (Passed stamp d) a b told told device device None
-    (turns_still on (Passed stamp d) a b a.probes (a.given ++ d ∷ []) (a.said ++ stamp ∷ []) a.failures a.outside refl read (refl, subst (λ (p : Probed). Unheard stamp.0 d p.watched) (ap (λ (w : World). w.probes) read) unheard) refl refl refl refl)
+    (turns_still on (Passed stamp d) a b a.probes (a.given ++ d ∷ []) (a.said ++ stamp ∷ []) a.failures a.outside (a.reads + 1) refl read (refl, subst (λ (p : Probed). Unheard stamp.0 d p.watched) (ap (λ (w : World). w.probes) read) unheard) refl refl refl refl refl)
     (sym (append-nil told)) (sym (or_none device)) refl (omega arith)
 
 -- the gate held what it says of a probe
-pub goes_held_back : (on : Setting) (a b c : World) (stamp : Stamp) (d : Datagram) (told : List Line) (device : Option DeviceFault) → b ≡ record a { given = a.given ++ d ∷ []; said = a.said ++ stamp ∷ [] } → c ≡ b → Goes on 1 a c told told device device (Some ends.Held)
+pub goes_held_back : (on : Setting) (a b c : World) (stamp : Stamp) (d : Datagram) (told : List Line) (device : Option DeviceFault) → b ≡ record a { given = a.given ++ d ∷ []; said = a.said ++ stamp ∷ []; reads = a.reads + 1 } → c ≡ b → Goes on 1 a c told told device device (Some ends.Held)
 goes_held_back on a b c stamp d told device read held =
     goes_act on 1 (HeldBack stamp d) a c told told device device (Some ends.Held)
-    (turns_still on (HeldBack stamp d) a c a.probes (a.given ++ d ∷ []) (a.said ++ stamp ∷ []) a.failures a.outside refl (held ∙ read) refl refl refl refl refl)
+    (turns_still on (HeldBack stamp d) a c a.probes (a.given ++ d ∷ []) (a.said ++ stamp ∷ []) a.failures a.outside (a.reads + 1) refl (held ∙ read) refl refl refl refl refl refl)
     (sym (append-nil told)) (sym (or_none device)) (refl, refl) (omega arith)
 
 -- the gate held a bad result, or a tick
 pub goes_held : (on : Setting) (a b c : World) (stamp : Stamp) (told : List Line) (device : Option DeviceFault) → b ≡ record a { said = a.said ++ stamp ∷ [] } → c ≡ b → Goes on 0 a c told told device device (Some ends.Held)
 goes_held on a b c stamp told device said held =
     goes_act on 0 (Held stamp) a c told told device device (Some ends.Held)
-    (turns_still on (Held stamp) a c a.probes a.given (a.said ++ stamp ∷ []) a.failures a.outside refl (held ∙ said) refl (sym (append-nil a.given)) refl refl refl)
+    (turns_still on (Held stamp) a c a.probes a.given (a.said ++ stamp ∷ []) a.failures a.outside a.reads refl (held ∙ said) refl (sym (append-nil a.given)) refl refl refl (omega arith))
     (sym (append-nil told)) (sym (or_none device)) (refl, refl) (omega arith)
 
-no_read : (a : World) (stamp : Stamp) → record a { said = a.said ++ stamp ∷ [] } ≡ record a { given = a.given ++ []; said = a.said ++ stamp ∷ [] }
-no_read a stamp = ap (λ (ds : List Datagram). record a { given = ds; said = a.said ++ stamp ∷ [] }) (sym (append-nil a.given))
+no_read : (a : World) (stamp : Stamp) → record a { said = a.said ++ stamp ∷ [] } ≡ record a { given = a.given ++ []; said = a.said ++ stamp ∷ []; reads = a.reads + 0 }
+no_read a stamp = let none : a.reads ≡ a.reads + 0 = omega arith in
+    ap (λ (ds : List Datagram). record a { given = ds; said = a.said ++ stamp ∷ [] }) (sym (append-nil a.given)) ∙ ap (λ (n : ℕ). record a { given = a.given ++ []; said = a.said ++ stamp ∷ []; reads = n }) none
 
 -- the device fault of a line, where its act shows no other
 device_told : (b : Bool) → (if b then Some devices.Sockets else (if false then Some devices.Outside else None)) ≡ (if b then Some devices.Sockets else None)
@@ -258,7 +264,7 @@ device_told false = refl
 
 -- a datagram answered a probe, whose good result was told
 pub goes_heard : (on : Setting) (a b t c : World) (stamp : Stamp) (d : Datagram) (i : ℕ) (w : Watched) (x : Waits) (outcome : Outcome) (sending : report_sending.Sending) (line : Line) (before after : List Line) (device later : Option DeviceFault)
-    → b ≡ record a { given = a.given ++ d ∷ []; said = a.said ++ stamp ∷ [] } → place_of d.socket b.probes.watched ≡ Some i → slice_get b.probes.watched i ≡ Some w → w.waits ≡ Some x → Answers stamp.0 d w
+    → b ≡ record a { given = a.given ++ d ∷ []; said = a.said ++ stamp ∷ []; reads = a.reads + 1 } → place_of d.socket b.probes.watched ≡ Some i → slice_get b.probes.watched i ≡ Some w → w.waits ≡ Some x → Answers stamp.0 d w
     → Tells b t (HealthResult stamp.0 w.server true) outcome sending → c ≡ record t { probes = ended t.probes i w }
     → line ≡ lines.Event (sources.Probe w.server x.word) (HealthResult stamp.0 w.server true) outcome sending → after ≡ before ++ line ∷ [] → later ≡ or_device device (if is_by_device (sending_of line) then Some devices.Sockets else None)
     → Goes on 1 a c before after device later None

@@ -1,5 +1,5 @@
 -- What a turn of the clock does, act by act.
-use Rattle.std.specs.Prelude.{◌≡◌, ℕ, Bool, true, false, List, [], ◌∷◌, Option, Some, None, flat_map, if◌then◌else◌, slice_get, ◌||◌}
+use Rattle.std.specs.Prelude.{◌≡◌, ◌+◌, ℕ, Bool, true, false, List, [], ◌∷◌, Option, Some, None, flat_map, if◌then◌else◌, slice_get, ◌||◌}
 use Rattle.lb_clock.specs.Lines.{is_done}
 use Rattle.lb_clock.specs.declared.turn.End.{End}
 use Rattle.lb_clock.specs.declared.turn.End.TheVariants as ends
@@ -67,6 +67,18 @@ read_in _ = []
 
 abbrev pub reads_in : List Act → List Datagram
 reads_in = flat_map read_in
+
+-- how often the sockets were asked for a datagram, whatever came of it
+abbrev pub tried_in : Act → ℕ
+tried_in (Unread stamp failed) = 1
+tried_in (Passed stamp d) = 1
+tried_in (Heard stamp d i w x outcome sending) = 1
+tried_in (HeldBack stamp d) = 1
+tried_in _ = 0
+
+abbrev pub tries_in : List Act → ℕ
+tries_in [] = 0
+tries_in (act ∷ more) = tried_in act + tries_in more
 
 -- the moment that was said for it, with its word
 abbrev pub stamp_in : Act → List Stamp

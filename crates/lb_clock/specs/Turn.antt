@@ -1,6 +1,6 @@
 -- What a turn of the clock does.
 use Rattle.std.specs.Prelude.{◌≡◌, ◌⊎◌, ◌+◌, ◌≤◌, ℕ, Bool, true, false, List, [], ◌∷◌, ◌++◌, Option, Some, None, length, slice_get}
-use Rattle.lb_clock.specs.Acts.{Act, AllProbes, Asked, Blinded, Followed, Setting, Stops, any_blind, any_failed, first_device, lines_in, or_device, reads_in, setting, stamps_in}
+use Rattle.lb_clock.specs.Acts.{Act, AllProbes, Asked, Blinded, Followed, Setting, Stops, any_blind, any_failed, first_device, lines_in, or_device, reads_in, setting, stamps_in, tries_in}
 use Rattle.lb_clock.specs.Lines.{AreLines, Comes, datagrams, is_quiet, probes_in}
 use Rattle.lb_clock.specs.World.{World}
 use Rattle.lb_clock.specs.declared.turn.End.{End}
@@ -39,8 +39,9 @@ pub record Tells (old new : World) (event : Event) (outcome : Outcome) (sending 
   pub failed : FailsBy (is_by_device sending) old.failures new.failures
   pub same : new ≡ record old { taken = new.taken; outbox = new.outbox; handed = new.handed; answered = new.answered; pairs = new.pairs; failures = new.failures }
 
--- These acts lead from one world to another: what was read and said, what was sent each way, what the desk answered, and how the probes
--- stand, are what the acts say, in order; a device failed only where an act says so.
+-- These acts lead from one world to another: what was read and said, how often a datagram was asked
+-- for, what was sent each way, what the desk answered, and how the probes stand, are what the acts
+-- say, in order; a device failed only where an act says so.
 pub record Turns (on : Setting) (acts : List Act) (old new : World) : Type 0 where
   pub probes : AllProbes on acts old.probes new.probes
   pub given : new.given ≡ old.given ++ reads_in acts
@@ -55,15 +56,17 @@ pub record Turns (on : Setting) (acts : List Act) (old new : World) : Type 0 whe
   pub blind : FailsBy (any_blind acts) old.outside new.outside
   pub fronts : new.fronts ≡ old.fronts
   pub there : new.there ≡ old.there
+  pub reads : new.reads ≡ old.reads + tries_in acts
 
--- steps, with at most so many reads: the lines that they add, the first device fault, and why the turn ends with them, where it does
+-- steps, with at most so many reads, whatever came of them: the lines that they add, the first
+-- device fault, and why the turn ends with them, where it does
 pub record Goes (on : Setting) (reads : ℕ) (old new : World) (before after : List Line) (device later : Option DeviceFault) (end : Option End) : Type 0 where
   pub acts : List Act
   pub turns : Turns on acts old new
   pub lines : after ≡ before ++ lines_in acts
   pub noted : later ≡ or_device device (first_device acts)
   pub stops : Stops acts end
-  pub few : length (reads_in acts) ≤ reads
+  pub few : tries_in acts ≤ reads
 
 -- nothing more was due at the end, or as many events were told as may be
 abbrev pub Rests : List Line → Type 0

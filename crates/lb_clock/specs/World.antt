@@ -11,9 +11,10 @@ use Rattle.lb_outbox.specs.declared.job.Job.{Job}
 use Rattle.lb_probes.specs.Probes.{Probed}
 use Rattle.lb_wire.specs.declared.addr.Origin.{Origin}
 
--- what its parts tell: the servers that are probed; the datagrams that its sockets gave and took, at which places they listen, and how
--- often they failed; the jobs that were sent; what listens at each place; what was handed to requests; the answered calls and the pairs;
--- the stamps that were said, and the failures outside
+-- what its parts tell: the servers that are probed; the datagrams that its sockets gave and took,
+-- at which places they listen, how often they failed, and how often they were asked for a datagram;
+-- the jobs that were sent; what listens at each place; what was handed to requests; the answered
+-- calls and the pairs; the stamps that were said, and the failures outside
 pub record World : Type 0 where
   pub probes : Probed
   pub given : List Datagram
@@ -27,6 +28,7 @@ pub record World : Type 0 where
   pub pairs : List (Event × Answer)
   pub said : List Stamp
   pub outside : ℕ
+  pub reads : ℕ
 
 -- a job was sent, if there is one, and nothing else changed
 abbrev pub SentAgain : World → World → Option Job → Type 0

@@ -3,7 +3,7 @@
 ghost use Rattle.std.specs.Prelude.{[], IfErr, IfNone, IfOk, IfSome, None, OnErr, OnOk, Some, length, vec_len, ◌++◌, ◌∷◌, ◌≡◌, ◌≤◌};
 ghost use Rattle.lb_clock.specs.Lines.{job_again as job_again_spec, unsent as unsent_spec};
 ghost use Rattle.lb_clock.specs.World.{SentAgain, listened};
-ghost use Rattle.lb_probes.specs.Probes.{Each, IsQuietFor};
+ghost use Rattle.lb_probes.specs.Probes.{Each, IsLongest, IsQuietFor};
 
 use crate::sending::{job_again, unsent};
 use crate::tally::MOST;
@@ -44,7 +44,7 @@ impl<S: Datagrams, P: Posts, T: Taker, O: Outside> Model for ClockLoop<S, P, T, 
 
     ghost coded = { Prim.hlevel (codes, contract.the_row.coded) };
 
-    ghost view = { λ c. record { probes = c.probes; given = S.given c.sockets; taken = S.taken c.sockets; there = listened (S.listens c.sockets); failures = S.failures c.sockets; outbox = c.sender; fronts = c.fronts.items; handed = P.handed c.posts; answered = T.answered c.taker; pairs = T.pairs c.taker; said = O.said c.outside; outside = O.failures c.outside } };
+    ghost view = { λ c. record { probes = c.probes; given = S.given c.sockets; taken = S.taken c.sockets; there = listened (S.listens c.sockets); failures = S.failures c.sockets; outbox = c.sender; fronts = c.fronts.items; handed = P.handed c.posts; answered = T.answered c.taker; pairs = T.pairs c.taker; said = O.said c.outside; outside = O.failures c.outside; reads = S.reads c.sockets } };
 }
 
 impl<S: Datagrams, P: Posts, T: Taker, O: Outside> ClockLoop<S, P, T, O> {
@@ -58,7 +58,7 @@ impl<S: Datagrams, P: Posts, T: Taker, O: Outside> ClockLoop<S, P, T, O> {
         taker: T,
         outside: O,
     ) -> ClockLoop<S, P, T, O>
-        ensures sockets { (result.given ≡ S.given probing.0) × (result.taken ≡ S.taken probing.0) × (result.there ≡ listened (S.listens probing.0)) × (result.failures ≡ S.failures probing.0) }
+        ensures sockets { (result.given ≡ S.given probing.0) × (result.taken ≡ S.taken probing.0) × (result.there ≡ listened (S.listens probing.0)) × (result.failures ≡ S.failures probing.0) × (result.reads ≡ S.reads probing.0) }
         ensures probes { result.probes ≡ probing.1 }
         ensures parts { (result.outbox ≡ sender) × (result.fronts ≡ fronts.items) × (result.handed ≡ P.handed posts) }
         ensures others { (result.answered ≡ T.answered taker) × (result.pairs ≡ T.pairs taker) × (result.said ≡ O.said outside) × (result.outside ≡ O.failures outside) }
@@ -128,6 +128,7 @@ impl<S: Datagrams, P: Posts, T: Taker, O: Outside> ClockLoop<S, P, T, O> {
     pub fn quiet_for(&self, roster: &Roster, now: u64, at_most: u64) -> u64
         ensures within { result ≤ at_most }
         ensures quiet { Each (IsQuietFor roster.now.listed now result) self.now.probes.watched }
+        ensures longest { IsLongest roster.now.listed now at_most result self.now.probes.watched }
     {
         self.probes.quiet_for(roster, now, at_most)
     }

@@ -36,7 +36,7 @@ pub(crate) fn send_outcome<R: Wait, S: Datagrams, P: Posts>(
     ensures sent { outbox.new ≡ record outbox.old { sent = outbox.old.sent ++ job_in (outcome_letter event.now outcome.now) result } }
     ensures handed { P.handed posts.new ≡ P.handed posts.old ++ post_in (outcome_letter event.now outcome.now) result }
     ensures failed { FailsBy (is_by_device result) (S.failures sockets.old) (S.failures sockets.new) }
-    ensures same { (S.given sockets.new ≡ S.given sockets.old) × (S.listens sockets.new ≡ S.listens sockets.old) }
+    ensures same { (S.given sockets.new ≡ S.given sockets.old) × (S.listens sockets.new ≡ S.listens sockets.old) × (S.reads sockets.new ≡ S.reads sockets.old) }
 {
     match outcome {
         Outcome::Answered(Answer::Local(bytes, _) | Answer::NoMemory(bytes))
@@ -70,7 +70,7 @@ fn send_to_client<R: Wait, S: Datagrams, P: Posts>(
     ensures sent { outbox.new ≡ record outbox.old { sent = outbox.old.sent ++ job_in (Some (Client origin, bytes.now)) result } }
     ensures handed { P.handed posts.new ≡ P.handed posts.old ++ post_in (Some (Client origin, bytes.now)) result }
     ensures failed { FailsBy (is_by_device result) (S.failures sockets.old) (S.failures sockets.new) }
-    ensures same { (S.given sockets.new ≡ S.given sockets.old) × (S.listens sockets.new ≡ S.listens sockets.old) }
+    ensures same { (S.given sockets.new ≡ S.given sockets.old) × (S.listens sockets.new ≡ S.listens sockets.old) × (S.reads sockets.new ≡ S.reads sockets.old) }
 {
     match front_of(fronts, origin) {
         None | Some(Front::Console) => Sending::Failed(Why::Gone),
@@ -93,7 +93,7 @@ fn send_packet<S: Datagrams>(sockets: &mut S, origin: Origin, bytes: &Octets) ->
     ensures taken { (roster : List Listed) → S.taken sockets.new ≡ S.taken sockets.old ++ packet_in roster (Some (Client origin, bytes.now)) result }
     ensures apart { (job_in (Some (Client origin, bytes.now)) result ≡ []) × (post_in (Some (Client origin, bytes.now)) result ≡ []) }
     ensures failed { FailsBy (is_by_device result) (S.failures sockets.old) (S.failures sockets.new) }
-    ensures same { (S.given sockets.new ≡ S.given sockets.old) × (S.listens sockets.new ≡ S.listens sockets.old) }
+    ensures same { (S.given sockets.new ≡ S.given sockets.old) × (S.listens sockets.new ≡ S.listens sockets.old) × (S.reads sockets.new ≡ S.reads sockets.old) }
 {
     if origin.slot != 0 {
         return Sending::Failed(Why::Gone);
@@ -193,7 +193,7 @@ pub(crate) fn send_probe<S: Datagrams>(
     ensures comes { ProbeComes result }
     ensures taken { S.taken sockets.new ≡ S.taken sockets.old ++ (if is_done result then probe_to server word at ∷ [] else []) }
     ensures failed { FailsBy (is_by_device result) (S.failures sockets.old) (S.failures sockets.new) }
-    ensures same { (S.given sockets.new ≡ S.given sockets.old) × (S.listens sockets.new ≡ S.listens sockets.old) }
+    ensures same { (S.given sockets.new ≡ S.given sockets.old) × (S.listens sockets.new ≡ S.listens sockets.old) × (S.reads sockets.new ≡ S.reads sockets.old) }
 {
     let bytes = match probe_message(alloc, word) {
         Ok(bytes) => bytes,

@@ -1,6 +1,6 @@
 //! What the steps of a turn are made of: each changes one part of the loop.
 
-ghost use Rattle.std.specs.Prelude.{[], IfNone, IfSome, Ok, Some, if◌then◌else◌, slice_get, ◌++◌, ◌∷◌, ◌≡◌};
+ghost use Rattle.std.specs.Prelude.{[], IfNone, IfSome, Ok, Some, if◌then◌else◌, slice_get, ◌++◌, ◌+◌, ◌∷◌, ◌≡◌};
 ghost use Rattle.lb_clock.specs.Lines.{ProbeComes, is_done, probe_to};
 ghost use Rattle.lb_clock.specs.News.{event_told, source_told};
 ghost use Rattle.lb_clock.specs.Turn.{FailsBy, Tells};
@@ -47,7 +47,7 @@ impl<S: Datagrams, P: Posts, T: Taker, O: Outside> ClockLoop<S, P, T, O> {
 
     /// Reads a datagram, if there is one, and room for it.
     pub(crate) fn receive(&mut self) -> Received
-        ensures same { self.new ≡ record self.old { given = self.new.given; failures = self.new.failures } }
+        ensures same { self.new ≡ record self.old { given = self.new.given; failures = self.new.failures; reads = self.old.reads + 1 } }
         ensures gave { Gave {E = AllocError} (Ok result) self.old.given self.new.given self.old.failures self.new.failures }
     {
         match self.sockets.receive(&mut Rooms::new(self.alloc)) {

@@ -1,5 +1,5 @@
 -- A connection taken out of its place or put in changes no other.
-use Rattle.std.proofs.Common.{◌≡◌, ◌≢◌, ℕ, ⊎_elim, ◌+◌, ◌<◌, ◌≤◌, ◌%◌, ◌^◌, Bool, true, false, true≢false, subst, List, ◌++◌, length, zero, suc, set, get_or, replicate, if◌then◌else◌, cond, ◌==◌, Option, Some, None, refl, sym, ap, ◌∙◌, arith, rules}
+use Rattle.std.proofs.Common.{◌≡◌, ◌≢◌, ℕ, ⊎_elim, ◌+◌, ◌<◌, ◌≤◌, ◌%◌, ◌^◌, Bool, true, false, true≢false, subst, List, [], ◌++◌, length, zero, suc, set, get_or, replicate, if◌then◌else◌, cond, ◌==◌, Option, Some, None, refl, sym, ap, ◌∙◌, arith, rules}
 use Rattle.std.proofs.lemmas.List.{length-append, get_or-set_same, get_or-set_other}
 use Rattle.std.proofs.lemmas.List.Elements.{All-set, All-weaker}
 use Rattle.std.proofs.lemmas.List.Sums.{sum_by-set}
@@ -186,7 +186,7 @@ none_in zero i = refl
 none_in (suc n) zero = refl
 none_in (suc n) (suc i) = none_in n i
 
-pub new_is : (t : Table) (n : ℕ) → t.next ≡ 1 → t.slots ≡ replicate n None → t.refusals ≡ 0 → IsNew t
+pub new_is : (t : Table) (n : ℕ) → t.next ≡ 1 → t.slots ≡ replicate n None → t.refusals ≡ [] → IsNew t
 new_is t n next slots refusals = record {
   next = next;
   none = λ c. ap (λ (xs : List (Option Connection)). if nat_lt c t.next then at_place c xs else None) slots ∙ ap (λ (o : Option Connection). if nat_lt c t.next then if_number c o else None) (none_in n (c % 4096)) ∙ either_none (nat_lt c t.next);

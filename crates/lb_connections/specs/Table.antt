@@ -1,5 +1,5 @@
 -- Connections by their numbers.
-use Rattle.std.specs.Prelude.{◌≡◌, ◌≢◌, ◌⊎◌, ℕ, ◌≤◌, ◌%◌, ◌+◌, ◌-◌, min, nat_le, nat_lt, Bool, true, false, not, ◌&&◌, List, [], ◌∷◌, length, ◌++◌, ◌<◌, ◌^◌, if◌then◌else◌, ◌==◌, Option, Some, None, get_or}
+use Rattle.std.specs.Prelude.{◌≡◌, ◌≢◌, ◌⊎◌, ℕ, ◌≤◌, ◌%◌, ◌+◌, ◌-◌, min, nat_le, nat_lt, Bool, true, false, not, ◌&&◌, List, [], ◌∷◌, length, map, ◌++◌, ◌<◌, ◌^◌, if◌then◌else◌, ◌==◌, Option, Some, None, get_or}
 use Rattle.std.specs.Option.{is_some, unwrap_or}
 use Rattle.std.specs.List.{count_by}
 use Rattle.lb_connections.specs.declared.connection.Connection.{Connection}
@@ -44,11 +44,16 @@ is_given last (Some x) = nat_le x.number last
 abbrev pub IsGiven : ℕ → Option Connection → Type 0
 IsGiven last place = is_given last place ≡ true
 
--- the connections of a loop: the next number, which is 2^64 once all are given, the places, and how often memory was wanting for a connection
+-- the first of each of these pairs, in order
+abbrev pub firsts : List (ℕ × ℕ) → List ℕ
+firsts = map (λ (pair : ℕ × ℕ). pair.0)
+
+-- the connections of a loop: the next number, which is 2^64 once all are given, the places, and the
+-- connections for which memory was refused, in order
 pub record Table : Type 0 where
   pub next : ℕ
   pub slots : List (Option Connection)
-  pub refusals : ℕ
+  pub refusals : List ℕ
 
 -- the open connection of a number
 abbrev pub at : ℕ → Table → Option Connection
@@ -79,7 +84,7 @@ pub record Swaps (n : ℕ) (a b : Table) (x y : Connection) : Type 0 where
 pub record IsNew (t : Table) : Type 0 where
   pub next : t.next ≡ 1
   pub none : (c : ℕ) → at c t ≡ None
-  pub refusals : t.refusals ≡ 0
+  pub refusals : t.refusals ≡ []
 
 -- numbers were passed over, and nothing else changed
 pub record Narrows (old new : Table) : Type 0 where

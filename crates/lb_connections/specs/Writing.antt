@@ -1,9 +1,8 @@
 -- What is put behind what a connection is to write.
-use Rattle.std.specs.Prelude.{◌≡◌, ◌⊎◌, ◌+◌, ◌<◌, ◌≤◌, ℕ, false, List, ◌++◌, length, Option, Some, None}
+use Rattle.std.specs.Prelude.{◌≡◌, ◌⊎◌, ◌+◌, ◌<◌, ◌≤◌, ℕ, false, List, [], ◌∷◌, ◌++◌, length, Option, Some, None}
 use Rattle.lb_connections.specs.Table.{Swaps, Table, at, owed_with}
 use Rattle.lb_connections.specs.declared.connection.Connection.{Connection}
 use Rattle.lb_frames.specs.Frames.{framed}
-use Rattle.lb_lines.specs.Counts.{Rose}
 use Rattle.lb_lines.specs.declared.report.Why.{Why}
 use Rattle.lb_lines.specs.declared.report.Why.TheVariants as whys
 
@@ -34,9 +33,9 @@ pub record Puts (n : ℕ) (message : List ℕ) (a b : Table) : Type 0 where
   pub within : length y.outgoing ≤ max_waiting
 
 -- Why a message is not put there: there is no such connection; more octets would wait to be written to it than may; or memory was
--- wanting, at an open connection. That is counted; else nothing changes.
+-- refused for an open connection. That is noted; else nothing changes.
 abbrev pub MayNotPut : ℕ → List ℕ → Table → Table → Why → Type 0
 MayNotPut n message t u whys.Gone = (at n t ≡ None) × (u ≡ t)
 MayNotPut n message t u whys.Limit = (x : Connection) × (at n t ≡ Some x) × (max_waiting < length x.outgoing + length (framed message)) × (u ≡ t)
-MayNotPut n message t u whys.NoMemory = (x : Connection) × (at n t ≡ Some x) × Rose t.refusals u.refusals × (t.refusals ≤ u.refusals) × (u ≡ record t { refusals = u.refusals })
+MayNotPut n message t u whys.NoMemory = (x : Connection) × (at n t ≡ Some x) × (u ≡ record t { refusals = t.refusals ++ n ∷ [] })
 MayNotPut n message t u _ = ⊥

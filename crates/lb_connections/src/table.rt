@@ -1,12 +1,12 @@
 //! The connections of a loop, by their numbers.
 
-ghost use Rattle.std.specs.Prelude.{IfErr, IfNone, IfOk, IfSome, IsTrue, None, Some, false, get_or, if◌then◌else◌, length, option_map, true, vec_len, ◌%◌, ◌+◌, ◌<◌, ◌^◌, ◌≡◌, ◌≢◌, ◌≤◌, ◌⊎◌, ℕ};
+ghost use Rattle.std.specs.Prelude.{[], IfErr, IfNone, IfOk, IfSome, IsTrue, None, Some, false, get_or, if◌then◌else◌, length, option_map, true, vec_len, ◌%◌, ◌++◌, ◌+◌, ◌<◌, ◌^◌, ◌∷◌, ◌≡◌, ◌≢◌, ◌≤◌, ◌⊎◌, ℕ};
 ghost use Rattle.std.specs.List.{All};
 ghost use Rattle.lb_connections.specs.Writing.{IsOver, IsUrgent};
 ghost use Rattle.lb_connections.specs.Table.{IsGiven, IsNew, IsTo, IsToSee, Narrows, at, at_place, client_count, clients, clients_in, is_none, vacant};
-ghost use Rattle.lb_lines.specs.Counts.{Rose};
 
 use crate::connection::Connection;
+use http_server::Log;
 use lb_lines::{Endpoint, Peer, Roster};
 use lb_wire::{Octets, ServerId};
 use std::alloc::{AllocError, Global};
@@ -41,8 +41,8 @@ pub struct Connections {
     pub(crate) slots: Vec<Option<Connection>>,
     /// How many clients are connected.
     clients: usize,
-    /// How often memory was wanting for a connection.
-    refusals: u64,
+    /// The connections for which memory was refused, which only proofs read.
+    refusals: Log<u64, u64>,
     /// Connections that have a whole message, each in its turn.
     pub(crate) queue: VecDeque<u64>,
     /// Connections that are to be written at the end of the turn.
@@ -63,11 +63,11 @@ pub struct Connections {
 
 impl Model for Connections {
     ghost use Rattle.std.specs.Prelude.{◌+◌};
-    ghost use Rattle.lb_connections.specs.Table.{Table};
+    ghost use Rattle.lb_connections.specs.Table.{Table, firsts};
 
     ghost Value = { Table };
 
-    ghost view = { λ t. record { next = t.last + 1; slots = t.slots.items; refusals = t.refusals } };
+    ghost view = { λ t. record { next = t.last + 1; slots = t.slots.items; refusals = firsts t.refusals.items } };
 }
 
 /// The place of a number.
@@ -120,7 +120,7 @@ impl Connections {
             last: 0,
             slots,
             clients: 0,
-            refusals: 0,
+            refusals: Log::new(),
             queue: VecDeque::new(alloc),
             touched: Vec::new(alloc),
             routes: Vec::new(alloc),
@@ -224,12 +224,11 @@ impl Connections {
         Some(until.saturating_add(SECOND - 1) / SECOND * SECOND)
     }
 
-    /// Counts a want of memory for a connection, of which the refusal is in hand.
-    pub fn lacks(&mut self, _refused: AllocError)
-        ensures refusals { Rose self.old.refusals self.new.refusals × (self.old.refusals ≤ self.new.refusals) }
-        ensures same { self.new ≡ record self.old { refusals = self.new.refusals } }
+    /// Notes that memory was refused for a connection, of which the refusal is in hand.
+    pub fn lacks(&mut self, number: u64, _refused: AllocError)
+        ensures { self.new ≡ record self.old { refusals = self.old.refusals ++ number ∷ [] } }
     {
-        self.refusals = self.refusals.saturating_add(1);
+        self.refusals = self.refusals.and(&number, &0);
     }
 
     /// Who is at the other end of a connection.

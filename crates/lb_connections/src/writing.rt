@@ -8,8 +8,9 @@ use lb_lines::Why;
 use lb_wire::Octets;
 
 impl Connections {
-    /// Puts a message after what a connection is to write, if it is open, and notes that this is to be
-    /// written. If it is not put, nothing has changed, but that a want of memory is counted.
+    /// Puts a message after what a connection is to write, if it is open, and notes that this is to
+    /// be written. If it is not put, nothing has changed, but that a
+    /// refusal of memory is noted.
     pub fn promise(&mut self, number: u64, message: &Octets) -> Result<(), Why>
         ensures put { OnOk result (Puts number message.now self.old self.new) }
         ensures why { IfErr result (λ why. MayNotPut number message.now self.old self.new why) }
@@ -32,7 +33,7 @@ impl Connections {
                 Ok(())
             }
             Err(refused) => {
-                self.lacks(refused);
+                self.lacks(number, refused);
                 Err(Why::from(refused))
             }
         }

@@ -28,7 +28,7 @@ pub(crate) fn send_all<S: Datagrams>(
     ensures failed { IsTrue (any_by_device lines.new) → Rose (S.failures sockets.old) (S.failures sockets.new) }
     ensures device { (o : ℕ) → FirstFault result (S.failures sockets.old) (S.failures sockets.new) o o }
     ensures clear { result ≢ Some devices.Outside }
-    ensures same { (S.given sockets.new ≡ S.given sockets.old) × (S.listens sockets.new ≡ S.listens sockets.old) }
+    ensures same { (S.given sockets.new ≡ S.given sockets.old) × (S.listens sockets.new ≡ S.listens sockets.old) × (S.reads sockets.new ≡ S.reads sockets.old) }
 {
     let mut device = None;
     for line in lines.iter_mut() {
@@ -44,7 +44,7 @@ fn send_line<S: Datagrams>(sockets: &mut S, roster: &Roster, line: &mut Line)
     ensures sent { IsSent roster.now.listed (S.listens sockets.old) line.old line.new }
     ensures taken { S.taken sockets.new ≡ S.taken sockets.old ++ packets roster.now.listed (line.new ∷ []) }
     ensures failed { FailsBy (is_by_device (sending_of line.new)) (S.failures sockets.old) (S.failures sockets.new) }
-    ensures same { (S.given sockets.new ≡ S.given sockets.old) × (S.listens sockets.new ≡ S.listens sockets.old) }
+    ensures same { (S.given sockets.new ≡ S.given sockets.old) × (S.listens sockets.new ≡ S.listens sockets.old) × (S.reads sockets.new ≡ S.reads sockets.old) }
 {
     if let Line::Event(_, event, outcome, sending) = line {
         *sending = send_outcome(sockets, roster, event, outcome);
@@ -61,7 +61,7 @@ fn send_outcome<S: Datagrams>(
     ensures comes { Comes roster.now.listed (S.listens sockets.old) (outcome_letter event.now outcome.now) result }
     ensures taken { S.taken sockets.new ≡ S.taken sockets.old ++ packet_in roster.now.listed (outcome_letter event.now outcome.now) result }
     ensures failed { FailsBy (is_by_device result) (S.failures sockets.old) (S.failures sockets.new) }
-    ensures same { (S.given sockets.new ≡ S.given sockets.old) × (S.listens sockets.new ≡ S.listens sockets.old) }
+    ensures same { (S.given sockets.new ≡ S.given sockets.old) × (S.listens sockets.new ≡ S.listens sockets.old) × (S.reads sockets.new ≡ S.reads sockets.old) }
 {
     match outcome {
         Outcome::Answered(Answer::Local(bytes, _) | Answer::NoMemory(bytes))
@@ -89,7 +89,7 @@ fn send_to_client<S: Datagrams>(
     ensures comes { Comes roster.now.listed (S.listens sockets.old) (Some (Client origin, bytes.now)) result }
     ensures taken { S.taken sockets.new ≡ S.taken sockets.old ++ packet_in roster.now.listed (Some (Client origin, bytes.now)) result }
     ensures failed { FailsBy (is_by_device result) (S.failures sockets.old) (S.failures sockets.new) }
-    ensures same { (S.given sockets.new ≡ S.given sockets.old) × (S.listens sockets.new ≡ S.listens sockets.old) }
+    ensures same { (S.given sockets.new ≡ S.given sockets.old) × (S.listens sockets.new ≡ S.listens sockets.old) × (S.reads sockets.new ≡ S.reads sockets.old) }
 {
     if origin.slot != 0 {
         return Sending::Failed(Why::Gone);
@@ -112,7 +112,7 @@ fn send_to_server<S: Datagrams>(
     ensures comes { Comes roster.now.listed (S.listens sockets.old) (Some (Server server lane, bytes.now)) result }
     ensures taken { S.taken sockets.new ≡ S.taken sockets.old ++ packet_in roster.now.listed (Some (Server server lane, bytes.now)) result }
     ensures failed { FailsBy (is_by_device result) (S.failures sockets.old) (S.failures sockets.new) }
-    ensures same { (S.given sockets.new ≡ S.given sockets.old) × (S.listens sockets.new ≡ S.listens sockets.old) }
+    ensures same { (S.given sockets.new ≡ S.given sockets.old) × (S.listens sockets.new ≡ S.listens sockets.old) × (S.reads sockets.new ≡ S.reads sockets.old) }
 {
     let Some(place) = roster.get(server) else {
         return Sending::Failed(Why::NoServer);
@@ -132,7 +132,7 @@ fn send_to_server<S: Datagrams>(
 fn send<S: Datagrams>(sockets: &mut S, socket: Socket, to: Endpoint, bytes: &Octets) -> Sending
     ensures sent { SentAs result (S.listens sockets.old) (record { socket = socket; peer = to; bytes = bytes.now }) (S.taken sockets.old) (S.taken sockets.new) }
     ensures failed { FailsBy (is_by_device result) (S.failures sockets.old) (S.failures sockets.new) }
-    ensures same { (S.given sockets.new ≡ S.given sockets.old) × (S.listens sockets.new ≡ S.listens sockets.old) }
+    ensures same { (S.given sockets.new ≡ S.given sockets.old) × (S.listens sockets.new ≡ S.listens sockets.old) × (S.reads sockets.new ≡ S.reads sockets.old) }
 {
     match sockets.send(socket, to, bytes) {
         Ok(()) => Sending::Done(Way::Datagram),

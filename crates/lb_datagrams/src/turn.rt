@@ -56,7 +56,9 @@ pub fn datagram_turn<S: Datagrams, T: Taker, G: Gate, O: Outside>(
     ensures device { IfOk result (λ r. FirstFault r.device (S.failures sockets.old) (S.failures sockets.new) (O.failures outside.old) (O.failures outside.new)) }
     ensures held { IfOk result (λ r. r.is_held ≡ is_some r.held) }
     ensures few { IfOk result (λ r. length r.lines.items + length (option_to_list r.held) ≤ 64) }
-    ensures reads { IfOk result (λ _. length (S.given sockets.new) ≤ length (S.given sockets.old) + 64) }
+    // At most 64 datagrams were asked for, whatever came of it, and so at most 64 were read.
+    ensures reads { IfOk result (λ _. S.reads sockets.new ≤ S.reads sockets.old + 64) }
+    ensures given { IfOk result (λ _. length (S.given sockets.new) ≤ length (S.given sockets.old) + 64) }
     ensures refused { OnErr result ((sockets.new ≡ sockets.old) × (taker.new ≡ taker.old) × (outside.new ≡ outside.old)) }
 {
     let mut lines = spare.blank_lines();
@@ -90,6 +92,7 @@ fn all_rounds<S: Datagrams, T: Taker, G: Gate, O: Outside>(
     requires room { 64 ≤ vec_capacity lines }
     ensures turned { Turns 64 (world (S.given sockets.old) (S.taken sockets.old) (S.failures sockets.old) (T.answered taker.old) (T.pairs taker.old) (O.said outside.old) (O.failures outside.old)) (world (S.given sockets.new) (S.taken sockets.new) (S.failures sockets.new) (T.answered taker.new) (T.pairs taker.new) (O.said outside.new) (O.failures outside.new)) result.lines.items (option_to_list result.held) result.device }
     ensures held { result.is_held ≡ is_some result.held }
+    ensures reads { S.reads sockets.new ≤ S.reads sockets.old + 64 }
     ensures same { S.listens sockets.new ≡ S.listens sockets.old }
 {
     let mut device = None;
@@ -162,6 +165,7 @@ fn one_round<S: Datagrams, T: Taker, G: Gate, O: Outside>(
     ensures turned { IfOk result (λ s. Round (world (S.given sockets.old) (S.taken sockets.old) (S.failures sockets.old) (T.answered taker.old) (T.pairs taker.old) (O.said outside.old) (O.failures outside.old)) (world (S.given sockets.new) (S.taken sockets.new) (S.failures sockets.new) (T.answered taker.new) (T.pairs taker.new) (O.said outside.new) (O.failures outside.new)) lines.old.items lines.new.items (option_to_list s.held) s.device) }
     ensures refused { OnErr result (Round (world (S.given sockets.old) (S.taken sockets.old) (S.failures sockets.old) (T.answered taker.old) (T.pairs taker.old) (O.said outside.old) (O.failures outside.old)) (world (S.given sockets.new) (S.taken sockets.new) (S.failures sockets.new) (T.answered taker.new) (T.pairs taker.new) (O.said outside.new) (O.failures outside.new)) lines.old.items lines.new.items [] None) }
     ensures clear { IfOk result (λ s. s.is_last ≡ false → (s.held ≡ None) × (s.device ≢ Some devices.Outside)) }
+    ensures reads { S.reads sockets.new ≤ S.reads sockets.old + 1 }
     ensures same { S.listens sockets.new ≡ S.listens sockets.old }
     ensures len { vec_len lines.new ≤ vec_len lines.old + 1 }
     ensures room { vec_capacity lines.new ≡ vec_capacity lines.old }

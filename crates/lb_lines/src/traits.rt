@@ -18,8 +18,9 @@ use lb_desk::DeskFault;
 use lb_wire::{Octets, Origin};
 use std::alloc::AllocError;
 
-/// The sockets of datagrams of a loop: its listeners, and one for each server and upstream socket. They tell each datagram that they gave
-/// and took, in order, and how often a device failed (up to 2^64-1, where the count stays).
+/// The sockets of datagrams of a loop: its listeners, and one for each server and upstream socket.
+/// They tell each datagram that they gave and took, in order, how often they were asked for one,
+/// and how often a device failed (up to 2^64-1, where the count stays).
 pub trait Datagrams: Drop {
     ghost given: { Self → List Datagram };
 
@@ -27,26 +28,32 @@ pub trait Datagrams: Drop {
 
     ghost failures: { Self → ℕ };
 
+    /// How often a datagram was asked for, whatever came of it.
+    ghost reads: { Self → ℕ };
+
     /// Whether there is a listener of this place.
     ghost listens: { Self → ℕ → Bool };
 
     /// The next datagram, if there is one, in a block of these where there is one. Room for it is taken before it is read; refused, none is read.
     fn receive(&mut self, rooms: &mut Rooms) -> Result<Received, AllocError>
         ensures gave { Gave result (given self.old) (given self.new) (failures self.old) (failures self.new) }
+        ensures read { reads self.new ≡ reads self.old + 1 }
         ensures same { (taken self.new ≡ taken self.old) × (listens self.new ≡ listens self.old) };
 
     /// Waits until a socket has a datagram, or somebody wakes it, or so many milliseconds have passed.
     fn wait(&mut self, at_most: u64) -> Result<(), WaitFailed>
-        ensures same { (given self.new ≡ given self.old) × (taken self.new ≡ taken self.old) × (failures self.new ≡ failures self.old) × (listens self.new ≡ listens self.old) };
+        ensures same { (given self.new ≡ given self.old) × (taken self.new ≡ taken self.old) × (failures self.new ≡ failures self.old) × (listens self.new ≡ listens self.old) × (reads self.new ≡ reads self.old) };
 
     /// Sends one datagram. Refused, no octet of it was sent: there is no such listener (Gone), a device failed, or memory was wanting.
     fn send(&mut self, socket: Socket, to: Endpoint, bytes: &Octets) -> Result<(), Why>
         ensures sent { Sent result (listens self.old) (record { socket = socket; peer = to; bytes = bytes.now }) (taken self.old) (taken self.new) (failures self.old) (failures self.new) }
-        ensures same { (given self.new ≡ given self.old) × (listens self.new ≡ listens self.old) };
+        ensures same { (given self.new ≡ given self.old) × (listens self.new ≡ listens self.old) × (reads self.new ≡ reads self.old) };
 }
 
-/// The stream connections of a loop, by the numbers that the loop gives them. They tell each piece that they gave and took, who came and
-/// whom was dialled, which ended, and how often a device failed (up to 2^64-1, where the count stays).
+/// The stream connections of a loop, by the numbers that the loop gives them. They tell each piece
+/// that they gave and took, who came and whom was dialled, which ended, at which a device failed,
+/// for which there was no room, how often they were read or asked for a client, and how often a
+/// device failed (up to 2^64-1, where the count stays).
 pub trait Streams: Drop {
     ghost told: { Self → Traffic };
 

@@ -59,7 +59,9 @@ impl<S: Datagrams, T: Taker, O: Outside> DatagramLoop<S, T, O> {
         ensures device { IfOk result (λ r. FirstFault r.device (S.failures self.old.sockets) (S.failures self.new.sockets) (O.failures self.old.outside) (O.failures self.new.outside)) }
         ensures held { IfOk result (λ r. r.is_held ≡ is_some r.held) }
         ensures few { IfOk result (λ r. length r.lines.items + length (option_to_list r.held) ≤ 64) }
-        ensures reads { IfOk result (λ _. length (S.given self.new.sockets) ≤ length (S.given self.old.sockets) + 64) }
+        // At most 64 datagrams were asked for, whatever came of it, and so at most 64 were read.
+        ensures reads { IfOk result (λ _. S.reads self.new.sockets ≤ S.reads self.old.sockets + 64) }
+        ensures given { IfOk result (λ _. length (S.given self.new.sockets) ≤ length (S.given self.old.sockets) + 64) }
         ensures refused { OnErr result ((self.new.sockets ≡ self.old.sockets) × (self.new.taker ≡ self.old.taker) × (self.new.outside ≡ self.old.outside)) }
     {
         datagram_turn(
@@ -84,7 +86,7 @@ impl<S: Datagrams, T: Taker, O: Outside> DatagramLoop<S, T, O> {
     /// Waits until a socket has a datagram, or somebody wakes it, or so many milliseconds have
     /// passed.
     pub fn wait(&mut self, at_most: u64) -> Result<(), WaitFailed>
-        ensures sockets { (S.given self.new.sockets ≡ S.given self.old.sockets) × (S.taken self.new.sockets ≡ S.taken self.old.sockets) × (S.failures self.new.sockets ≡ S.failures self.old.sockets) × (S.listens self.new.sockets ≡ S.listens self.old.sockets) }
+        ensures sockets { (S.given self.new.sockets ≡ S.given self.old.sockets) × (S.taken self.new.sockets ≡ S.taken self.old.sockets) × (S.failures self.new.sockets ≡ S.failures self.old.sockets) × (S.listens self.new.sockets ≡ S.listens self.old.sockets) × (S.reads self.new.sockets ≡ S.reads self.old.sockets) }
         ensures others { (self.new.taker ≡ self.old.taker) × (self.new.outside ≡ self.old.outside) }
     {
         self.sockets.wait(at_most)

@@ -51,6 +51,7 @@ pub struct MemoryDatagrams<'a, R: Wait> {
     reads: u64,
     sends: u64,
     failures: u64,
+    asked: Log<u64, u64>,
     given: Log<(Socket, Endpoint), Octets>,
     taken: Log<(Socket, Endpoint), Octets>,
 }
@@ -75,6 +76,7 @@ impl<'a, R: Wait> MemoryDatagrams<'a, R> {
             reads: 0,
             sends: 0,
             failures: 0,
+            asked: Log::new(),
             given: Log::new(),
             taken: Log::new(),
         }
@@ -105,7 +107,7 @@ pub(crate) fn refuse(alloc: Global) -> Result<(), AllocError> {
 }
 
 impl<R: Wait> Datagrams for MemoryDatagrams<'_, R> {
-    ghost use Rattle.std.specs.Prelude.{nat_lt};
+    ghost use Rattle.std.specs.Prelude.{length, nat_lt};
     ghost use Rattle.lb_memory.specs.Datagrams.{told};
 
     ghost given = { λ m. told m.given.items };
@@ -114,10 +116,13 @@ impl<R: Wait> Datagrams for MemoryDatagrams<'_, R> {
 
     ghost failures = { λ m. m.failures };
 
+    ghost reads = { λ m. length m.asked.items };
+
     ghost listens = { λ m front. nat_lt front m.listeners };
 
     #[inline(always)]
     fn receive(&mut self, _rooms: &mut Rooms) -> Result<Received, AllocError> {
+        self.asked = self.asked.and(&0, &0);
         self.reads = self.reads.wrapping_add(1);
         if self.reads == self.failing.refused {
             refuse(self.alloc)?;

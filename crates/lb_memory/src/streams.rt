@@ -1,6 +1,8 @@
 //! Sockets of streams in memory.
 
-ghost use Rattle.std.specs.Prelude.{[], IfOk, length, ◌≡◌};
+ghost use Rattle.std.specs.Prelude.{[], IfOk, length, ◌++◌, ◌∷◌, ◌≡◌};
+ghost use Rattle.lb_lines.specs.Counts.{Fails};
+ghost use Rattle.lb_memory.specs.Streams.{firsts};
 
 use crate::datagrams::refuse;
 use crate::wires::{Coming, Wires};
@@ -70,12 +72,15 @@ pub struct MemoryStreams<'a, R: Wait> {
     failing: StreamFailing,
     calls: Calls,
     failures: u64,
+    asked: Log<u64, u64>,
     given: Log<u64, Octets>,
     taken: Log<u64, Taken>,
     came: Log<u64, (u8, Endpoint)>,
     dialed: Log<u64, Endpoint>,
     ended: Log<u64, u64>,
     gone: Log<u64, u64>,
+    failed: Log<u64, u64>,
+    lacked: Log<u64, u64>,
     turned: Log<u8, Endpoint>,
 }
 
@@ -94,14 +99,27 @@ impl<'a, R: Wait> MemoryStreams<'a, R> {
             failing,
             calls: Calls::default(),
             failures: 0,
+            asked: Log::new(),
             given: Log::new(),
             taken: Log::new(),
             came: Log::new(),
             dialed: Log::new(),
             ended: Log::new(),
             gone: Log::new(),
+            failed: Log::new(),
+            lacked: Log::new(),
             turned: Log::new(),
         }
+    }
+
+    /// A device failed when this connection was read or written.
+    fn fails_at(&mut self, connection: u64)
+        ensures counted { Fails self.old.failures self.new.failures }
+        ensures told { firsts self.new.failed.items ≡ firsts self.old.failed.items ++ connection ∷ [] }
+        ensures same { self.new ≡ record self.old { failures = self.new.failures; failed = self.new.failed } }
+    {
+        self.failures = self.failures.saturating_add(1);
+        self.failed = self.failed.and(&connection, &0);
     }
 
     /// How often a device failed.
@@ -130,7 +148,7 @@ impl<R: Wait> Streams for MemoryStreams<'_, R> {
     ghost use Rattle.std.specs.Prelude.{length};
     ghost use Rattle.lb_memory.specs.Streams.{firsts};
 
-    ghost told = { λ m. record { given = m.given.items; taken = m.taken.items; came = m.came.items; dialed = m.dialed.items; ended = firsts m.ended.items; gone = firsts m.gone.items; turned = length m.turned.items; failures = m.failures } };
+    ghost told = { λ m. record { given = m.given.items; taken = m.taken.items; came = m.came.items; dialed = m.dialed.items; ended = firsts m.ended.items; gone = firsts m.gone.items; turned = length m.turned.items; failures = m.failures; reads = length m.asked.items; failed = firsts m.failed.items; lacked = firsts m.lacked.items } };
 
     fn ready(&mut self) -> Ready {
         self.wires.lock(self.rt).ready()
@@ -141,6 +159,7 @@ impl<R: Wait> Streams for MemoryStreams<'_, R> {
     }
 
     fn accept(&mut self, connection: u64) -> Result<Accepted, AllocError> {
+        self.asked = self.asked.and(&connection, &0);
         self.calls.accepts = self.calls.accepts.wrapping_add(1);
         if self.calls.accepts == self.failing.accept {
             self.failures = self.failures.saturating_add(1);
@@ -160,6 +179,7 @@ impl<R: Wait> Streams for MemoryStreams<'_, R> {
     }
 
     fn turn_away(&mut self) -> Accepted {
+        self.asked = self.asked.and(&0, &0);
         let mut wires = self.wires.lock(self.rt);
         let Some((front, from)) = wires.client() else {
             return Accepted::Nothing;
@@ -181,12 +201,16 @@ impl<R: Wait> Streams for MemoryStreams<'_, R> {
     }
 
     fn read_from(&mut self, connection: u64) -> Result<Read, AllocError> {
+        self.asked = self.asked.and(&connection, &0);
         self.calls.reads = self.calls.reads.wrapping_add(1);
-        if self.calls.reads == self.failing.refused {
-            refuse(self.alloc)?;
+        if self.calls.reads == self.failing.refused
+            && let Err(refused) = refuse(self.alloc)
+        {
+            self.lacked = self.lacked.and(&connection, &0);
+            return Err(refused);
         }
         if self.calls.reads == self.failing.read {
-            self.failures = self.failures.saturating_add(1);
+            self.fails_at(connection);
             return Ok(Read::Failed);
         }
         let coming = self.wires.lock(self.rt).read(connection);
@@ -200,7 +224,7 @@ impl<R: Wait> Streams for MemoryStreams<'_, R> {
                 Ok(Read::Ended)
             }
             Some(Coming::Failure) => {
-                self.failures = self.failures.saturating_add(1);
+                self.fails_at(connection);
                 Ok(Read::Failed)
             }
             None => Ok(Read::Nothing),
@@ -210,7 +234,7 @@ impl<R: Wait> Streams for MemoryStreams<'_, R> {
     fn write_to(&mut self, connection: u64, octets: &[u8]) -> Result<usize, Why> {
         self.calls.writes = self.calls.writes.wrapping_add(1);
         if self.calls.writes == self.failing.write {
-            self.failures = self.failures.saturating_add(1);
+            self.fails_at(connection);
             return Err(Why::Device);
         }
         let mut wires = self.wires.lock(self.rt);

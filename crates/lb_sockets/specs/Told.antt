@@ -6,6 +6,7 @@ use Rattle.lb_lines.specs.Moves.{Traffic}
 abbrev pub firsts : List (ℕ × ℕ) → List ℕ
 firsts = map (λ (pair : ℕ × ℕ). pair.0)
 
--- nothing was given or taken, nobody came, and no device failed
+-- nothing was given or taken, nobody came, nothing was read, no device failed, and room was refused
+-- for nothing
 abbrev pub nothing : Traffic
-nothing = record { given = []; taken = []; came = []; dialed = []; ended = []; gone = []; turned = 0; failures = 0 }
+nothing = record { given = []; taken = []; came = []; dialed = []; ended = []; gone = []; turned = 0; failures = 0; reads = 0; failed = []; lacked = [] }

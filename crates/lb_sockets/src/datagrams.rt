@@ -16,6 +16,7 @@ use crate::sender::Sender;
 use crate::servers::{Servers, Upstream, close_idle, connected};
 use crate::waker::PollWaker;
 use crate::wire::Wire;
+use http_server::Log;
 use lb_lines::{Datagram, Datagrams, Endpoint, Received, Rooms, Socket, WaitFailed, Why};
 use lb_wire::Octets;
 use std::alloc::{AllocError, Global};
@@ -36,6 +37,7 @@ pub struct UdpSockets<'a, R: Net + Clock> {
     reader: Reader,
     sender: Sender,
     failures: u64,
+    asked: Log<u64, u64>,
 }
 
 impl<'a, R: Net + Clock> UdpSockets<'a, R> {
@@ -45,7 +47,7 @@ impl<'a, R: Net + Clock> UdpSockets<'a, R> {
         alloc: Global,
         listeners: Arc<ListenSockets>,
     ) -> io::Result<UdpSockets<'a, R>>
-        ensures told { IfOk result (λ s. (s.reader.given.items ≡ []) × (s.sender.taken.items ≡ []) × (s.failures ≡ 0)) }
+        ensures told { IfOk result (λ s. (s.reader.given.items ≡ []) × (s.sender.taken.items ≡ []) × (s.failures ≡ 0) × (s.asked.items ≡ [])) }
         ensures listeners { IfOk result (λ s. s.listeners ≡ listeners) }
     {
         let mut readiness = Readiness::made(rt, alloc)?;
@@ -59,7 +61,7 @@ impl<'a, R: Net + Clock> UdpSockets<'a, R> {
         alloc: Global,
         listeners: Arc<ListenSockets>,
     ) -> io::Result<UdpSockets<'a, R>>
-        ensures told { IfOk result (λ s. (s.reader.given.items ≡ []) × (s.sender.taken.items ≡ []) × (s.failures ≡ 0)) }
+        ensures told { IfOk result (λ s. (s.reader.given.items ≡ []) × (s.sender.taken.items ≡ []) × (s.failures ≡ 0) × (s.asked.items ≡ [])) }
         ensures listeners { IfOk result (λ s. s.listeners ≡ listeners) }
     {
         let readiness = Readiness::made(rt, alloc)?;
@@ -72,7 +74,7 @@ impl<'a, R: Net + Clock> UdpSockets<'a, R> {
         listeners: Arc<ListenSockets>,
         readiness: Readiness,
     ) -> io::Result<UdpSockets<'a, R>>
-        ensures told { IfOk result (λ s. (s.reader.given.items ≡ []) × (s.sender.taken.items ≡ []) × (s.failures ≡ 0)) }
+        ensures told { IfOk result (λ s. (s.reader.given.items ≡ []) × (s.sender.taken.items ≡ []) × (s.failures ≡ 0) × (s.asked.items ≡ [])) }
         ensures listeners { IfOk result (λ s. s.listeners ≡ listeners) }
     {
         Ok(UdpSockets {
@@ -83,6 +85,7 @@ impl<'a, R: Net + Clock> UdpSockets<'a, R> {
             reader: Reader::made(alloc)?,
             sender: Sender::new(),
             failures: 0,
+            asked: Log::new(),
         })
     }
 
@@ -190,7 +193,7 @@ impl<'a, R: Net + Clock> UdpSockets<'a, R> {
         bytes: &Octets,
     ) -> Result<(), Why>
         ensures sent { Sent result (listens_at (arc_value self.old.listeners).sockets.items) (record { socket = sockets.Server upstream.server upstream.number upstream.at; peer = to; bytes = bytes.now }) (told self.old.sender.taken.items) (told self.new.sender.taken.items) self.old.failures self.new.failures }
-        ensures same { (self.new.listeners ≡ self.old.listeners) × (self.new.reader ≡ self.old.reader) }
+        ensures same { (self.new.listeners ≡ self.old.listeners) × (self.new.reader ≡ self.old.reader) × (self.new.asked ≡ self.old.asked) }
     {
         let Ok(slot) = self.slot_for(upstream)? else {
             self.failed();
@@ -265,6 +268,7 @@ fn is_lost(error: &io::Error) -> bool {
 
 impl<R: Net + Clock> Datagrams for UdpSockets<'_, R> {
     ghost use Rattle.std.specs.Arc.{arc_value};
+    ghost use Rattle.std.specs.Prelude.{length};
     ghost use Rattle.lb_sockets.specs.Datagrams.{listens_at, told};
 
     ghost given = { λ s. told s.reader.given.items };
@@ -273,9 +277,12 @@ impl<R: Net + Clock> Datagrams for UdpSockets<'_, R> {
 
     ghost failures = { λ s. s.failures };
 
+    ghost reads = { λ s. length s.asked.items };
+
     ghost listens = { λ s. listens_at (arc_value s.listeners).sockets.items };
 
     fn receive(&mut self, rooms: &mut Rooms) -> Result<Received, AllocError> {
+        self.asked = self.asked.and(&0, &0);
         if self.readiness.look() {
             self.servers.tell_time();
         }

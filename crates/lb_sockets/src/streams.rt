@@ -108,6 +108,7 @@ impl<R: Net> Streams for TcpSockets<'_, R> {
     }
 
     fn accept(&mut self, connection: u64) -> Result<Accepted, AllocError> {
+        self.told.asked();
         match self.arrivals.welcome(&self.watch, connection) {
             Ok(Some((front, from))) => {
                 self.told.came(connection, front, from);
@@ -122,6 +123,7 @@ impl<R: Net> Streams for TcpSockets<'_, R> {
     }
 
     fn turn_away(&mut self) -> Accepted {
+        self.told.asked();
         match self.arrivals.dismiss() {
             Ok(Some((front, from))) => {
                 self.told.turned(front, from);
@@ -149,7 +151,11 @@ impl<R: Net> Streams for TcpSockets<'_, R> {
     }
 
     fn read_from(&mut self, connection: u64) -> Result<Read, AllocError> {
-        self.intake.prepare()?;
+        self.told.asked();
+        if let Err(refused) = self.intake.prepare() {
+            self.told.lacked(connection);
+            return Err(refused);
+        }
         match self.arrivals.read(connection, &mut self.intake) {
             Ok(Some(octets)) => {
                 self.told.gave(connection, &octets);
@@ -161,7 +167,7 @@ impl<R: Net> Streams for TcpSockets<'_, R> {
             }
             Err(error) if is_nothing(&error) => Ok(Read::Nothing),
             Err(_) => {
-                self.told.failed();
+                self.told.failed_at(connection);
                 Ok(Read::Failed)
             }
         }
@@ -179,7 +185,7 @@ impl<R: Net> Streams for TcpSockets<'_, R> {
                 Err(Why::Gone)
             }
             Err(_) => {
-                self.told.failed();
+                self.told.failed_at(connection);
                 Err(Why::Device)
             }
         }

@@ -1,7 +1,7 @@
 //! What sockets of streams tell.
 
 ghost use Rattle.std.specs.Prelude.{[], IfOk, length, ◌+◌, ◌++◌, ◌∷◌, ◌≡◌, ◌≤◌};
-ghost use Rattle.lb_lines.specs.Moves.{Faulty};
+ghost use Rattle.lb_lines.specs.Moves.{Faulty, FaultyAt, read_once};
 ghost use Rattle.lb_sockets.specs.Told.{nothing};
 
 use http_server::Log;
@@ -54,12 +54,15 @@ impl Taken {
 pub(crate) struct Told {
     last: Taken,
     failures: u64,
+    asked: Log<u64, u64>,
     given: Log<u64, Octets>,
     taken: Log<u64, Taken>,
     came: Log<u64, (u8, Endpoint)>,
     dialed: Log<u64, Endpoint>,
     ended: Log<u64, u64>,
     gone: Log<u64, u64>,
+    failed: Log<u64, u64>,
+    lacked: Log<u64, u64>,
     turned: Log<u8, Endpoint>,
 }
 
@@ -70,7 +73,7 @@ impl Model for Told {
 
     ghost Value = { Traffic };
 
-    ghost view = { λ t. record { given = t.given.items; taken = t.taken.items; came = t.came.items; dialed = t.dialed.items; ended = firsts t.ended.items; gone = firsts t.gone.items; turned = length t.turned.items; failures = t.failures } };
+    ghost view = { λ t. record { given = t.given.items; taken = t.taken.items; came = t.came.items; dialed = t.dialed.items; ended = firsts t.ended.items; gone = firsts t.gone.items; turned = length t.turned.items; failures = t.failures; reads = length t.asked.items; failed = firsts t.failed.items; lacked = firsts t.lacked.items } };
 }
 
 impl Told {
@@ -81,12 +84,15 @@ impl Told {
         Ok(Told {
             last: Taken::made(alloc)?,
             failures: 0,
+            asked: Log::new(),
             given: Log::new(),
             taken: Log::new(),
             came: Log::new(),
             dialed: Log::new(),
             ended: Log::new(),
             gone: Log::new(),
+            failed: Log::new(),
+            lacked: Log::new(),
             turned: Log::new(),
         })
     }
@@ -103,6 +109,28 @@ impl Told {
         ensures { Faulty self.old self.new }
     {
         self.failures = self.failures.saturating_add(1);
+    }
+
+    /// A device failed when this connection was read or written.
+    pub(crate) fn failed_at(&mut self, connection: u64)
+        ensures { FaultyAt connection self.old self.new }
+    {
+        self.failed();
+        self.failed = self.failed.and(&connection, &0);
+    }
+
+    /// Room was refused for a piece of this connection.
+    pub(crate) fn lacked(&mut self, connection: u64)
+        ensures { self.new ≡ record self.old { lacked = self.old.lacked ++ connection ∷ [] } }
+    {
+        self.lacked = self.lacked.and(&connection, &0);
+    }
+
+    /// A connection is read, or a client that waits is asked for.
+    pub(crate) fn asked(&mut self)
+        ensures { self.new ≡ read_once self.old }
+    {
+        self.asked = self.asked.and(&0, &0);
     }
 
     /// A connection gave these octets.

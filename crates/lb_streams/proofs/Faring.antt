@@ -16,7 +16,7 @@ use Rattle.lb_lines.specs.declared.report.DeviceFault.TheVariants as devices
 use Rattle.lb_lines.specs.declared.traffic.Peer.{Peer}
 use Rattle.lb_lines.specs.declared.traffic.Peer.TheVariants as peers
 use Rattle.lb_streams.specs.Goes.{GoesOn, Notes, TurnsAway}
-use Rattle.lb_streams.specs.Links.{Fares, HasBeen, HasEnded, Heard, IsPeer, Leaves, Link, Net, NewPeer, Over, Own, Promised, Still, Wants, WasServer, held, link, shut, unwritten, wants}
+use Rattle.lb_streams.specs.Links.{Fares, HasBeen, HasEnded, Heard, IsPeer, Leaves, Link, Net, NewPeer, Over, Own, Promised, Still, WasServer, held, link, shut, unwritten}
 
 -- Lists and counts.
 
@@ -65,16 +65,19 @@ false_back : (b c : Bool) → (b ≡ true → c ≡ true) → c ≡ false → b 
 false_back true c on e = absurd (true≢false (sym (on refl) ∙ e))
 false_back false c on e = refl
 
-pub shut_on : (a b : Link) (wa wb : Wants) (m s : List (List ℕ)) → Fares a b wa wb m s → shut a ≡ true → shut b ≡ true
-shut_on a b wa wb m s one is = let parts = and_true a.below (is_none a.here) is in shut_is b (one.below parts.0) (one.stays is).here
+pub shut_on : (a b : Link) (m s : List (List ℕ)) → Fares a b m s → shut a ≡ true → shut b ≡ true
+shut_on a b m s one is = let parts = and_true a.below (is_none a.here) is in shut_is b (one.below parts.0) (one.stays is).here
 
-pub shut_back : (a b : Link) (wa wb : Wants) (m s : List (List ℕ)) → Fares a b wa wb m s → shut b ≡ false → shut a ≡ false
-shut_back a b wa wb m s one is = false_back (shut a) (shut b) (shut_on a b wa wb m s one) is
+pub shut_back : (a b : Link) (m s : List (List ℕ)) → Fares a b m s → shut b ≡ false → shut a ≡ false
+shut_back a b m s one is = false_back (shut a) (shut b) (shut_on a b m s one) is
 
 still_on : (a b c : Link) (m n s r : List (List ℕ)) → Still a b m s → Still b c n r → Still a c (m ++ n) (s ++ r)
 still_on a b c m n s r one two = record {
   given = two.given ∙ one.given;
   taken = two.taken ∙ one.taken;
+  failed = two.failed ∙ one.failed;
+  lacked = two.lacked ∙ one.lacked;
+  refused = two.refused ∙ one.refused;
   here = two.here;
   no_messages = nil_on m n one.no_messages two.no_messages;
   no_sends = nil_on s r one.no_sends two.no_sends;
@@ -112,11 +115,11 @@ ended_on : (a b c : Link) → a.ended ≤ b.ended → b.ended ≤ c.ended → ((
 ended_on a b c ab bc own (inl was) = ended_later a b c bc ((own was.0 was.1).ended was.2)
 ended_on a b c ab bc own (inr lt) = inr (omega arith)
 
-pub peer_on : (a b c : Link) (wa wb wc : Wants) (m n s r : List (List ℕ)) (peer : Peer) → Fares a b wa wb m s → Fares b c wb wc n r → IsPeer b c peer → IsPeer a c peer
-peer_on a b c wa wb wc m n s r peer one two (inl was) =
+pub peer_on : (a b c : Link) (m n s r : List (List ℕ)) (peer : Peer) → Fares a b m s → Fares b c n r → IsPeer b c peer → IsPeer a c peer
+peer_on a b c m n s r peer one two (inl was) =
     ⊎_elim (λ (earlier : (y : Connection) × (a.here ≡ Some y) × (y.peer ≡ was.0.peer)). inl (earlier.0, earlier.1, earlier.2 ∙ was.2))
     (λ (new : NewPeer a b was.0.peer). inr (new_later a b c peer two.came two.dialed (subst (NewPeer a b) was.2 new))) (one.own was.0 was.1).peer
-peer_on a b c wa wb wc m n s r peer one two (inr new) = inr (new_earlier a b c peer one.came one.dialed new)
+peer_on a b c m n s r peer one two (inr new) = inr (new_earlier a b c peer one.came one.dialed new)
 
 -- Why one was closed.
 
@@ -158,87 +161,93 @@ heard_later a b c rest m n given nothing one = record {
 promised_later : (a b c : Link) (rest : List ℕ) (s r : List (List ℕ)) → c.taken ≡ b.taken → r ≡ [] → Promised a b rest s → Promised a c rest (s ++ r)
 promised_later a b c rest s r taken nothing one = ap (λ zs. zs ++ rest) taken ∙ one ∙ ap (λ zs. (a.taken ++ unwritten a.here) ++ zs) (sym (frames_on s r ∙ ap (λ ns. frames s ++ frames ns) nothing ∙ append-nil (frames s)))
 
-leaves_later : (a b c : Link) (wa wb wc : Wants) (m n s r : List (List ℕ)) → wb.failures ≤ wc.failures → wb.refusals ≤ wc.refusals → Fares b c wb wc n r → Still b c n r
-    → Leaves a b wa wb m s → Leaves a c wa wc (m ++ n) (s ++ r)
-leaves_later a b c wa wb wc m n s r failures refusals two still (inl rose) = inl (rose_later wa.failures wb.failures wc.failures rose failures)
-leaves_later a b c wa wb wc m n s r failures refusals two still (inr (inl rose)) = inr (inl (rose_later wa.refusals wb.refusals wc.refusals rose refusals))
-leaves_later a b c wa wb wc m n s r failures refusals two still (inr (inr (inl lt))) = let le = two.gone in inr (inr (inl (omega arith)))
-leaves_later a b c wa wb wc m n s r failures refusals two still (inr (inr (inr (inl server)))) =
+leaves_later : (a b c : Link) (m n s r : List (List ℕ)) → Fares b c n r → Still b c n r
+    → Leaves a b m s → Leaves a c (m ++ n) (s ++ r)
+leaves_later a b c m n s r two still (inl lt) = let le = two.failed in inl (omega arith)
+leaves_later a b c m n s r two still (inr (inl lt)) = let le = two.refused in inr (inl (omega arith))
+leaves_later a b c m n s r two still (inr (inr (inl lt))) = let le = two.gone in inr (inr (inl (omega arith)))
+leaves_later a b c m n s r two still (inr (inr (inr (inl server)))) =
     let le = two.ended in let lt = server.0 in inr (inr (inr (inl (omega arith, server_later a b c two.dialed server.1))))
-leaves_later a b c wa wb wc m n s r failures refusals two still (inr (inr (inr (inr (inl done))))) = inr (inr (inr (inr (inl (record {
+leaves_later a b c m n s r two still (inr (inr (inr (inr (inl done))))) = inr (inr (inr (inr (inl (record {
   ended = ended_later a b c two.ended done.ended;
   rest = done.rest;
   none = done.none;
   heard = heard_later a b c done.rest m n still.given still.no_messages done.heard;
   promised = promised_later a b c [] s r still.taken still.no_sends done.promised;
 })))))
-leaves_later a b c wa wb wc m n s r failures refusals two still (inr (inr (inr (inr (inr over))))) = inr (inr (inr (inr (inr (over.0, over_later a s r over.0 over.1)))))
+leaves_later a b c m n s r two still (inr (inr (inr (inr (inr over))))) = inr (inr (inr (inr (inr (over.0, over_later a s r over.0 over.1)))))
 
-leaves_earlier : (a b c : Link) (wa wb wc : Wants) (m n s r : List (List ℕ)) → wa.failures ≤ wb.failures → wa.refusals ≤ wb.refusals → Fares a b wa wb m s → Fares b c wb wc n r → shut b ≡ false
-    → Leaves b c wb wc n r → Leaves a c wa wc (m ++ n) (s ++ r)
-leaves_earlier a b c wa wb wc m n s r failures refusals one two lives (inl rose) = inl (rose_earlier wa.failures wb.failures wc.failures failures rose)
-leaves_earlier a b c wa wb wc m n s r failures refusals one two lives (inr (inl rose)) = inr (inl (rose_earlier wa.refusals wb.refusals wc.refusals refusals rose))
-leaves_earlier a b c wa wb wc m n s r failures refusals one two lives (inr (inr (inl lt))) = let le = one.gone in inr (inr (inl (omega arith)))
-leaves_earlier a b c wa wb wc m n s r failures refusals one two lives (inr (inr (inr (inl server)))) =
+leaves_earlier : (a b c : Link) (m n s r : List (List ℕ)) → Fares a b m s → Fares b c n r → shut b ≡ false
+    → Leaves b c n r → Leaves a c (m ++ n) (s ++ r)
+leaves_earlier a b c m n s r one two lives (inl lt) = let le = one.failed in inl (omega arith)
+leaves_earlier a b c m n s r one two lives (inr (inl lt)) = let le = one.refused in inr (inl (omega arith))
+leaves_earlier a b c m n s r one two lives (inr (inr (inl lt))) = let le = one.gone in inr (inr (inl (omega arith)))
+leaves_earlier a b c m n s r one two lives (inr (inr (inr (inl server)))) =
     let le = one.ended in let lt = server.0 in inr (inr (inr (inl (omega arith, server_earlier a b c one.dialed two.dialed one.own server.1))))
-leaves_earlier a b c wa wb wc m n s r failures refusals one two lives (inr (inr (inr (inr (inl done))))) = inr (inr (inr (inr (inl (record {
+leaves_earlier a b c m n s r one two lives (inr (inr (inr (inr (inl done))))) = inr (inr (inr (inr (inl (record {
   ended = ended_on a b c one.ended two.ended one.own done.ended;
   rest = done.rest;
   none = done.none;
   heard = heard_on a b c done.rest m n (one.heard lives) done.heard;
   promised = promised_on a b c [] s r (one.promised lives) done.promised;
 })))))
-leaves_earlier a b c wa wb wc m n s r failures refusals one two lives (inr (inr (inr (inr (inr over))))) =
+leaves_earlier a b c m n s r one two lives (inr (inr (inr (inr (inr over))))) =
     inr (inr (inr (inr (inr (over.0, over_earlier a b s r over.0 one.taken (one.promised lives) over.1)))))
 
 -- it was there before it was shut
-been_first : (a b c : Link) (wb wc : Wants) (n r : List (List ℕ)) → Fares b c wb wc n r → b.below ≡ true → HasBeen a c → HasBeen a b
-been_first a b c wb wc n r two below (inl was) = inl was
-been_first a b c wb wc n r two below (inr (inl came)) = let same : length c.came ≡ length b.came = ap (λ zs. length zs) (two.once below).0 in inr (inl (omega arith))
-been_first a b c wb wc n r two below (inr (inr dialed)) = let same : length c.dialed ≡ length b.dialed = ap (λ zs. length zs) (two.once below).1 in inr (inr (omega arith))
+been_first : (a b c : Link) (n r : List (List ℕ)) → Fares b c n r → b.below ≡ true → HasBeen a c → HasBeen a b
+been_first a b c n r two below (inl was) = inl was
+been_first a b c n r two below (inr (inl came)) = let same : length c.came ≡ length b.came = ap (λ zs. length zs) (two.once below).0 in inr (inl (omega arith))
+been_first a b c n r two below (inr (inr dialed)) = let same : length c.dialed ≡ length b.dialed = ap (λ zs. length zs) (two.once below).1 in inr (inr (omega arith))
 
 -- or came to be behind it
-opened_then : (a b c : Link) (wa wb : Wants) (m s : List (List ℕ)) → Fares a b wa wb m s → b.below ≡ false → HasBeen a c → HasBeen b c
-opened_then a b c wa wb m s one below (inl was) = absurd (true≢false (sym (one.below was) ∙ below))
-opened_then a b c wa wb m s one below (inr (inl came)) = let same : length b.came ≡ length a.came = ap (λ zs. length zs) (one.unopened below).0 in inr (inl (omega arith))
-opened_then a b c wa wb m s one below (inr (inr dialed)) = let same : length b.dialed ≡ length a.dialed = ap (λ zs. length zs) (one.unopened below).1 in inr (inr (omega arith))
+opened_then : (a b c : Link) (m s : List (List ℕ)) → Fares a b m s → b.below ≡ false → HasBeen a c → HasBeen b c
+opened_then a b c m s one below (inl was) = absurd (true≢false (sym (one.below was) ∙ below))
+opened_then a b c m s one below (inr (inl came)) = let same : length b.came ≡ length a.came = ap (λ zs. length zs) (one.unopened below).0 in inr (inl (omega arith))
+opened_then a b c m s one below (inr (inr dialed)) = let same : length b.dialed ≡ length a.dialed = ap (λ zs. length zs) (one.unopened below).1 in inr (inr (omega arith))
 
-been_then : (a b c : Link) (wa wb : Wants) (m s : List (List ℕ)) → Fares a b wa wb m s → (below : Bool) → b.below ≡ below → HasBeen a c → HasBeen b c
-been_then a b c wa wb m s one true is been = inl is
-been_then a b c wa wb m s one false is been = opened_then a b c wa wb m s one is been
+been_then : (a b c : Link) (m s : List (List ℕ)) → Fares a b m s → (below : Bool) → b.below ≡ below → HasBeen a c → HasBeen b c
+been_then a b c m s one true is been = inl is
+been_then a b c m s one false is been = opened_then a b c m s one is been
 
-left_on : (a b c : Link) (wa wb wc : Wants) (m n s r : List (List ℕ)) → wa.failures ≤ wb.failures → wa.refusals ≤ wb.refusals → wb.failures ≤ wc.failures → wb.refusals ≤ wc.refusals
-    → Fares a b wa wb m s → Fares b c wb wc n r → (is : Bool) → shut b ≡ is → shut a ≡ false → HasBeen a c → shut c ≡ true → Leaves a c wa wc (m ++ n) (s ++ r)
-left_on a b c wa wb wc m n s r fab rab fbc rbc one two true is lives been closed =
+left_on : (a b c : Link) (m n s r : List (List ℕ))
+    → Fares a b m s → Fares b c n r → (is : Bool) → shut b ≡ is → shut a ≡ false → HasBeen a c → shut c ≡ true → Leaves a c (m ++ n) (s ++ r)
+left_on a b c m n s r one two true is lives been closed =
     let below = (and_true b.below (is_none b.here) is).0 in
-    leaves_later a b c wa wb wc m n s r fbc rbc two (two.stays is) (one.left lives (been_first a b c wb wc n r two below been) is)
-left_on a b c wa wb wc m n s r fab rab fbc rbc one two false is lives been closed =
-    leaves_earlier a b c wa wb wc m n s r fab rab one two is (two.left is (been_then a b c wa wb m s one b.below refl been) closed)
+    leaves_later a b c m n s r two (two.stays is) (one.left lives (been_first a b c n r two below been) is)
+left_on a b c m n s r one two false is lives been closed =
+    leaves_earlier a b c m n s r one two is (two.left is (been_then a b c m s one b.below refl been) closed)
 
 -- In all.
-pub fares_on : (a b c : Link) (wa wb wc : Wants) (m n s r : List (List ℕ)) → wa.failures ≤ wb.failures → wa.refusals ≤ wb.refusals → wb.failures ≤ wc.failures → wb.refusals ≤ wc.refusals
-    → Fares a b wa wb m s → Fares b c wb wc n r → Fares a c wa wc (m ++ n) (s ++ r)
-fares_on a b c wa wb wc m n s r fab rab fbc rbc one two =
+pub fares_on : (a b c : Link) (m n s r : List (List ℕ))
+    → Fares a b m s → Fares b c n r → Fares a c (m ++ n) (s ++ r)
+fares_on a b c m n s r one two =
     let ended_one = one.ended in let ended_two = two.ended in let gone_one = one.gone in let gone_two = two.gone in
+    let failed_one = one.failed in let failed_two = two.failed in let lacked_one = one.lacked in let lacked_two = two.lacked in
+    let refused_one = one.refused in let refused_two = two.refused in
     let back : c.below ≡ false → b.below ≡ false = false_back b.below c.below two.below in
-    let mid : shut c ≡ false → shut b ≡ false = shut_back b c wb wc n r two in
+    let mid : shut c ≡ false → shut b ≡ false = shut_back b c n r two in
     record {
       taken = (one.taken.0 ++ two.taken.0, grown a.taken b.taken c.taken one.taken.0 two.taken.0 one.taken.1 two.taken.1);
       came = (one.came.0 ++ two.came.0, grown a.came b.came c.came one.came.0 two.came.0 one.came.1 two.came.1);
       dialed = (one.dialed.0 ++ two.dialed.0, grown a.dialed b.dialed c.dialed one.dialed.0 two.dialed.0 one.dialed.1 two.dialed.1);
       ended = omega arith;
       gone = omega arith;
+      failed = omega (arith, failed_one, failed_two);
+      lacked = omega (arith, lacked_one, lacked_two);
+      refused = omega (arith, refused_one, refused_two);
+      sound = λ e. ((two.sound e).0 ∙ (one.sound (mid e)).0, (two.sound e).1 ∙ (one.sound (mid e)).1);
       below = λ e. two.below (one.below e);
       once = λ e. ((two.once (one.below e)).0 ∙ (one.once e).0, (two.once (one.below e)).1 ∙ (one.once e).1);
       unopened = λ e. ((two.unopened e).0 ∙ (one.unopened (back e)).0, (two.unopened e).1 ∙ (one.unopened (back e)).1);
-      stays = λ e. still_on a b c m n s r (one.stays e) (two.stays (shut_on a b wa wb m s one e));
+      stays = λ e. still_on a b c m n s r (one.stays e) (two.stays (shut_on a b m s one e));
       heard = λ e. heard_on a b c (held c.here) m n (one.heard (mid e)) (two.heard e);
       promised = λ e. promised_on a b c (unwritten c.here) s r (one.promised (mid e)) (two.promised e);
       own = λ x e. record {
-        peer = peer_on a b c wa wb wc m n s r x.peer one two (two.own x e).peer;
+        peer = peer_on a b c m n s r x.peer one two (two.own x e).peer;
         ended = λ is. ended_on a b c one.ended two.ended one.own ((two.own x e).ended is);
       };
-      left = λ lives been closed. left_on a b c wa wb wc m n s r fab rab fbc rbc one two (shut b) refl lives been closed;
+      left = λ lives been closed. left_on a b c m n s r one two (shut b) refl lives been closed;
     }
 
 none_some : (fault : DeviceFault) → None ≡ Some fault → true ≡ false
@@ -270,17 +279,18 @@ notes_on None (Some devices.Outside) h a b c ab bc one two = absurd one
 
 pub all_on : GoesOn
 all_on a b c m n s r one two =
-    let failures_one = one.failures in let failures_two = two.failures in let refusals_one = one.refusals in let refusals_two = two.refusals in
+    let failures_one = one.failures in let failures_two = two.failures in
     let next_one = one.next in let next_two = two.next in let gone_one = one.gone in let gone_two = two.gone in let came_one = one.came in let came_two = two.came in
     let few_one = one.connected in let few_two = two.connected in
+    let counted_one = one.counted in let counted_two = two.counted in
     record {
-      fares = λ k. fares_on (link k a) (link k b) (link k c) (wants a) (wants b) (wants c) (m k) (n k) (s k) (r k) failures_one refusals_one failures_two refusals_two (one.fares k) (two.fares k);
+      fares = λ k. fares_on (link k a) (link k b) (link k c) (m k) (n k) (s k) (r k) (one.fares k) (two.fares k);
       failures = omega arith;
-      refusals = omega arith;
       next = omega arith;
       gone = omega arith;
       came = omega arith;
       connected = omega arith;
+      counted = omega (arith, counted_one, counted_two);
       noted = notes_on a.device b.device c.device a.told.failures b.told.failures c.told.failures failures_one failures_two one.noted two.noted;
       turned = turned_on a b c came_one came_two next_one next_two few_one one.turned two.turned;
     }

@@ -1,15 +1,14 @@
 -- A message that is not put behind what a connection is to write, and the connection that is closed for that.
-use Rattle.std.proofs.Common.{◌≡◌, ◌≢◌, ℕ, ◌+◌, ◌<◌, ◌≤◌, true, false, true≢false, List, Option, Some, None, sym, ap, ◌∙◌, arith, subst}
+use Rattle.std.proofs.Common.{◌≡◌, ◌≢◌, ℕ, ◌+◌, ◌<◌, ◌≤◌, true, false, true≢false, List, [], ◌∷◌, ◌++◌, Option, Some, None, sym, ap, ◌∙◌, arith, subst}
 use Rattle.std.specs.Prelude.{IfSome, nat_lt}
 use Rattle.lb_connections.specs.Table.{Table, at, client_count, clients}
 use Rattle.lb_connections.specs.Writing.{MayNotPut}
 use Rattle.lb_connections.specs.declared.connection.Connection.{Connection}
 use Rattle.lb_lines.specs.declared.report.Why.{Why}
 use Rattle.lb_lines.specs.declared.report.Why.TheVariants as whys
-use Rattle.lb_streams.proofs.Faring.{rose_later}
-use Rattle.lb_streams.proofs.Going.{Drops, drops_taken, full_at, given_of, goes_over, goes_still, goes_wanting, over_at}
+use Rattle.lb_streams.proofs.Apart.{count_other}
+use Rattle.lb_streams.proofs.Going.{Drops, drops_taken, full_at, given_of, goes_counted, goes_over, goes_still, goes_wanting, over_at, refused_more, told_of}
 use Rattle.lb_streams.proofs.Letters.{below_at}
-use Rattle.lb_streams.proofs.Opening.{goes_counted}
 use Rattle.lb_streams.specs.Goes.{Goes, Misses, NoClient, is_given_up, none}
 use Rattle.lb_streams.specs.Links.{Net}
 
@@ -18,12 +17,12 @@ use Rattle.lb_streams.specs.Links.{Net}
 pub goes_unput : (n : ℕ) (old new : Net) (message : List ℕ) (why : Why) → MayNotPut n message old.table new.table why → new.told ≡ old.told → new.device ≡ old.device → Goes old new none none
 goes_unput n old new message whys.Gone is told device = goes_still old new told is.1 device
 goes_unput n old new message whys.Limit is told device = goes_still old new told is.3 device
-goes_unput n old new message whys.NoMemory is told device = goes_counted old new is.4 is.3 told device
+goes_unput n old new message whys.NoMemory is told device = goes_counted n old new is.0 is.1 is.2 told device
 goes_unput n old new message whys.NoServer is told device = absurd is
 goes_unput n old new message whys.Full is told device = absurd is
 goes_unput n old new message whys.Device is told device = absurd is
 
-stays_servers : (n : ℕ) (old new : Net) (x : Connection) → at n old.table ≡ Some x → new.table ≡ record old.table { refusals = new.table.refusals } → is_given_up whys.NoMemory (at n new.table) ≡ false → NoClient n new
+stays_servers : (n : ℕ) (old new : Net) (x : Connection) → at n old.table ≡ Some x → new.table ≡ record old.table { refusals = old.table.refusals ++ n ∷ [] } → is_given_up whys.NoMemory (at n new.table) ≡ false → NoClient n new
 stays_servers n old new x was table kept = (
   ap (λ (t : Table). nat_lt n t.next) table ∙ below_at n old.table x was,
   λ y e. sym (ap (λ (o : Option Connection). is_given_up whys.NoMemory o) e) ∙ kept,
@@ -32,25 +31,27 @@ stays_servers n old new x was table kept = (
 pub misses_unput : (n : ℕ) (old new : Net) (message : List ℕ) (why : Why) → MayNotPut n message old.table new.table why → is_given_up why (at n new.table) ≡ false → Misses old new n message why
 misses_unput n old new message whys.Gone is kept = over_at n old new is.0 is.1
 misses_unput n old new message whys.Limit is kept = absurd (true≢false kept)
-misses_unput n old new message whys.NoMemory is kept = stays_servers n old new is.0 is.1 is.4 kept
+misses_unput n old new message whys.NoMemory is kept = stays_servers n old new is.0 is.1 is.2 kept
 misses_unput n old new message whys.NoServer is kept = absurd is
 misses_unput n old new message whys.Full is kept = absurd is
 misses_unput n old new message whys.Device is kept = absurd is
 
 -- Its connection is closed.
 
--- a connection that was open while want of memory was counted is closed
-drops_counted : (n : ℕ) (a mid b : Table) (x : Connection) → mid ≡ record a { refusals = mid.refusals } → a.refusals ≤ mid.refusals → Drops n mid b x → Drops n a b x
-drops_counted n a mid b x e le d =
-    let refusals = d.refusals in let few = d.clients in
+-- a connection for which memory was refused is closed
+drops_counted : (n : ℕ) (a mid b : Table) (x : Connection) → mid ≡ record a { refusals = a.refusals ++ n ∷ [] } → Drops n mid b x → Drops n a b x
+drops_counted n a mid b x e d =
+    let refused = d.refused in let few = d.clients in
     let same : clients mid ≡ clients a = ap clients e in
+    let more = refused_more n a mid e in
     record {
       was = sym (ap (at n) e) ∙ d.was;
       is = d.is;
       given = d.given;
       others = λ c apart. d.others c apart ∙ ap (at c) e;
       next = d.next ∙ ap (λ (t : Table). t.next) e;
-      refusals = omega (arith, refusals, le);
+      refused = omega (arith, refused, more);
+      apart = λ c apart. d.apart c apart ∙ ap (λ (t : Table). told_of c t.refusals) e ∙ count_other c n a.refusals apart;
       clients = omega (arith, few, same);
     }
 
@@ -79,9 +80,10 @@ goes_limit n old new mid message taken is takes told device =
 goes_memory : (n : ℕ) (old new : Net) (mid : Table) (message : List ℕ) (taken : Option Connection) → MayNotPut n message old.table mid whys.NoMemory → Takes n mid new.table taken → new.told ≡ old.told → new.device ≡ old.device
     → Goes old new none none × NoClient n new
 goes_memory n old new mid message taken is takes told device =
-    let after : Drops n mid new.table is.0 = drops_so n mid new.table taken is.0 (ap (at n) is.4 ∙ is.1) takes in
-    let drop : Drops n old.table new.table is.0 = drops_counted n old.table mid new.table is.0 is.4 is.3 after in (
-      goes_wanting n old new is.0 drop (rose_later old.table.refusals mid.refusals new.table.refusals is.2 after.refusals) told device,
+    let after : Drops n mid new.table is.0 = drops_so n mid new.table taken is.0 (ap (at n) is.2 ∙ is.1) takes in
+    let drop : Drops n old.table new.table is.0 = drops_counted n old.table mid new.table is.0 is.2 after in
+    let more = refused_more n old.table mid is.2 in let later = after.refused in (
+      goes_wanting n old new is.0 drop (omega (arith, more, later)) told device,
       (given_of new.table n drop.given, λ y e. absurd (none_some y (sym drop.is ∙ e))),
     )
 

@@ -7,6 +7,7 @@ pub mod Letters
 pub mod Lifting
 pub mod Opening
 pub mod Pieces
+pub mod Settling
 pub mod Steps
 pub mod Sweeping
 pub mod Then

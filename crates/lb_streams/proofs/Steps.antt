@@ -7,7 +7,7 @@ use Rattle.lb_connections.specs.Table.{is_none}
 use Rattle.lb_connections.specs.declared.connection.Connection.{Connection}
 use Rattle.lb_frames.specs.Frames.{frames}
 use Rattle.lb_streams.specs.Goes.{OneGoes}
-use Rattle.lb_streams.specs.Links.{EndedFares, Fares, HasEnded, Link, MovedFares, Same, Wants, held, link, shut, unwritten, wants}
+use Rattle.lb_streams.specs.Links.{EndedFares, Fares, HasEnded, Link, MovedFares, Same, held, link, shut, unwritten}
 
 pub and_false : (b : Bool) → (b && false) ≡ false
 and_false true = refl
@@ -22,17 +22,21 @@ pub lives_at : (a : Link) (x : Connection) → a.here ≡ Some x → shut a ≡ 
 lives_at a x is = ap (λ (o : Option Connection). a.below && is_none o) is ∙ and_false a.below
 
 -- a connection that is not touched
-fares_none : (a : Link) (wa wb : Wants) → Fares a a wa wb [] []
-fares_none a wa wb = record {
+fares_none : (a : Link) → Fares a a [] []
+fares_none a = record {
   taken = ([], sym (append-nil a.taken));
   came = ([], sym (append-nil a.came));
   dialed = ([], sym (append-nil a.dialed));
   ended = omega arith;
   gone = omega arith;
+  failed = omega arith;
+  lacked = omega arith;
+  refused = omega arith;
+  sound = λ e. (refl, refl);
   below = λ e. e;
   once = λ e. (refl, refl);
   unopened = λ e. (refl, refl);
-  stays = λ e. record { given = refl; taken = refl; here = none_of a.here a.below e; no_messages = refl; no_sends = refl };
+  stays = λ e. record { given = refl; taken = refl; failed = refl; lacked = refl; refused = refl; here = none_of a.here a.below e; no_messages = refl; no_sends = refl };
   heard = λ e. record { gave = []; given = sym (append-nil a.given); are = tt; told = append-nil (held a.here) };
   promised = λ e. sym (append-nil (a.taken ++ unwritten a.here));
   own = λ x e. record { peer = inl (x, e, refl); ended = λ is. inl (x, e, is) };
@@ -47,12 +51,16 @@ one_is : (x y : Connection) → Some x ≡ Some y → x ≡ y
 one_is x y e = cc
 
 pub fares_moved : MovedFares
-fares_moved a b wa wb x y m s it = record {
+fares_moved a b x y m s it = record {
   taken = (it.took, it.taken);
   came = ([], it.came ∙ sym (append-nil a.came));
   dialed = ([], it.dialed ∙ sym (append-nil a.dialed));
   ended = it.ended;
   gone = let same = it.gone in omega arith;
+  failed = let same = it.failed in omega (arith, same);
+  lacked = let same = it.lacked in omega (arith, same);
+  refused = it.refused;
+  sound = λ e. (it.failed, it.lacked);
   below = λ e. it.below ∙ e;
   once = λ e. (it.came, it.dialed);
   unopened = λ e. (it.came, it.dialed);
@@ -71,7 +79,7 @@ some_none : {X : Type 0} (x : X) → Some x ≡ None → true ≡ false
 some_none x e = cc
 
 pub fares_ended : EndedFares
-fares_ended a b wa wb m s it =
+fares_ended a b m s it =
     let closed : shut b ≡ true = ap (λ (c : Bool). c && is_none b.here) it.below ∙ ap is_none it.here in
     record {
       taken = (it.took, it.taken);
@@ -79,6 +87,10 @@ fares_ended a b wa wb m s it =
       dialed = ([], it.dialed ∙ sym (append-nil a.dialed));
       ended = it.ended;
       gone = it.gone;
+      failed = it.failed;
+      lacked = it.lacked;
+      refused = it.refused;
+      sound = λ e. absurd (true≢false (sym closed ∙ e));
       below = λ e. it.below;
       once = λ e. (it.came, it.dialed);
       unopened = λ e. absurd (true≢false (sym it.below ∙ e));
@@ -97,29 +109,32 @@ all_same a b s =
     ∙ ap (λ (z : _). record b { given = a.given; taken = a.taken; came = a.came; dialed = z }) s.dialed
     ∙ ap (λ (z : _). record b { given = a.given; taken = a.taken; came = a.came; dialed = a.dialed; ended = z }) s.ended
     ∙ ap (λ (z : _). record b { given = a.given; taken = a.taken; came = a.came; dialed = a.dialed; ended = a.ended; gone = z }) s.gone
-    ∙ ap (λ (z : _). record b { given = a.given; taken = a.taken; came = a.came; dialed = a.dialed; ended = a.ended; gone = a.gone; below = z }) s.below
-    ∙ ap (λ (z : _). record b { given = a.given; taken = a.taken; came = a.came; dialed = a.dialed; ended = a.ended; gone = a.gone; below = a.below; here = z }) s.here
+    ∙ ap (λ (z : _). record b { given = a.given; taken = a.taken; came = a.came; dialed = a.dialed; ended = a.ended; gone = a.gone; failed = z }) s.failed
+    ∙ ap (λ (z : _). record b { given = a.given; taken = a.taken; came = a.came; dialed = a.dialed; ended = a.ended; gone = a.gone; failed = a.failed; lacked = z }) s.lacked
+    ∙ ap (λ (z : _). record b { given = a.given; taken = a.taken; came = a.came; dialed = a.dialed; ended = a.ended; gone = a.gone; failed = a.failed; lacked = a.lacked; refused = z }) s.refused
+    ∙ ap (λ (z : _). record b { given = a.given; taken = a.taken; came = a.came; dialed = a.dialed; ended = a.ended; gone = a.gone; failed = a.failed; lacked = a.lacked; refused = a.refused; below = z }) s.below
+    ∙ ap (λ (z : _). record b { given = a.given; taken = a.taken; came = a.came; dialed = a.dialed; ended = a.ended; gone = a.gone; failed = a.failed; lacked = a.lacked; refused = a.refused; below = a.below; here = z }) s.here
 
-pub fares_same : (a b : Link) (wa wb : Wants) → Same a b → Fares a b wa wb [] []
-fares_same a b wa wb s = subst (λ (z : Link). Fares a z wa wb [] []) (sym (all_same a b s)) (fares_none a wa wb)
+pub fares_same : (a b : Link) → Same a b → Fares a b [] []
+fares_same a b s = subst (λ (z : Link). Fares a z [] []) (sym (all_same a b s)) (fares_none a)
 
 pub goes_step : OneGoes
 goes_step n old new m s others nothing here beside =
-    let failures = beside.failures in let refusals = beside.refusals in let next = beside.next in let gone = beside.gone in
+    let failures = beside.failures in let next = beside.next in let gone = beside.gone in
     let came : length new.told.came ≡ length old.told.came = ap (λ zs. length zs) beside.came in
     let few = beside.clients in
     record {
       fares = λ c. ⊎_elim
-          (λ (e : c ≡ n). subst (λ (k : ℕ). Fares (link k old) (link k new) (wants old) (wants new) (m k) (s k)) (sym e) here)
-          (λ (apart : c ≢ n). subst (λ (ms : List (List ℕ)). Fares (link c old) (link c new) (wants old) (wants new) ms (s c)) (sym (nothing c apart).0)
-          (subst (λ (ss : List (List ℕ)). Fares (link c old) (link c new) (wants old) (wants new) [] ss) (sym (nothing c apart).1) (fares_same (link c old) (link c new) (wants old) (wants new) (others c apart))))
+          (λ (e : c ≡ n). subst (λ (k : ℕ). Fares (link k old) (link k new) (m k) (s k)) (sym e) here)
+          (λ (apart : c ≢ n). subst (λ (ms : List (List ℕ)). Fares (link c old) (link c new) ms (s c)) (sym (nothing c apart).0)
+          (subst (λ (ss : List (List ℕ)). Fares (link c old) (link c new) [] ss) (sym (nothing c apart).1) (fares_same (link c old) (link c new) (others c apart))))
           (cases_eq c n);
       failures = failures;
-      refusals = refusals;
       next = next;
       gone = gone;
       came = omega arith;
       connected = omega arith;
       turned = inl beside.turned;
       noted = beside.noted;
+      counted = beside.counted;
     }

@@ -11,20 +11,20 @@ use Rattle.lb_lines.specs.declared.traffic.Peer.TheVariants as peers
 use Rattle.lb_streams.proofs.Faring.{all_on, longer_by, new_later, over_earlier, peer_on, shut_back, shut_on}
 use Rattle.lb_streams.specs.Goes.{Goes, IsFull, IsOver, Misses, NoClient, NoNumber, both, none}
 use Rattle.lb_streams.specs.Lines.{IsClosed, IsServers}
-use Rattle.lb_streams.specs.Links.{Fares, IsPeer, Link, Net, NewPeer, link, wants}
+use Rattle.lb_streams.specs.Links.{Fares, IsPeer, Link, Net, NewPeer, link}
 use Rattle.lb_wire.specs.declared.ids.ServerId.{ServerId}
 
 pub goes_as : (a b : Net) (m n s r : ℕ → List (List ℕ)) → ((c : ℕ) → m c ≡ n c) → ((c : ℕ) → s c ≡ r c) → Goes a b m s → Goes a b n r
 goes_as a b m n s r em es g = record {
-  fares = λ c. subst (λ (ms : List (List ℕ)). Fares (link c a) (link c b) (wants a) (wants b) ms (r c)) (em c) (subst (λ (ss : List (List ℕ)). Fares (link c a) (link c b) (wants a) (wants b) (m c) ss) (es c) (g.fares c));
+  fares = λ c. subst (λ (ms : List (List ℕ)). Fares (link c a) (link c b) ms (r c)) (em c) (subst (λ (ss : List (List ℕ)). Fares (link c a) (link c b) (m c) ss) (es c) (g.fares c));
   failures = g.failures;
-  refusals = g.refusals;
   next = g.next;
   gone = g.gone;
   came = g.came;
   connected = g.connected;
   turned = g.turned;
   noted = g.noted;
+  counted = g.counted;
 }
 
 pub goes_before : (a b c : Net) (m s : ℕ → List (List ℕ)) → Goes a b none none → Goes b c m s → Goes a c m s
@@ -39,7 +39,7 @@ goes_then a b c m s one two = goes_as a c (both m none) m s s (λ k. append-nil 
 -- What ended stays ended.
 
 pub over_later : (n : ℕ) (a b c : Net) (m s : ℕ → List (List ℕ)) → Goes b c m s → IsOver n a b → IsOver n a c
-over_later n a b c m s two (inl is) = inl (shut_on (link n b) (link n c) (wants b) (wants c) (m n) (s n) (two.fares n) is)
+over_later n a b c m s two (inl is) = inl (shut_on (link n b) (link n c) (m n) (s n) (two.fares n) is)
 over_later n a b c m s two (inr le) = inr le
 
 pub over_before : (n : ℕ) (a b c : Net) (m s : ℕ → List (List ℕ)) → Goes a b m s → IsOver n b c → IsOver n a c
@@ -47,20 +47,20 @@ over_before n a b c m s one (inl is) = inl is
 over_before n a b c m s one (inr le) = let next = one.next in inr (omega (arith, next, le))
 
 pub full_later : (n : ℕ) (a b c : Net) (m s : ℕ → List (List ℕ)) (sends : List (List ℕ)) (message : List ℕ) → Goes b c m s → IsFull n a b sends message → IsFull n a c sends message
-full_later n a b c m s sends message two full = (full.0, shut_on (link n b) (link n c) (wants b) (wants c) (m n) (s n) (two.fares n) full.1, full.2)
+full_later n a b c m s sends message two full = (full.0, shut_on (link n b) (link n c) (m n) (s n) (two.fares n) full.1, full.2)
 
 pub full_before : (n : ℕ) (a b c : Net) (m s : ℕ → List (List ℕ)) (sends : List (List ℕ)) (message : List ℕ) → Goes a b m s → IsFull n b c sends message → IsFull n a c (s n ++ sends) message
 full_before n a b c m s sends message one full = (
-  shut_back (link n a) (link n b) (wants a) (wants b) (m n) (s n) (one.fares n) full.0,
+  shut_back (link n a) (link n b) (m n) (s n) (one.fares n) full.0,
   full.1,
   over_earlier (link n a) (link n b) (s n) sends message (one.fares n).taken ((one.fares n).promised full.0) full.2,
 )
 
 pub closed_later : (n : ℕ) (a b c : Net) (m s : ℕ → List (List ℕ)) → Goes b c m s → IsClosed n a b → IsClosed n a c
-closed_later n a b c m s two is = (is.0, shut_on (link n b) (link n c) (wants b) (wants c) (m n) (s n) (two.fares n) is.1)
+closed_later n a b c m s two is = (is.0, shut_on (link n b) (link n c) (m n) (s n) (two.fares n) is.1)
 
 pub closed_before : (n : ℕ) (a b c : Net) (m s : ℕ → List (List ℕ)) → Goes a b m s → IsClosed n b c → IsClosed n a c
-closed_before n a b c m s one is = (shut_back (link n a) (link n b) (wants a) (wants b) (m n) (s n) (one.fares n) is.0, is.1)
+closed_before n a b c m s one is = (shut_back (link n a) (link n b) (m n) (s n) (one.fares n) is.0, is.1)
 
 pub number_later : (a b c : Net) (m s : ℕ → List (List ℕ)) → Goes b c m s → NoNumber a b → NoNumber a c
 number_later a b c m s two (inl passed) = let next = two.next in inl (omega (arith, next, passed))
@@ -73,7 +73,7 @@ number_before a b c m s one (inr used) = inr used
 -- Who is there stays there.
 
 pub peer_before : (n : ℕ) (a b c : Net) (m s r q : ℕ → List (List ℕ)) (peer : Peer) → Goes a b m s → Goes b c r q → IsPeer (link n b) (link n c) peer → IsPeer (link n a) (link n c) peer
-peer_before n a b c m s r q peer one two is = peer_on (link n a) (link n b) (link n c) (wants a) (wants b) (wants c) (m n) (r n) (s n) (q n) peer (one.fares n) (two.fares n) is
+peer_before n a b c m s r q peer one two is = peer_on (link n a) (link n b) (link n c) (m n) (r n) (s n) (q n) peer (one.fares n) (two.fares n) is
 
 pub peer_later : (n : ℕ) (a b c : Net) (r q : ℕ → List (List ℕ)) (peer : Peer) → Goes b c r q → IsPeer (link n a) (link n b) peer → IsPeer (link n a) (link n c) peer
 peer_later n a b c r q peer two (inl was) = inl was

@@ -1,6 +1,6 @@
 -- What happens to the connections of a loop.
 use Rattle.std.specs.Prelude.{◌≡◌, ◌≢◌, ℕ, ◌+◌, ◌≤◌, ◌^◌, ◌⊎◌, Bool, List, [], ◌∷◌, ◌++◌, Option, Some, None, Result, Ok, Err, length, true, false, if◌then◌else◌, ◌==◌}
-use Rattle.lb_connections.specs.Table.{clients, is_client}
+use Rattle.lb_connections.specs.Table.{IsDone, at, clients, is_client}
 use Rattle.lb_connections.specs.declared.connection.Connection.{Connection}
 use Rattle.lb_lines.specs.Counts.{Fails, Rose}
 use Rattle.lb_lines.specs.Moves.{Traffic, TurnedAway}
@@ -9,7 +9,7 @@ use Rattle.lb_lines.specs.declared.report.DeviceFault.TheVariants as devices
 use Rattle.lb_lines.specs.declared.report.Why.{Why}
 use Rattle.lb_lines.specs.declared.report.Why.TheVariants as whys
 use Rattle.lb_lines.specs.declared.traffic.Accepted.{Accepted}
-use Rattle.lb_streams.specs.Links.{Fares, Net, Over, Same, link, shut, wants}
+use Rattle.lb_streams.specs.Links.{Fares, Net, Over, Same, link, shut}
 
 -- how many clients may be connected, and how many connections a table has places for
 abbrev pub max_clients : ℕ
@@ -43,42 +43,47 @@ Notes None None before after = after ≡ before
 Notes None (Some devices.Sockets) before after = Fails before after
 Notes None (Some devices.Outside) before after = ⊥
 
+-- how often connections were read and clients that wait were asked for, whatever came of it
+abbrev pub reads_of : Net → ℕ
+reads_of net = net.told.reads
+
+-- how many of these reads gave something: a piece, a client, the end of a peer's side, or a client
+-- that was turned away
+abbrev pub gave_of : Net → ℕ
+gave_of net = length net.told.given + length net.told.came + length net.told.ended + net.told.turned
+
 -- What happens to connections while these messages are taken from them, and these are sent to them, each by the number of its connection.
+-- Each thing that sockets gave, a read or an accept of its own gave.
 pub record Goes (old new : Net) (messages sends : ℕ → List (List ℕ)) : Type 0 where
-  pub fares : (c : ℕ) → Fares (link c old) (link c new) (wants old) (wants new) (messages c) (sends c)
+  pub fares : (c : ℕ) → Fares (link c old) (link c new) (messages c) (sends c)
   pub failures : old.told.failures ≤ new.told.failures
-  pub refusals : old.table.refusals ≤ new.table.refusals
   pub next : old.table.next ≤ new.table.next
   pub gone : length old.told.gone ≤ length new.told.gone
   pub came : length old.told.came ≤ length new.told.came
   pub connected : clients new.table + length old.told.came ≤ clients old.table + length new.told.came
   pub turned : TurnsAway old new
   pub noted : Notes old.device new.device old.told.failures new.told.failures
+  pub counted : gave_of new + reads_of old ≤ gave_of old + reads_of new
 
 -- sockets that turned a client away, or had none to, or failed
 abbrev pub TurnedFrom : Traffic → Traffic → Type 0
 TurnedFrom old new = (result : Accepted) × TurnedAway result old new
 
--- how often sockets of streams gave something: pieces, clients, and clients' and servers' ends; and how many
--- clients were turned away
-abbrev pub reads_of : Net → ℕ
-reads_of net = length net.told.given + length net.told.came + length net.told.ended + net.told.turned
-
 -- what a step does beside the connection that it is about: no client comes or is turned away
 pub record Beside (old new : Net) : Type 0 where
   pub failures : old.told.failures ≤ new.told.failures
-  pub refusals : old.table.refusals ≤ new.table.refusals
   pub next : old.table.next ≤ new.table.next
   pub gone : length old.told.gone ≤ length new.told.gone
   pub came : new.told.came ≡ old.told.came
   pub turned : new.told.turned ≡ old.told.turned
   pub clients : clients new.table ≤ clients old.table
   pub noted : Notes old.device new.device old.told.failures new.told.failures
+  pub counted : gave_of new + reads_of old ≤ gave_of old + reads_of new
 
 -- a step of one connection, which fares so, while no other is touched, is what all go through
 abbrev pub OneGoes : Type 0
 OneGoes = (n : ℕ) (old new : Net) (messages sends : ℕ → List (List ℕ)) → ((c : ℕ) → c ≢ n → Same (link c old) (link c new)) → ((c : ℕ) → c ≢ n → (messages c ≡ []) × (sends c ≡ []))
-    → Fares (link n old) (link n new) (wants old) (wants new) (messages n) (sends n) → Beside old new → Goes old new messages sends
+    → Fares (link n old) (link n new) (messages n) (sends n) → Beside old new → Goes old new messages sends
 
 -- nothing
 abbrev pub none : ℕ → List (List ℕ)
@@ -138,6 +143,11 @@ Lacks old new whys.Gone = NoNumber old new
 Lacks old new whys.Device = Rose old.told.failures new.told.failures
 Lacks old new whys.NoMemory = Unit {0}
 Lacks old new _ = ⊥
+
+-- the connection of a number is not open at its end: its peer has not closed its side, or something
+-- is left to be answered or written
+abbrev pub IsUndone : ℕ → Net → Type 0
+IsUndone n net = (x : Connection) → at n net.table ≡ Some x → IsDone x → ⊥
 
 -- a client that waited was turned away, or there was none
 pub record TurnsOneAway (old new : Net) : Type 0 where

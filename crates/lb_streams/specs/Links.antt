@@ -5,7 +5,6 @@ use Rattle.lb_connections.specs.Table.{Table, at, is_client, is_none}
 use Rattle.lb_connections.specs.Writing.{max_waiting}
 use Rattle.lb_connections.specs.declared.connection.Connection.{Connection}
 use Rattle.lb_frames.specs.Frames.{AreMessages, NoneWhole, framed, frames}
-use Rattle.lb_lines.specs.Counts.{Rose}
 use Rattle.lb_lines.specs.Moves.{Client, Traffic, octets_of}
 use Rattle.lb_lines.specs.declared.endpoint.Endpoint.{Endpoint}
 use Rattle.lb_lines.specs.declared.report.DeviceFault.{DeviceFault}
@@ -26,8 +25,10 @@ unwritten (Some x) = x.outgoing
 abbrev pub of_number : {A : Type 0} → ℕ → List (ℕ × A) → List A
 of_number {A} c = flat_map (λ (told : ℕ × A). if told.0 == c then told.1 ∷ [] else [])
 
--- all of one connection: the octets that it gave and took, the clients and the ends that came under its number, how often its peer closed
--- its side and took no more, whether its number was given, and what it is now
+-- all of one connection: the octets that it gave and took, the clients and the ends that came under
+-- its number, how often its peer closed its side and took no more, how often a device failed at it,
+-- how often a piece of it was refused room, and how often memory was refused for it, whether its
+-- number was given, and what it is now
 pub record Link : Type 0 where
   pub given : List ℕ
   pub taken : List ℕ
@@ -35,6 +36,9 @@ pub record Link : Type 0 where
   pub dialed : List Endpoint
   pub ended : ℕ
   pub gone : ℕ
+  pub failed : ℕ
+  pub lacked : ℕ
+  pub refused : ℕ
   pub below : Bool
   pub here : Option Connection
 
@@ -52,6 +56,9 @@ link c net = record {
   dialed = of_number c net.told.dialed;
   ended = count_by (λ n. n == c) net.told.ended;
   gone = count_by (λ n. n == c) net.told.gone;
+  failed = count_by (λ n. n == c) net.told.failed;
+  lacked = count_by (λ n. n == c) net.told.lacked;
+  refused = count_by (λ n. n == c) net.table.refusals;
   below = nat_lt c net.table.next;
   here = at c net.table;
 }
@@ -59,14 +66,6 @@ link c net = record {
 -- the number was given, and its connection is not open
 abbrev pub shut : Link → Bool
 shut l = l.below && is_none l.here
-
--- what happened elsewhere while a connection was looked at: how often a device failed and memory was wanting
-pub record Wants : Type 0 where
-  pub failures : ℕ
-  pub refusals : ℕ
-
-abbrev pub wants : Net → Wants
-wants net = record { failures = net.told.failures; refusals = net.table.refusals }
 
 -- What was held, followed by what came, is these messages, each after its length, followed by what is held now.
 pub record Heard (a b : Link) (rest : List ℕ) (messages : List (List ℕ)) : Type 0 where
@@ -121,34 +120,44 @@ pub record Finished (a b : Link) (messages sends : List (List ℕ)) : Type 0 whe
 abbrev pub Over : Link → List (List ℕ) → List ℕ → Type 0
 Over a sends message = max_waiting < length (unwritten a.here) + length (frames sends) + length (framed message)
 
--- Why a connection is closed: a device failed; no room was found for it; its peer takes no more; its server closed its side; its client
--- did, and has its answers; or more would wait to be written to it than may.
-abbrev pub Leaves : Link → Link → Wants → Wants → List (List ℕ) → List (List ℕ) → Type 0
-Leaves a b wa wb messages sends =
-    Rose wa.failures wb.failures
-    ⊎ (Rose wa.refusals wb.refusals
+-- Why a connection is closed, each cause of this connection alone: a device failed at it; memory
+-- was refused for it; its peer takes no more; its server closed its side; its client did, and has
+-- its answers; or more would wait to be written to it than may.
+abbrev pub Leaves : Link → Link → List (List ℕ) → List (List ℕ) → Type 0
+Leaves a b messages sends =
+    (a.failed < b.failed)
+    ⊎ ((a.refused < b.refused)
     ⊎ ((a.gone < b.gone)
     ⊎ (((a.ended < b.ended) × WasServer a b)
     ⊎ (Finished a b messages sends
     ⊎ ((message : List ℕ) × Over a sends message)))))
 
--- a closed connection stays so: it gives and takes nothing, and no message is of it or for it
+-- a closed connection stays so: it gives and takes nothing, nothing fails at it, and no message is
+-- of it or for it
 pub record Still (a b : Link) (messages sends : List (List ℕ)) : Type 0 where
   pub given : b.given ≡ a.given
   pub taken : b.taken ≡ a.taken
+  pub failed : b.failed ≡ a.failed
+  pub lacked : b.lacked ≡ a.lacked
+  pub refused : b.refused ≡ a.refused
   pub here : b.here ≡ None
   pub no_messages : messages ≡ []
   pub no_sends : sends ≡ []
 
--- How the connection of one number fares: these messages were taken from what was held of it and what came, and these were sent to it.
--- What its socket took, followed by what waits to be written, grew by those; it is who it was; it is opened once; and where it is closed
--- there is a cause.
-pub record Fares (a b : Link) (wa wb : Wants) (messages sends : List (List ℕ)) : Type 0 where
+-- How the connection of one number fares: these messages were taken from what was held of it and
+-- what came, and these were sent to it. What its socket took, followed by what waits to be written,
+-- grew by those; it is who it was; it is opened once; one at which a device failed, or of which a
+-- piece was refused room, is not open; and where it is closed there is a cause.
+pub record Fares (a b : Link) (messages sends : List (List ℕ)) : Type 0 where
   pub taken : (more : List ℕ) × (b.taken ≡ a.taken ++ more)
   pub came : (more : List Client) × (b.came ≡ a.came ++ more)
   pub dialed : (more : List Endpoint) × (b.dialed ≡ a.dialed ++ more)
   pub ended : a.ended ≤ b.ended
   pub gone : a.gone ≤ b.gone
+  pub failed : a.failed ≤ b.failed
+  pub lacked : a.lacked ≤ b.lacked
+  pub refused : a.refused ≤ b.refused
+  pub sound : shut b ≡ false → (b.failed ≡ a.failed) × (b.lacked ≡ a.lacked)
   pub below : a.below ≡ true → b.below ≡ true
   pub once : a.below ≡ true → (b.came ≡ a.came) × (b.dialed ≡ a.dialed)
   pub unopened : b.below ≡ false → (b.came ≡ a.came) × (b.dialed ≡ a.dialed)
@@ -156,7 +165,7 @@ pub record Fares (a b : Link) (wa wb : Wants) (messages sends : List (List ℕ))
   pub heard : shut b ≡ false → Heard a b (held b.here) messages
   pub promised : shut b ≡ false → Promised a b (unwritten b.here) sends
   pub own : (x : Connection) → b.here ≡ Some x → Own a b x
-  pub left : shut a ≡ false → HasBeen a b → shut b ≡ true → Leaves a b wa wb messages sends
+  pub left : shut a ≡ false → HasBeen a b → shut b ≡ true → Leaves a b messages sends
 
 -- What an open connection does while it stays open: octets come and messages are taken of them; messages are put behind what it is to write, and octets of that
 -- are taken; and its peer may close its side.
@@ -167,6 +176,9 @@ pub record Moves (a b : Link) (x y : Connection) (messages sends : List (List �
   pub came : b.came ≡ a.came
   pub dialed : b.dialed ≡ a.dialed
   pub gone : b.gone ≡ a.gone
+  pub failed : b.failed ≡ a.failed
+  pub lacked : b.lacked ≡ a.lacked
+  pub refused : a.refused ≤ b.refused
   pub ended : a.ended ≤ b.ended
   pub peer : y.peer ≡ x.peer
   pub asked : y.is_ended ≡ true → (x.is_ended ≡ true) ⊎ (a.ended < b.ended)
@@ -180,24 +192,27 @@ pub record Moves (a b : Link) (x y : Connection) (messages sends : List (List �
 
 -- so it fares
 abbrev pub MovedFares : Type 0
-MovedFares = (a b : Link) (wa wb : Wants) (x y : Connection) (messages sends : List (List ℕ)) → Moves a b x y messages sends → Fares a b wa wb messages sends
+MovedFares = (a b : Link) (x y : Connection) (messages sends : List (List ℕ)) → Moves a b x y messages sends → Fares a b messages sends
 
 -- A connection is closed, and has a cause to be.
-pub record Ends (a b : Link) (wa wb : Wants) (messages sends : List (List ℕ)) : Type 0 where
+pub record Ends (a b : Link) (messages sends : List (List ℕ)) : Type 0 where
   pub here : b.here ≡ None
   pub before : shut a ≡ false
   pub below : b.below ≡ true
   pub came : b.came ≡ a.came
   pub dialed : b.dialed ≡ a.dialed
   pub gone : a.gone ≤ b.gone
+  pub failed : a.failed ≤ b.failed
+  pub lacked : a.lacked ≤ b.lacked
+  pub refused : a.refused ≤ b.refused
   pub ended : a.ended ≤ b.ended
   pub took : List ℕ
   pub taken : b.taken ≡ a.taken ++ took
-  pub cause : Leaves a b wa wb messages sends
+  pub cause : Leaves a b messages sends
 
 -- so it fares
 abbrev pub EndedFares : Type 0
-EndedFares = (a b : Link) (wa wb : Wants) (messages sends : List (List ℕ)) → Ends a b wa wb messages sends → Fares a b wa wb messages sends
+EndedFares = (a b : Link) (messages sends : List (List ℕ)) → Ends a b messages sends → Fares a b messages sends
 
 -- a connection that is not touched
 pub record Same (a b : Link) : Type 0 where
@@ -207,5 +222,8 @@ pub record Same (a b : Link) : Type 0 where
   pub dialed : b.dialed ≡ a.dialed
   pub ended : b.ended ≡ a.ended
   pub gone : b.gone ≡ a.gone
+  pub failed : b.failed ≡ a.failed
+  pub lacked : b.lacked ≡ a.lacked
+  pub refused : b.refused ≡ a.refused
   pub below : b.below ≡ a.below
   pub here : b.here ≡ a.here

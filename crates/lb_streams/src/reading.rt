@@ -1,7 +1,7 @@
 //! What comes of sockets of streams: clients, octets, and ends.
 
 ghost use Rattle.std.specs.Prelude.{◌≡◌, ◌+◌, ◌≤◌};
-ghost use Rattle.lb_streams.specs.Goes.{Goes, TurnsOneAway, none, reads_of};
+ghost use Rattle.lb_streams.specs.Goes.{Goes, IsUndone, TurnsOneAway, none, reads_of};
 
 use crate::links::Links;
 use lb_connections::Connection;
@@ -65,7 +65,7 @@ impl<S: Streams> Links<S> {
                 Ok(()) => self.table.put(connection),
                 Err(refused) => {
                     self.sockets.close(number);
-                    self.table.lacks(refused);
+                    self.table.lacks(number, refused);
                 }
             },
             Ok(Read::Nothing) => self.table.put(connection),
@@ -82,16 +82,17 @@ impl<S: Streams> Links<S> {
             }
             Err(refused) => {
                 self.sockets.close(number);
-                self.table.lacks(refused);
+                self.table.lacks(number, refused);
             }
         }
     }
 
     /// Closes a connection whose peer has closed its side and has all that it waits for. One that
     /// was passed over and may be read now is told to be read once more.
-    #[tactic(auto, using(crate::proofs::Opening::goes_nothing))]
+    #[tactic(auto, using(crate::proofs::Opening::goes_nothing, crate::proofs::Settling::undone_settled))]
     pub(crate) fn settle(&mut self, number: u64)
         ensures goes { Goes self.old self.new none none }
+        ensures settled { IsUndone number self.new }
         ensures reads { reads_of self.new ≡ reads_of self.old }
     {
         if self.table.is_settled(number) {
@@ -101,8 +102,10 @@ impl<S: Streams> Links<S> {
     }
 
     /// The same, where there may be something to do.
+    #[tactic(auto, using(crate::proofs::Settling::undone_none, crate::proofs::Settling::undone_put))]
     fn see_to(&mut self, number: u64)
         ensures goes { Goes self.old self.new none none }
+        ensures settled { IsUndone number self.new }
         ensures reads { reads_of self.new ≡ reads_of self.old }
     {
         let Some(mut connection) = self.table.take(number) else {
@@ -119,7 +122,7 @@ impl<S: Streams> Links<S> {
 
 /// Has a connection that was passed over and may be read now be told once more.
 fn resume<S: Streams>(sockets: &mut S, connection: &mut Connection)
-    ensures rest { (connection.new.number ≡ connection.old.number) × (connection.new.peer ≡ connection.old.peer) × (connection.new.incoming ≡ connection.old.incoming) × (connection.new.outgoing ≡ connection.old.outgoing) × (connection.new.is_ended ≡ connection.old.is_ended) }
+    ensures rest { (connection.new.number ≡ connection.old.number) × (connection.new.peer ≡ connection.old.peer) × (connection.new.incoming ≡ connection.old.incoming) × (connection.new.outgoing ≡ connection.old.outgoing) × (connection.new.is_ended ≡ connection.old.is_ended) × (connection.new.owed ≡ connection.old.owed) }
     ensures same { S.told sockets.new ≡ S.told sockets.old }
 {
     if connection.is_passed_over && connection.may_be_read() {

@@ -3,7 +3,7 @@
 ghost use Rattle.std.specs.Prelude.{[], List, false, option_to_list, ◌++◌, ◌∷◌, ◌≡◌, ◌+◌, ◌≤◌};
 ghost use Rattle.lb_connections.specs.Table.{IsFirst};
 ghost use Rattle.lb_lines.specs.Stamps.{Stamp};
-ghost use Rattle.lb_streams.specs.Goes.{reads_of};
+ghost use Rattle.lb_streams.specs.Goes.{IsUndone, reads_of};
 ghost use Rattle.lb_streams.specs.Lines.{event_by};
 ghost use Rattle.lb_streams.specs.Steps.{is_blind, lines_of};
 ghost use Rattle.lb_streams.specs.Turn.{Turns};
@@ -145,7 +145,8 @@ impl<S: Streams, T: Taker, O: Outside, P: Posts> StreamLoop<S, T, O, P> {
     }
 
     /// Takes the message of an event off its connection, hands the event to the desk, and sends
-    /// what comes of it. The line has an event of the message's copy.
+    /// what comes of it. The connection is closed if it is at its end then. The line has an event
+    /// of the message's copy.
     fn answered(
         &mut self,
         roster: &Roster,
@@ -159,6 +160,7 @@ impl<S: Streams, T: Taker, O: Outside, P: Posts> StreamLoop<S, T, O, P> {
         requires made { event ≡ event_by now word number peer copy }
         requires first { IsFirst number peer copy self.old.net.table }
         ensures turns { (said : List Stamp) → self.old.said ≡ said ++ (now, word) ∷ [] → Turns roster.now.listed 1 0 (record self.old { said = said }) self.new (result ∷ []) false }
+        ensures settled { IsUndone number self.new.net }
         ensures reads { reads_of self.new.net ≡ reads_of self.old.net }
     {
         self.links.drop_first(number);

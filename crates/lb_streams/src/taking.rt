@@ -17,7 +17,7 @@ impl<S: Streams> Links<S> {
         if let Err(refused) = self.table.drop_first(number) {
             let _ = self.table.take(number);
             self.sockets.close(number);
-            self.table.lacks(refused);
+            self.table.lacks(number, refused);
         }
     }
 }

@@ -36,7 +36,7 @@ pub fn stream_turn<R: Wait, S: Streams, T: Taker, O: Outside, P: Posts, G: Gate>
     // The first device that failed is reported.
     ensures device { IfOk result (λ r. FirstFault r.device streams.old.net.told.failures streams.new.net.told.failures streams.old.outside streams.new.outside) }
     ensures held { IfOk result (λ r. r.held ≡ None) }
-    // At most 64 reads and accepts gave something.
+    // At most 64 reads and accepts were made, whatever came of them.
     ensures reads { IfOk result (λ _. reads_of streams.new.net ≤ reads_of streams.old.net + 64) }
     ensures refused { OnErr result (streams.new ≡ streams.old) }
 {

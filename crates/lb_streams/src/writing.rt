@@ -2,7 +2,7 @@
 
 ghost use Rattle.std.specs.Prelude.{IfErr, ◌≡◌, ◌+◌, ◌≤◌};
 ghost use Rattle.lb_connections.specs.Table.{at};
-ghost use Rattle.lb_streams.specs.Goes.{Goes, Misses, is_given_up, none, noted_by, sent_so, reads_of};
+ghost use Rattle.lb_streams.specs.Goes.{Goes, IsUndone, Misses, is_given_up, none, noted_by, sent_so, reads_of};
 
 use crate::links::Links;
 use lb_lines::{Peer, Streams, Why};
@@ -76,13 +76,15 @@ impl<S: Streams> Links<S> {
     }
 
     /// Writes what waits to be written to a connection, where it is not to wait for the turn's end.
+    /// A client that has closed its side and has all that it waits for then is closed: it may not
+    /// be noted as one that is looked at once more at the turn's end.
     #[tactic(auto, using(crate::proofs::Opening::goes_nothing))]
     fn write_urgent(&mut self, number: u64)
         ensures goes { Goes self.old self.new none none }
         ensures reads { reads_of self.new ≡ reads_of self.old }
     {
         if self.table.is_urgent(number) {
-            self.flush(number);
+            self.write(number);
         }
     }
 
@@ -136,8 +138,7 @@ impl<S: Streams> Links<S> {
         let Some(number) = self.next_touched() else {
             return;
         };
-        self.flush(number);
-        self.settle(number);
+        self.write(number);
     }
 
     /// A connection that is to be written at the end of a turn.
@@ -147,18 +148,20 @@ impl<S: Streams> Links<S> {
         self.table.next_touched()
     }
 
-    /// Writes to a connection whose socket takes more.
+    /// Writes to a connection whose socket takes more. One that is at its end then is closed.
     pub(crate) fn write(&mut self, number: u64)
         ensures goes { Goes self.old self.new none none }
+        ensures settled { IsUndone number self.new }
         ensures reads { reads_of self.new ≡ reads_of self.old }
     {
         self.flush(number);
         self.settle(number);
     }
 
-    /// Reads a connection that may have something.
+    /// Reads a connection that may have something. One that is at its end then is closed.
     pub(crate) fn read(&mut self, number: u64, now: u64)
         ensures goes { Goes self.old self.new none none }
+        ensures settled { IsUndone number self.new }
         ensures reads { reads_of self.new ≤ reads_of self.old + 1 }
     {
         self.pull(number, now);

@@ -40,4 +40,5 @@ loop-line-preserved g c =
       c.first_fault-device.ensures.clear inv.5 (λ e. line_clear fault (sym c.fault_in.ensures ∙ e)),
       search rules,
       search rules,
+      search rules,
     )

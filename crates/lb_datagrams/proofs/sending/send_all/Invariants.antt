@@ -16,3 +16,4 @@ invariant-loop-line g l =
     × (l.device ≢ Some devices.Outside)
     × (g.S.Datagrams.given l.sockets ≡ g.S.Datagrams.given l.fn.sockets)
     × (g.S.Datagrams.listens l.sockets ≡ g.S.Datagrams.listens l.fn.sockets)
+    × (g.S.Datagrams.reads l.sockets ≡ g.S.Datagrams.reads l.fn.sockets)

@@ -6,7 +6,7 @@ use Rattle.lb_datagrams.proofs.turn.all_rounds.Goals as goal
 pub loop-init : goal.loop-init
 loop-init g c =
     let old : World = world (g.S.Datagrams.given c.args.sockets.now) (g.S.Datagrams.taken c.args.sockets.now) (g.S.Datagrams.failures c.args.sockets.now) (g.T.Taker.answered c.args.taker.now) (g.T.Taker.pairs c.args.taker.now) (g.O.Outside.said c.args.outside.now) (g.O.Outside.failures c.args.outside.now) in
-    (rw c.requires.empty.0 (turns_none old), search rules, refl, search rules, search rules)
+    (rw c.requires.empty.0 (turns_none old), search rules, refl, search rules, search rules, omega arith)
 
 pub returns-in-Err-clause-turned : goal.returns-in-Err-clause-turned
 returns-in-Err-clause-turned g c =
@@ -36,6 +36,8 @@ loop-preserved g c =
     let mid : World = world (g.S.Datagrams.given c.loop.sockets) (g.S.Datagrams.taken c.loop.sockets) (g.S.Datagrams.failures c.loop.sockets) (g.T.Taker.answered c.loop.taker) (g.T.Taker.pairs c.loop.taker) (g.O.Outside.said c.loop.outside) (g.O.Outside.failures c.loop.outside) in
     let new : World = world (g.S.Datagrams.given c.one_round.new.sockets) (g.S.Datagrams.taken c.one_round.new.sockets) (g.S.Datagrams.failures c.one_round.new.sockets) (g.T.Taker.answered c.one_round.new.taker) (g.T.Taker.pairs c.one_round.new.taker) (g.O.Outside.said c.one_round.new.outside) (g.O.Outside.failures c.one_round.new.outside) in
     let clear = c.in-Ok.ensures.clear c.if-is_last.false in
+    let read = c.in-Ok.ensures.reads in
+    let earlier = inv.5 in
     let round : Round mid new c.loop.lines.items c.one_round.new.lines.items (option_to_list c.in-Ok.step.held) c.in-Ok.step.device = c.in-Ok.ensures.turned in
     let quiet : Round mid new c.loop.lines.items c.one_round.new.lines.items [] c.in-Ok.step.device = rw clear.0 at round in
     let first = c.first_fault-device.ensures.first _ _ _ _ _ _ inv.1 inv.0.first quiet.turns.first in (
@@ -44,4 +46,19 @@ loop-preserved g c =
       search rules,
       search rules,
       search rules,
+      omega (arith, read, earlier),
     )
+
+pub returns-in-Err-clause-reads : goal.returns-in-Err-clause-reads
+returns-in-Err-clause-reads g c =
+    let lt = c.loop-test.true in
+    let read = c.in-Err.ensures.reads in
+    let earlier = c.loop.invariant.5 in
+    omega (arith, lt, read, earlier)
+
+pub returns-then-is_last-clause-reads : goal.returns-then-is_last-clause-reads
+returns-then-is_last-clause-reads g c =
+    let lt = c.loop-test.true in
+    let read = c.in-Ok.ensures.reads in
+    let earlier = c.loop.invariant.5 in
+    omega (arith, lt, read, earlier)

@@ -1,4 +1,4 @@
-use Rattle.std.proofs.Common.{◌≡◌, ◌≢◌, ◌≤◌, [], Some, vec_capacity, vec_len}
+use Rattle.std.proofs.Common.{◌≡◌, ◌≢◌, ◌+◌, ◌≤◌, [], Some, vec_capacity, vec_len}
 use Rattle.lb_datagrams.specs.Turn.{Turns, world}
 use Rattle.lb_lines.specs.declared.report.DeviceFault.TheVariants as devices
 use Rattle.lb_datagrams.proofs.turn.all_rounds.Given as goal
@@ -13,3 +13,4 @@ invariant-loop g l =
     × (g.S.Datagrams.listens l.sockets ≡ g.S.Datagrams.listens l.fn.sockets)
     × (vec_len l.lines ≤ l.counter)
     × (64 ≤ vec_capacity l.lines)
+    × (g.S.Datagrams.reads l.sockets ≤ g.S.Datagrams.reads l.fn.sockets + l.counter)

@@ -2,12 +2,12 @@ use Rattle.std.proofs.Common.{rules, ◌≡◌, ◌+◌, ◌<◌, get_or, length
 use Rattle.std.proofs.lemmas.List.{get_or_read_under}
 use Rattle.lb_connections.proofs.AtPlaces.{takes_at}
 use Rattle.lb_connections.proofs.table.Connections.drop_first.Goals as goal
-use Rattle.lb_connections.specs.Table.{IsFirst, Table}
+use Rattle.lb_connections.specs.Table.{IsFirst, Table, firsts}
 use Rattle.lb_connections.specs.Taking.{Takes}
 
 pub returns : goal.returns
 returns c = λ peer message first.
-    let old : Table = record { next = c.self.inside.last + 1; slots = c.self.inside.slots.items; refusals = c.self.inside.refusals } in
+    let old : Table = record { next = c.self.inside.last + 1; slots = c.self.inside.slots.items; refusals = firsts c.self.inside.refusals.items } in
     let new : Table = record old { slots = set old.slots c.place_of.result (Some c.enqueue.new.self) } in
     let fits : c.place_of.result < length old.slots = search rules in
     let was : get_or old.slots c.place_of.result None ≡ Some c.in-Some.connection = sym (get_or_read_under old.slots c.place_of.result (length old.slots) c.index_mut.result.now None c.index_mut.ensures.value fits refl) ∙ c.in-Some.is in

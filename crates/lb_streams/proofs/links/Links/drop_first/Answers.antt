@@ -23,6 +23,6 @@ returns-in-Err-clause-goes g c = λ peer message first.
     let taken : Takes c.args.number message old.table mid = c.drop_first.ensures peer message is_first in
     let gone : Drops c.args.number old.table out taken.x = drops_swapped c.args.number old.table mid out taken.x taken.y taken.swaps
     (drops_taken c.args.number mid out c.take.result taken.y taken.swaps.is c.take.ensures.here c.take.ensures.number c.take.ensures.gone c.take.ensures.others c.take.ensures.clients c.take.ensures.same.0 c.take.ensures.same.1) in
-    let drop : Drops c.args.number old.table new.table taken.x = drops_wanting c.args.number old.table out new.table taken.x gone c.lacks.ensures.same c.lacks.ensures.refusals.1 in
-    let rose = rose_wanting old.table.refusals out.refusals new.table.refusals gone.refusals c.lacks.ensures.refusals.0 in
+    let drop : Drops c.args.number old.table new.table taken.x = drops_wanting c.args.number old.table out new.table taken.x gone c.lacks.ensures in
+    let rose = rose_wanting c.args.number old.table out new.table taken.x gone c.lacks.ensures in
     subst (λ (z : Net). Goes z new (just c.args.number message) none) c.self.view_is (goes_wanting_taken c.args.number old new taken.x message drop rose c.close.ensures.same refl)

@@ -1,9 +1,9 @@
-use Rattle.std.proofs.Common.{◌≡◌, true, refl, sym, ap, ◌∙◌, subst}
+use Rattle.std.proofs.Common.{◌≡◌, ◌+◌, true, arith, refl, sym, ap, ◌∙◌, subst}
 use Rattle.lb_connections.specs.Table.{Table, is_client}
 use Rattle.lb_connections.specs.declared.connection.Connection.{Connection}
-use Rattle.lb_lines.specs.Moves.{Faulty, Traffic}
+use Rattle.lb_lines.specs.Moves.{FaultyAt, Traffic, read_once}
 use Rattle.lb_lines.specs.declared.traffic.Peer.{Peer}
-use Rattle.lb_streams.proofs.Going.{Drops, drops, drops_wanting, goes_asked, goes_failed, goes_heard, goes_kept, goes_left, goes_wanting, goes_wanting_read, rose_wanting, swaps, swaps_by}
+use Rattle.lb_streams.proofs.Going.{Drops, drops, drops_wanting, goes_asked, goes_failed_read, goes_heard, goes_kept, goes_lacking, goes_left, goes_looked, goes_wanting_read, rose_wanting, swaps, swaps_by}
 use Rattle.lb_streams.proofs.links.Links.pull.Goals as goal
 use Rattle.lb_streams.specs.Goes.{Goes, none}
 use Rattle.lb_streams.specs.Links.{Net}
@@ -35,8 +35,8 @@ returns-in-Err-hear-clause-goes g c =
     let x : Connection = c.in-Some.connection in
     let new : Net = record { told = g.S.Streams.told c.close.new.self; table = c.lacks.new.self; device = c.self.inside.device } in
     let gone : Drops c.args.number old.table c.hear.new.self x = subst (λ (t : Table). Drops c.args.number old.table t x) (sym (c.hear.ensures.same)) (drops c.args.number old.table c.take.new.self x c.in-Some.ensures.here c.in-Some.ensures.number.1 c.take.ensures.gone c.take.ensures.others c.in-Some.ensures.clients c.take.ensures.same.0 c.take.ensures.same.1) in
-    let drop = drops_wanting c.args.number old.table c.hear.new.self new.table x gone c.lacks.ensures.same c.lacks.ensures.refusals.1 in
-    let rose = rose_wanting old.table.refusals c.hear.new.self.refusals new.table.refusals gone.refusals c.lacks.ensures.refusals.0 in
+    let drop = drops_wanting c.args.number old.table c.hear.new.self new.table x gone c.lacks.ensures in
+    let rose = rose_wanting c.args.number old.table c.hear.new.self new.table x gone c.lacks.ensures in
     let told = rw c.in-Ok-Piece.field-0-is at c.in-Ok-Piece.ensures.gave in
     subst (λ (z : Net). Goes z new none none) c.self.view_is (goes_wanting_read c.args.number old new x c.in-Ok-Piece.octets drop rose (c.close.ensures.same ∙ told) refl)
 
@@ -49,7 +49,7 @@ returns-in-Ok-Nothing-clause-goes g c =
     let swap = swaps c.args.number old.table c.take.new.self new.table x y c.in-Some.ensures.here c.in-Some.ensures.number.0 c.take.ensures.others c.in-Some.ensures.clients c.take.ensures.same.0 c.take.ensures.same.1
     c.put-in-Ok-Nothing.ensures.here c.put-in-Ok-Nothing.ensures.others c.put-in-Ok-Nothing.ensures.clients c.put-in-Ok-Nothing.ensures.same.0 c.put-in-Ok-Nothing.ensures.same.1 (refl) (refl) in
     let told = rw c.in-Ok-Nothing.field-0-is at c.in-Ok-Nothing.ensures.gave in
-    subst (λ (z : Net). Goes z new none none) c.self.view_is (goes_kept c.args.number old new x y swap told refl refl refl refl refl)
+    subst (λ (z : Net). Goes z new none none) c.self.view_is (goes_looked c.args.number (old.told.reads + 1) old new x y swap told (omega arith) refl refl refl refl refl)
 
 pub returns-in-Server-clause-goes : goal.returns-in-Server-clause-goes
 returns-in-Server-clause-goes g c =
@@ -78,9 +78,9 @@ returns-in-Ok-Failed-clause-goes g c =
     let new : Net = c.fails.new.self in
     let drop = drops c.args.number old.table c.take.new.self x c.in-Some.ensures.here c.in-Some.ensures.number.1 c.take.ensures.gone c.take.ensures.others c.in-Some.ensures.clients c.take.ensures.same.0 c.take.ensures.same.1 in
     let told = rw c.in-Ok-Failed.field-0-is at c.in-Ok-Failed.ensures.gave in
-    let faulty = subst (λ (t : Traffic). Faulty old.told t) (sym (ap (λ (z : Net). z.told) c.fails.ensures ∙ c.close-in-Ok-Failed.ensures.same)) told in
+    let faulty = subst (λ (t : Traffic). FaultyAt c.args.number (read_once old.told) t) (sym (ap (λ (z : Net). z.told) c.fails.ensures ∙ c.close-in-Ok-Failed.ensures.same)) told in
     let table : new.table ≡ c.take.new.self = ap (λ (z : Net). z.table) c.fails.ensures in
-    subst (λ (z : Net). Goes z new none none) c.self.view_is (goes_failed c.args.number old new x (subst (λ (t : Table). Drops c.args.number old.table t x) (sym table) drop) faulty (ap (λ (z : Net). z.device) c.fails.ensures))
+    subst (λ (z : Net). Goes z new none none) c.self.view_is (goes_failed_read c.args.number old new x (subst (λ (t : Table). Drops c.args.number old.table t x) (sym table) drop) faulty (ap (λ (z : Net). z.device) c.fails.ensures))
 
 pub returns-in-Err-clause-goes : goal.returns-in-Err-clause-goes
 returns-in-Err-clause-goes g c =
@@ -88,6 +88,6 @@ returns-in-Err-clause-goes g c =
     let x : Connection = c.in-Some.connection in
     let new : Net = record { told = g.S.Streams.told c.close-in-Err.new.self; table = c.lacks-in-Err.new.self; device = c.self.inside.device } in
     let gone : Drops c.args.number old.table c.take.new.self x = drops c.args.number old.table c.take.new.self x c.in-Some.ensures.here c.in-Some.ensures.number.1 c.take.ensures.gone c.take.ensures.others c.in-Some.ensures.clients c.take.ensures.same.0 c.take.ensures.same.1 in
-    let drop = drops_wanting c.args.number old.table c.take.new.self new.table x gone c.lacks-in-Err.ensures.same c.lacks-in-Err.ensures.refusals.1 in
-    let rose = rose_wanting old.table.refusals c.take.new.self.refusals new.table.refusals gone.refusals c.lacks-in-Err.ensures.refusals.0 in
-    subst (λ (z : Net). Goes z new none none) c.self.view_is (goes_wanting c.args.number old new x drop rose (c.close-in-Err.ensures.same ∙ c.in-Err.ensures.gave) refl)
+    let drop = drops_wanting c.args.number old.table c.take.new.self new.table x gone c.lacks-in-Err.ensures in
+    let rose = rose_wanting c.args.number old.table c.take.new.self new.table x gone c.lacks-in-Err.ensures in
+    subst (λ (z : Net). Goes z new none none) c.self.view_is (goes_lacking c.args.number old new x drop rose (c.close-in-Err.ensures.same ∙ c.in-Err.ensures.gave) refl)

@@ -4,4 +4,4 @@ use Rattle.lb_streams.specs.Goes.{none}
 use Rattle.lb_streams.proofs.links.Links.write_next.Goals as goal
 
 pub returns-clause-goes : goal.returns-clause-goes
-returns-clause-goes g c = goes_before _ _ _ none none (goes_before _ _ _ none none (goes_nothing _ _ c.next_touched.ensures) c.flush.ensures.goes) c.settle.ensures.goes
+returns-clause-goes g c = goes_before _ _ _ none none (goes_nothing _ _ c.next_touched.ensures) c.write.ensures.goes
