@@ -126,12 +126,7 @@ impl Setup {
 }
 
 /// Carries out the command of the line with a number.
-fn edit(
-    alloc: Global,
-    number: u64,
-    command: Command,
-    balancer: &mut Balancer,
-) -> Result<(), Stop>
+fn edit(alloc: Global, number: u64, command: Command, balancer: &mut Balancer) -> Result<(), Stop>
     ensures done { OnOk result ((answer : Answer) × Answers balancer.old (Edit 0 command) answer balancer.new × (refusal_of answer ≡ None)) }
     ensures refused { IfErr result (λ stop. StopsBy stop (λ end. (answer : Answer) × (mid : Plain) × Answers balancer.old (Edit 0 command) answer mid × IsSomeAnd (refusal_of answer) (λ fault. end ≡ Err (Refused number fault)))) }
 {

@@ -48,9 +48,8 @@ fn changed_server(answer: &Answer) -> Option<ServerId>
     ensures { result ≡ spec.changed_server answer.now }
 {
     match answer {
-        Answer::Edited(
-            Note::ServerAdded(id) | Note::ServerRemoved(id) | Note::ServerMode(id, _),
-        ) => Some(*id),
+        Answer::Edited(Note::ServerAdded(id) | Note::ServerRemoved(id) | Note::ServerMode(id, _)) =>
+            Some(*id),
         _ => None,
     }
 }
