@@ -30,8 +30,10 @@ pub struct ServerPlace {
 pub fn place_of(balancer: &Balancer, id: ServerId) -> Option<ServerPlace>
     ensures { result ≡ server_place balancer.now id }
 {
-    let loaded = found(balancer.servers(), id)?;
-    Some(placed(balancer.checks(), &loaded.server))
+    match found(balancer.servers(), id) {
+        Some(loaded) => Some(placed(balancer.checks(), &loaded.server)),
+        None => None,
+    }
 }
 
 /// Where the servers of a balancer are, by number. The one error is lack of memory.
@@ -43,7 +45,7 @@ pub fn places(alloc: Global, balancer: &Balancer) -> Result<Vec<ServerPlace>, Al
 
 /// The server with a number.
 fn found(servers: &[Loaded], id: ServerId) -> Option<&Loaded>
-    ensures { option_map (λ l. server_of l.now) result ≡ find (has_number id) (map server_of servers.now) }
+    ensures { option_map (λ l. l.now) result ≡ find (λ l. has_number id (server_of l)) servers.now }
 {
     servers.iter().find(|loaded| loaded.server.id.0 == id.0)
 }
@@ -54,7 +56,7 @@ fn all_placed(
     checks: &[Check],
     servers: &[Loaded],
 ) -> Result<Vec<ServerPlace>, AllocError>
-    ensures { IfOk result (λ places. places.items ≡ map (placed checks.now) (map server_of servers.now)) }
+    ensures { IfOk result (λ places. places.items ≡ map (λ l. placed checks.now (server_of l)) servers.now) }
 {
     let mut places = Vec::with_capacity(alloc, servers.len())?;
     for loaded in servers {
