@@ -2,7 +2,7 @@
 
 ghost use Rattle.std.specs.Prelude.{All, IfErr, IfOk, IfSome, IsErrAnd, IsSome, IsTrue, OnErr, OnOk, length, map, min, sum_by, vec_len, ◌++◌, ◌+◌, ◌-◌, ◌<◌, ◌==◌, ◌^◌, ◌⊎◌, ◌∷◌, ◌≡◌, ◌↔◌, ◌≤◌, ℕ, []};
 ghost use Rattle.std.specs.List.{list_any, range_with_len};
-ghost use Rattle.lb_core.specs.Plain.{Plain};
+ghost use Rattle.lb_core.specs.Plain.{Plain as State};
 ghost use Rattle.lb_core.specs.Snapshot.{snapshot_of};
 ghost use Rattle.lb_core.specs.Step.{Answers};
 ghost use Rattle.lb_desk.specs.Book.{Booked, Counted, Keeps};
@@ -158,7 +158,7 @@ impl<J: Naming> Desk<J> {
         ensures calls { OnOk result (seat.new.calls ≡ seat.old.calls + 1) }
         ensures receipts { IfOk result (λ r. (seat.new.receipts ≡ seat.old.receipts) ⊎ ((place : ℕ) × (place < J.limit) × (seat.new.receipts ≡ seat.old.receipts ++ receipt place event r.0 ∷ []))) }
         ensures noted { IfOk result (λ r. IsStep event r.0 noted.new) }
-        ensures read { IfOk result (λ r. (old new : Plain) × Answers old event r.0 new × OnceReturnsAtBoth F.FnOnce reader new r.0 r.1) }
+        ensures read { IfOk result (λ r. (old new : State) × Answers old event r.0 new × OnceReturnsAtBoth F.FnOnce reader new r.0 r.1) }
         ensures full { seat.old.calls ≡ 2 ^ 64 - 1 → IsErrAnd result (λ fault. fault.0 ≡ CountFull) }
         ensures back { IfErr result (λ fault. fault.1 ≡ event) }
         ensures same { OnErr result (seat.new ≡ seat.old) }

@@ -1,9 +1,14 @@
 //! The event handler of a loop: a seat at a desk.
 
 ghost use Rattle.std.specs.Prelude.{IfErr, IfOk, OnErr, OnOk, ◌++◌, ◌+◌, ◌<◌, ◌∷◌, ◌≡◌, ◌⊎◌, ℕ, []};
+ghost use Rattle.lb_core.specs.Plain.{Plain};
+ghost use Rattle.lb_core.specs.Step.{Answers};
+ghost use Rattle.lb_desk.specs.Desk.{OnceReturnsAtBoth};
 ghost use Rattle.lb_desk.specs.Entry.{receipt};
+ghost use Rattle.lb_lines.specs.Counts.{Grows};
+ghost use Rattle.lb_loops.specs.Caller.{pairs_of};
 
-use lb_core::{Answer, Event, Noted};
+use lb_core::{Answer, Balancer, Event, Noted};
 use lb_desk::{Desk, DeskFault, Naming, Seat};
 use lb_lines::Taker;
 use lb_recent::{Before, Ring};
@@ -67,6 +72,24 @@ impl<'a, R: Wait, J: Naming> Caller<'a, R, J> {
     /// The desk that it calls.
     pub fn desk(&self) -> &'a Desk<J> {
         self.desk
+    }
+
+    /// One call as `take` makes it, and what a reader makes of the balancer and of the answer right
+    /// after its step, before any other call. It is for edits: no query that ends and no server's
+    /// time is noted.
+    pub fn take_then<T, F: FnOnce(&Balancer, &Answer) -> T>(
+        &mut self,
+        event: Event,
+        reader: F,
+    ) -> Result<(Answer, T), (DeskFault, Event)>
+        requires { F.IsAlwaysCallable reader }
+        ensures answered { IfOk result (λ r. (self.new.seat.calls ≡ self.old.seat.calls + 1) × Grows (pairs_of self.old.seat.receipts) (pairs_of self.new.seat.receipts) ((event, r.0) ∷ [])) }
+        ensures read { IfOk result (λ r. (old new : Plain) × Answers old event r.0 new × OnceReturnsAtBoth F.FnOnce reader new r.0 r.1) }
+        ensures fault { IfErr result (λ fault. (self.new.seat.calls ≡ self.old.seat.calls) × (pairs_of self.new.seat.receipts ≡ pairs_of self.old.seat.receipts) × (fault.1 ≡ event)) }
+    {
+        let mut noted = Noted::none();
+        self.desk
+            .call_then(self.rt, &mut self.seat, event, &mut noted, reader)
     }
 
     /// The seat, when the loop has ended.

@@ -1,4 +1,5 @@
 pub mod Outputs
+pub mod ServerLists
 pub mod Replays
 pub mod Takes
 pub mod Texts

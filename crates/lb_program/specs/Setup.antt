@@ -18,21 +18,17 @@ use Rattle.lb_command.specs.declared.setup.SetupLine.{SetupLine}
 use Rattle.lb_command.specs.declared.setup.SetupLine.TheVariants as setups
 use Rattle.lb_program.specs.Faults.{End}
 use Rattle.lb_program.specs.Input.{is_told}
-use Rattle.lb_program.specs.Servers.{followed, stated_by}
 use Rattle.lb_program.specs.declared.faults.Stop.{Stop}
 use Rattle.lb_program.specs.declared.faults.Stop.TheVariants.{BadLine, Refused, NotUtf8, Input, Output, CountFull, NoMemory}
-use Rattle.lb_program.specs.declared.servers.ServerPlace.{ServerPlace}
 
--- what a setup file states beside the balancer: the listeners in the order of their lines; how many calls the log holds; and the servers
--- as the commands leave them
+-- what a setup file states beside the balancer: the listeners in the order of their lines, and how many calls the log holds
 pub record Stated : Type 0 where
   pub listeners : List Listener
   pub log : ℕ
-  pub servers : List ServerPlace
 
 -- where no line states anything: 1,000 calls
 abbrev pub nothing_stated : Stated
-nothing_stated = record { listeners = []; log = 1000; servers = [] }
+nothing_stated = record { listeners = []; log = 1000 }
 
 -- a line with its number before others, where it is told
 abbrev pub told_before : ℕ → List ℕ → List (ℕ × List ℕ) → List (ℕ × List ℕ)
@@ -93,10 +89,10 @@ abbrev pub ByRefusal : Option EditFault → ℕ → Others → Stated → Plain 
 ByRefusal (Some fault) n others stated balancer end = end ≡ Err (Refused n fault)
 ByRefusal None n others stated balancer end = others stated balancer end
 
--- a command is an edit at the moment 0, which the list of servers follows
+-- a command is an edit at the moment 0
 abbrev pub ByEdit : Command → ℕ → Others → Stated → Plain → SetupEnd → Type 0
 ByEdit command n others stated old end = (answer : Answer) × (mid : Plain) × Answers old (events.Edit 0 command) answer mid
-    × ByRefusal (refusal_of answer) n others (record stated { servers = followed (stated_by command) answer stated.servers }) mid end
+    × ByRefusal (refusal_of answer) n others stated mid end
 
 -- what a line does that is read so, before others: a bad line ends the reading, a listener goes behind those before it, and the last line
 -- that states the log's length counts

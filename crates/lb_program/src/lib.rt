@@ -17,5 +17,5 @@ pub use faults::{Ended, Stop, closed_line};
 pub use input::FullCount;
 pub use output::write_line;
 pub use replaying::{replay, replay_told};
-pub use servers::{Expected, ServerList, ServerPlace, carry_out};
+pub use servers::{ServerPlace, place_of, places};
 pub use setup::{Setup, read_setup};

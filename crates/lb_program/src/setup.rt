@@ -1,22 +1,20 @@
 //! Reading a setup file: what it states, and the balancer that its commands leave.
 
-ghost use Rattle.std.specs.Prelude.{◌≡◌, List, ℕ, Err, None, IfErr, IfOk, IsSomeAnd, OnOk};
+ghost use Rattle.std.specs.Prelude.{◌≡◌, List, ℕ, Err, None, IfErr, IsSomeAnd, OnOk};
 ghost use Rattle.lb_core.specs.Plain.{Plain};
 ghost use Rattle.lb_core.specs.Step.{Answers};
 ghost use Rattle.lb_core.specs.declared.answer.Answer.{Answer};
 ghost use Rattle.lb_core.specs.declared.event.Event.TheVariants.{Edit};
-ghost use Rattle.lb_program.specs.Servers.{followed, stated_by};
 ghost use Rattle.lb_program.specs.Setup.{Applies, AppliesAll, EndsWith, SetupEnd, StopsBy, ninth_listener, nothing_stated, refusal_of, told_before, told_lines};
 ghost use Rattle.lb_program.specs.declared.faults.Stop.TheVariants.{Refused};
 
 use crate::faults::Stop;
 use crate::line::{LineKind, kind_of};
-use crate::servers::{ServerList, ServerPlace, carry_out};
 use lb_command::{
     CommandFault, FaultKind, Listener, MAX_LINE, SetupLine, begins_listen, leading_spaces,
     read_setup_line,
 };
-use lb_core::{Answer, Balancer, BoxedCommand, Command};
+use lb_core::{Answer, Balancer, BoxedCommand, Command, Event};
 use std::alloc::{AllocError, Global};
 use std::marker::Model;
 
@@ -26,12 +24,12 @@ const MAX_LISTENERS: usize = 8;
 /// How many calls the log holds where no line states it.
 const LOG: u32 = 1_000;
 
-/// What a setup file states beside what its commands leave in the balancer. A contract sees the listeners, the log's limit and the servers.
+/// What a setup file states beside what its commands leave in the balancer. A contract sees the
+/// listeners and the log's limit.
 #[derive(Debug, Drop)]
 pub struct Setup {
     listeners: Vec<Listener>,
     log: u32,
-    servers: ServerList,
 }
 
 impl Model for Setup {
@@ -39,19 +37,18 @@ impl Model for Setup {
 
     ghost Value = { Stated };
 
-    ghost view = { λ s. record { listeners = s.listeners.items; log = s.log; servers = s.servers } };
+    ghost view = { λ s. record { listeners = s.listeners.items; log = s.log } };
 }
 
 impl Setup {
-    /// Nothing stated. The one error is want of memory.
-    fn new(alloc: Global) -> Result<Setup, AllocError>
-        ensures { IfOk result (λ setup. setup ≡ nothing_stated) }
+    /// Nothing stated. It takes no memory.
+    fn new(alloc: Global) -> Setup
+        ensures { result ≡ nothing_stated }
     {
-        Ok(Setup {
+        Setup {
             listeners: Vec::new(alloc),
             log: LOG,
-            servers: ServerList::new(alloc)?,
-        })
+        }
     }
 
     /// The listeners in the order of their lines: the place of one is what the origin of its clients has as its front.
@@ -67,21 +64,6 @@ impl Setup {
     {
         self.log
     }
-
-    /// The servers as the commands leave them.
-    pub fn servers(&self) -> &[ServerPlace]
-        ensures { result.now ≡ self.now.servers }
-    {
-        self.servers.as_slice()
-    }
-
-    /// The list of the servers, which further commands can be followed in.
-    pub fn into_servers(self) -> ServerList
-        ensures { result ≡ self.servers }
-    {
-        let Setup { servers, .. } = self;
-        servers
-    }
 }
 
 /// Reads a setup file: its commands are applied to an empty balancer, one after the other, at the moment 0. Lines count from 1; blank
@@ -91,7 +73,7 @@ pub fn read_setup(alloc: Global, text: &str) -> Result<(Setup, Balancer), Stop>
     ensures { AppliesAll text.now result }
 {
     let mut balancer = Balancer::new(alloc)?;
-    let mut setup = Setup::new(alloc)?;
+    let mut setup = Setup::new(alloc);
     setup.apply(alloc, text, &mut balancer)?;
     Ok((setup, balancer))
 }
@@ -137,27 +119,21 @@ impl Setup {
                 self.log = length;
                 Ok(())
             }
-            Ok(SetupLine::Edit(command)) => self.edit(alloc, number, command, balancer),
+            Ok(SetupLine::Edit(command)) => edit(alloc, number, command, balancer),
             Err(fault) => Err(Stop::BadLine { number, fault }),
         }
     }
+}
 
-    /// Carries out the command of the line with a number.
-    fn edit(
-        &mut self,
-        alloc: Global,
-        number: u64,
-        command: Command,
-        balancer: &mut Balancer,
-    ) -> Result<(), Stop>
-        ensures done { OnOk result ((answer : Answer) × Answers balancer.old (Edit 0 command) answer balancer.new × (refusal_of answer ≡ None) × (self.new ≡ record self.old { servers = followed (stated_by command) answer self.old.servers })) }
-        ensures refused { IfErr result (λ stop. StopsBy stop (λ end. (answer : Answer) × (mid : Plain) × Answers balancer.old (Edit 0 command) answer mid × IsSomeAnd (refusal_of answer) (λ fault. end ≡ Err (Refused number fault)))) }
-    {
-        let command = BoxedCommand::new(alloc, command)?;
-        match carry_out(balancer, &mut self.servers, 0, command) {
-            Answer::Refused(fault) => Err(Stop::Refused { number, fault }),
-            _ => Ok(()),
-        }
+/// Carries out the command of the line with a number.
+fn edit(alloc: Global, number: u64, command: Command, balancer: &mut Balancer) -> Result<(), Stop>
+    ensures done { OnOk result ((answer : Answer) × Answers balancer.old (Edit 0 command) answer balancer.new × (refusal_of answer ≡ None)) }
+    ensures refused { IfErr result (λ stop. StopsBy stop (λ end. (answer : Answer) × (mid : Plain) × Answers balancer.old (Edit 0 command) answer mid × IsSomeAnd (refusal_of answer) (λ fault. end ≡ Err (Refused number fault)))) }
+{
+    let command = BoxedCommand::new(alloc, command)?;
+    match balancer.step(Event::Edit { now: 0, command }) {
+        Answer::Refused(fault) => Err(Stop::Refused { number, fault }),
+        _ => Ok(()),
     }
 }
 

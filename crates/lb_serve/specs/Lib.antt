@@ -10,6 +10,7 @@ pub use Rattle.lb_program.specs.Servers
 pub use Rattle.lb_program.specs.Setup
 pub mod Fault
 pub mod Listening
+pub mod News
 pub mod Operator
 pub mod Sentences
 pub mod Serving

@@ -1,7 +1,6 @@
 -- What the console says to an operator's lines.
-use Rattle.std.specs.Prelude.{◌≡◌, ◌⊎◌, ◌==◌, if◌then◌else◌, ℕ, ◌+◌, ◌++◌, List, [], ◌∷◌, length, codes, string_bytes, Option, None, Some, Result, Ok, Err, IsErr}
+use Rattle.std.specs.Prelude.{◌≡◌, ◌⊎◌, ℕ, ◌+◌, ◌++◌, List, [], ◌∷◌, codes, string_bytes, None, Some, Result, Ok, Err, IsErr}
 use Rattle.std.specs.Fmt.{decimal}
-use Rattle.std.specs.Int.NonZero.{non_zero_u16_get}
 use Rattle.lb_command.specs.Answers.{line_of}
 use Rattle.lb_command.specs.Commands.{command_of}
 use Rattle.lb_command.specs.Fault.{fault_name, fault_number}
@@ -14,27 +13,15 @@ use Rattle.lb_core.specs.declared.event.Event.TheVariants.{Edit}
 use Rattle.lb_desk.specs.declared.fault.DeskFault.{DeskFault}
 use Rattle.lb_desk.specs.declared.fault.DeskFault.TheVariants as calling
 use Rattle.lb_lines.specs.Counts.{Grows}
-use Rattle.lb_program.specs.Servers.{followed, stated_by}
 use Rattle.lb_program.specs.declared.servers.ServerPlace.{ServerPlace}
-use Rattle.lb_lines.specs.declared.endpoint.Endpoint.{Endpoint}
-use Rattle.lb_lines.specs.Roster.{Rostered, most_servers, others, place_in}
-use Rattle.lb_lines.specs.declared.roster.Place.{Place}
-use Rattle.lb_wire.specs.declared.ids.ServerId.{ServerId}
+use Rattle.lb_lines.specs.Roster.{Rostered}
 use Rattle.lb_words.specs.Word.{console_word}
 use Rattle.lb_words.specs.declared.word.Word.{Word}
 use Rattle.lb_words.specs.declared.word.Word.TheVariants as words
+use Rattle.lb_serve.specs.News.{IsNewsOf, Puts}
+use Rattle.lb_serve.specs.declared.news.News.{News}
 use Rattle.lb_serve.specs.declared.operator.Said.{Said}
 use Rattle.lb_serve.specs.declared.operator.Said.TheVariants.{Line, Lines, Quit, Stop}
-
--- where a server is, as the loops have to know it
-abbrev pub place_of : ServerPlace → Place
-place_of server = record { at = record { addr = server.addr; port = non_zero_u16_get server.port }; mode = server.mode; must_resolve = server.must_resolve }
-
--- a server is put into a roster, or 256 others stand in it, and then nothing has changed
-abbrev pub Puts : ServerPlace → Rostered → Rostered → Type 0
-Puts server old new =
-    ((s : ServerId) → place_in s new.listed ≡ (if server.id.0 == s.0 then Some (place_of server) else place_in s old.listed))
-    ⊎ ((length (others server.id old.listed) ≡ most_servers) × (new ≡ old))
 
 -- the line that tells the fault of a line
 abbrev pub fault_text : CommandFault → List ℕ
@@ -50,11 +37,10 @@ abbrev pub IsLine : Said → List ℕ → Type 0
 IsLine (Line text) line = string_bytes text ≡ line
 IsLine _ line = ⊥
 
--- the number of a handler's answered calls, its pairs, and the servers
+-- the number of a handler's answered calls, and its pairs
 pub record Told : Type 0 where
   pub answered : ℕ
   pub pairs : List (Event × Answer)
-  pub servers : List ServerPlace
 
 -- a line is told a fault for want of memory, and nothing was done
 pub record Wants (said : Said) (old new : Told) : Type 0 where
@@ -69,22 +55,24 @@ pub record Refuses (said : Said) (old new : Told) : Type 0 where
   pub is : IsLine said (desk_text fault)
   pub same : new ≡ old
 
--- a command was an edit, which was answered so; the list of servers follows it
+-- a command was an edit, which was answered so by a step of the balancer; the loops learn what is so right after it
 pub record Answers (command : Command) (said : Said) (old new : Told) : Type 0 where
   pub now : ℕ
   pub answer : Answer
+  pub news : News
   pub is : IsLine said (line_of answer)
   pub counted : new.answered ≡ old.answered + 1
   pub pair : Grows old.pairs new.pairs ((Edit now command, answer) ∷ [])
-  pub followed : new.servers ≡ followed (stated_by command) answer old.servers
+  pub learned : IsNewsOf (Edit now command) answer news
 
--- a command was an edit, which was carried out; the list of servers follows it, and nothing is said
+-- a command was an edit, which was carried out, and of which the loops learn too; nothing is said
 pub record Carries (command : Command) (old new : Told) : Type 0 where
   pub now : ℕ
   pub answer : Answer
+  pub news : News
   pub counted : new.answered ≡ old.answered + 1
   pub pair : Grows old.pairs new.pairs ((Edit now command, answer) ∷ [])
-  pub followed : new.servers ≡ followed (stated_by command) answer old.servers
+  pub learned : IsNewsOf (Edit now command) answer news
 
 -- what came of a line with this command
 abbrev pub Took : Command → Said → Told → Told → Type 0

@@ -5,7 +5,7 @@ use crate::hears::Hears;
 use crate::opening::Opening;
 use crate::operator::{Operator, Said};
 use crate::typed::{Typed, Whole};
-use lb_loops::{Outside, Taker};
+use lb_loops::Outside;
 use mio::net::TcpStream;
 use std::alloc::{AllocError, Global};
 use std::io;
@@ -94,7 +94,7 @@ impl Client {
     }
 
     /// The next thing that can be done: to write, to answer a line, or to read.
-    pub(crate) fn step<R: Wait + Clock, T: Taker + Hears, O: Outside>(
+    pub(crate) fn step<R: Wait + Clock, T: Hears, O: Outside>(
         &mut self,
         rt: &R,
         operator: &mut Operator<T, O>,
@@ -140,7 +140,7 @@ impl Client {
 
     /// Looks at what was read, up to the end of a line. If memory is refused for it, the client
     /// is to be closed.
-    fn look<R: Wait + Clock, T: Taker + Hears, O: Outside>(
+    fn look<R: Wait + Clock, T: Hears, O: Outside>(
         &mut self,
         rt: &R,
         operator: &mut Operator<T, O>,
@@ -168,7 +168,7 @@ impl Client {
 
     /// Answers the line that has ended. After a first one that is a request of HTTP the client is
     /// closed, and no further line of it is carried out.
-    fn end_line<R: Wait + Clock, T: Taker + Hears, O: Outside>(
+    fn end_line<R: Wait + Clock, T: Hears, O: Outside>(
         &mut self,
         rt: &R,
         operator: &mut Operator<T, O>,

@@ -6,7 +6,7 @@ use crate::halt::Halt;
 use crate::hears::Hears;
 use crate::notices::Notices;
 use crate::operator::Operator;
-use lb_loops::{Outside, Taker};
+use lb_loops::Outside;
 use mio::event::Event;
 use mio::net::{TcpListener, TcpStream};
 use mio::unix::SourceFd;
@@ -43,7 +43,7 @@ const SWEEP: u64 = 2;
 
 /// The console's thread: its listeners, the client that is served, and what answers its lines.
 #[derive(Drop)]
-pub(crate) struct Console<'a, R: Wait + Clock, T: Taker + Hears, O: Outside> {
+pub(crate) struct Console<'a, R: Wait + Clock, T: Hears, O: Outside> {
     rt: &'a R,
     alloc: Global,
     poll: Poll,
@@ -70,7 +70,7 @@ pub(crate) struct Console<'a, R: Wait + Clock, T: Taker + Hears, O: Outside> {
     fault: Option<Fault>,
 }
 
-impl<'a, R: Wait + Clock, T: Taker + Hears, O: Outside> Console<'a, R, T, O> {
+impl<'a, R: Wait + Clock, T: Hears, O: Outside> Console<'a, R, T, O> {
     /// One that listens with these. The errors are the system's, and lack of memory.
     pub(crate) fn made<N: Net>(
         rt: &'a R,

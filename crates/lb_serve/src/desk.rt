@@ -16,7 +16,7 @@ use lb_core::Balancer;
 use lb_desk::{CloseFault, Desk, Naming, Seat};
 use lb_doh::posts_cross_threads;
 use lb_loops::{Caller, Ended, callers_cross_threads};
-use lb_program::{Setup, closed_line, write_line};
+use lb_program::{ServerPlace, Setup, closed_line, write_line};
 use lb_sockets::{
     moments_cross_threads, sockets_cross_threads, streams_cross_threads, wakers_are_shared,
 };
@@ -36,14 +36,16 @@ use std::{io, net};
 /// clock, of the console, and of the front of DNS on HTTP.
 const OTHERS: u8 = 4;
 
-/// What a setup file states, what the switches ask for, and the sockets that listen.
-pub(crate) type Given = (Setup, Switches, Listening);
+/// What a setup file states, the servers that it leaves, what the switches ask for, and the sockets
+/// that listen.
+pub(crate) type Given = (Setup, Vec<ServerPlace>, Switches, Listening);
 
-/// What a setup file states, what the switches ask for, the sockets that listen, and the file to
-/// which the log is written once it was found true.
+/// What a setup file states, the servers of the balancer that it leaves, what the switches ask for,
+/// the sockets that listen, and the file to which the log is written once it was found true.
 #[derive(Drop)]
 pub(crate) struct Ready<L> {
     pub(crate) setup: Setup,
+    pub(crate) servers: Vec<ServerPlace>,
     pub(crate) switches: Switches,
     pub(crate) listening: Listening,
     pub(crate) log: Option<LogFile<L>>,
@@ -124,11 +126,12 @@ fn serve_named<
     };
     let Ready {
         setup,
+        servers,
         switches,
         listening,
         log,
     } = ready;
-    let given = (setup, switches, listening);
+    let given = (setup, servers, switches, listening);
     match run_at_desk((rt, alloc), &desk, &mut seats, others, given, output) {
         Ok(left) => close(alloc, desk, seats, left, log, output),
         Err(fault) => Err(fault),

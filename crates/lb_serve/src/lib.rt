@@ -13,6 +13,7 @@ mod halt;
 mod hears;
 mod listening;
 mod log;
+mod news;
 mod notices;
 mod opening;
 mod operator;

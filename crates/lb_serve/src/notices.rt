@@ -2,7 +2,7 @@
 
 use crate::hears::Hears;
 use crate::operator::Operator;
-use lb_loops::{Outside, Taker};
+use lb_loops::Outside;
 use libc;
 use libc::types::pollfd;
 use std::alloc::{AllocError, Global};
@@ -55,7 +55,7 @@ impl Notices {
     }
 
     /// Looks, if it is time, and says what changed.
-    pub(crate) fn look<R: Clock, T: Taker + Hears, O: Outside>(
+    pub(crate) fn look<R: Clock, T: Hears, O: Outside>(
         &mut self,
         rt: &R,
         operator: &mut Operator<T, O>,
@@ -74,7 +74,7 @@ impl Notices {
     }
 
     /// Says how many sentences were left out, and what changed. The one error is lack of memory.
-    fn say_changes<T: Taker + Hears, O: Outside>(
+    fn say_changes<T: Hears, O: Outside>(
         &mut self,
         operator: &mut Operator<T, O>,
     ) -> Result<(), AllocError> {

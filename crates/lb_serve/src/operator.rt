@@ -4,16 +4,16 @@ ghost use Rattle.std.specs.Prelude.{IfErr, IfOk, string_bytes, ◌≡◌};
 ghost use Rattle.lb_command.specs.Reading.{max_line};
 ghost use Rattle.lb_command.specs.declared.fault.CommandFault.{CommandFault};
 ghost use Rattle.lb_command.specs.declared.fault.FaultKind.TheVariants as kinds;
-ghost use Rattle.lb_serve.specs.Operator as spec;
-ghost use Rattle.lb_serve.specs.Operator.{IsHeard, IsLine, IsRosterOf, Leaves, MayCarry, Puts, Says, Took, desk_text, fault_text};
+ghost use Rattle.lb_serve.specs.Operator.{IsHeard, IsLine, IsRosterOf, Leaves, MayCarry, Says, Took, desk_text, fault_text};
 
 use crate::fault::Fault;
 use crate::hears::Hears;
+use crate::news::{News, put, withdraw};
 use lb_command::{CommandFault, FaultKind, answer_line, read_command};
-use lb_core::{Answer, BoxedCommand, Command, Event, Note};
+use lb_core::{Answer, BoxedCommand, Command, Note};
 use lb_desk::DeskFault;
-use lb_loops::{Endpoint, Outside, Place, Roster, RosterFull, Taker};
-use lb_program::{Expected, ServerList, ServerPlace};
+use lb_loops::{Endpoint, Outside, Place, Roster, RosterFull};
+use lb_program::ServerPlace;
 use lb_servers::Mode;
 use lb_wire::ServerId;
 use lb_words::{Heard, Words};
@@ -39,40 +39,38 @@ pub(crate) enum Said {
     Stop,
 }
 
-/// What answers an operator's lines: a handler of events, the moments of edits, the servers as the
-/// edits leave them, and the roster by which the loops find them.
+/// What answers an operator's lines: a handler of events, the moments of edits, and the roster by
+/// which the loops find the servers.
 #[derive(Drop)]
-pub(crate) struct Operator<T: Taker + Hears, O: Outside> {
+pub(crate) struct Operator<T: Hears, O: Outside> {
     alloc: Global,
     words: Words,
     taker: T,
     outside: O,
-    servers: ServerList,
-    /// The number that the next server will have, as far as these servers say.
+    /// The number that the next server will have, as far as the servers at the start and the
+    /// answers since then say.
     next: ServerId,
     roster: Arc<Mutex<Roster>>,
 }
 
-impl<T: Taker + Hears, O: Outside> Operator<T, O> {
-    /// One that was told no line. The roster is that of these servers.
+impl<T: Hears, O: Outside> Operator<T, O> {
+    /// One that was told no line. The roster is that of these servers, which the balancer has.
     pub(crate) fn new(
         alloc: Global,
         words: Words,
         taker: T,
         outside: O,
-        servers: ServerList,
+        servers: &[ServerPlace],
         roster: Arc<Mutex<Roster>>,
     ) -> Operator<T, O>
-        ensures { (result.taker ≡ taker) × (result.outside ≡ outside) × (result.servers ≡ servers) }
+        ensures { (result.taker ≡ taker) × (result.outside ≡ outside) }
     {
-        let next = number_after(servers.as_slice());
         Operator {
             alloc,
             words,
             taker,
             outside,
-            servers,
-            next,
+            next: number_after(servers),
             roster,
         }
     }
@@ -86,7 +84,7 @@ impl<T: Taker + Hears, O: Outside> Operator<T, O> {
 
     /// What changed since this was asked last. The one error is lack of memory.
     pub(crate) fn changes(&mut self) -> Result<Vec<String>, AllocError>
-        ensures { (self.new.taker ≡ self.old.taker) × (self.new.outside ≡ self.old.outside) × (self.new.servers ≡ self.old.servers) }
+        ensures { (self.new.taker ≡ self.old.taker) × (self.new.outside ≡ self.old.outside) }
     {
         self.taker.changes(&mut self.words)
     }
@@ -104,8 +102,8 @@ impl<T: Taker + Hears, O: Outside> Operator<T, O> {
     /// be had, or no memory for the answer, there is none: then nothing was done, or the command
     /// was carried out.
     pub(crate) fn answer<R: Wait + Clock>(&mut self, rt: &R, line: &str) -> Result<Said, Fault>
-        ensures said { IfOk result (λ said. Says line.now said (record { answered = T.answered self.old.taker; pairs = T.pairs self.old.taker; servers = self.old.servers }) (record { answered = T.answered self.new.taker; pairs = T.pairs self.new.taker; servers = self.new.servers })) }
-        ensures unsaid { IfErr result (λ _. Leaves line.now (record { answered = T.answered self.old.taker; pairs = T.pairs self.old.taker; servers = self.old.servers }) (record { answered = T.answered self.new.taker; pairs = T.pairs self.new.taker; servers = self.new.servers })) }
+        ensures said { IfOk result (λ said. Says line.now said (record { answered = T.answered self.old.taker; pairs = T.pairs self.old.taker }) (record { answered = T.answered self.new.taker; pairs = T.pairs self.new.taker })) }
+        ensures unsaid { IfErr result (λ _. Leaves line.now (record { answered = T.answered self.old.taker; pairs = T.pairs self.old.taker }) (record { answered = T.answered self.new.taker; pairs = T.pairs self.new.taker })) }
     {
         if line == "stop" {
             return Ok(Said::Stop);
@@ -141,8 +139,8 @@ impl<T: Taker + Hears, O: Outside> Operator<T, O> {
 
     /// Carries out the command of a line.
     fn edit<R: Wait + Clock>(&mut self, rt: &R, line: &str, command: Command) -> Result<Said, Fault>
-        ensures said { IfOk result (λ said. Took command said (record { answered = T.answered self.old.taker; pairs = T.pairs self.old.taker; servers = self.old.servers }) (record { answered = T.answered self.new.taker; pairs = T.pairs self.new.taker; servers = self.new.servers })) }
-        ensures unsaid { IfErr result (λ _. MayCarry command (record { answered = T.answered self.old.taker; pairs = T.pairs self.old.taker; servers = self.old.servers }) (record { answered = T.answered self.new.taker; pairs = T.pairs self.new.taker; servers = self.new.servers })) }
+        ensures said { IfOk result (λ said. Took command said (record { answered = T.answered self.old.taker; pairs = T.pairs self.old.taker }) (record { answered = T.answered self.new.taker; pairs = T.pairs self.new.taker })) }
+        ensures unsaid { IfErr result (λ _. MayCarry command (record { answered = T.answered self.old.taker; pairs = T.pairs self.old.taker }) (record { answered = T.answered self.new.taker; pairs = T.pairs self.new.taker })) }
     {
         let Some((now, _)) = self.outside.ask() else {
             return Err(Fault::Console);
@@ -151,19 +149,15 @@ impl<T: Taker + Hears, O: Outside> Operator<T, O> {
             Ok(command) => command,
             Err(refused) => return self.wanting(line, refused),
         };
-        let expected = Expected::of(command.get());
         let announced = self.announce(rt, command.get());
-        match self.taker.take(Event::Edit { now, command }) {
-            Ok(answer) => {
-                self.servers.follow(expected, &answer);
+        match self.taker.edit(now, command) {
+            Ok((answer, news)) => {
                 count_on(&mut self.next, &answer);
-                self.withdraw(rt, announced);
-                self.tell_loops(rt, &answer);
+                self.tell_loops(rt, news, announced);
                 Ok(Said::Line(answer_line(self.alloc, &answer)?))
             }
-            Err((fault, _)) => {
-                expected.let_go();
-                self.withdraw(rt, announced);
+            Err(fault) => {
+                withdraw(&mut self.roster.lock(rt), announced);
                 Ok(Said::Line(String::from_str(self.alloc, desk_line(fault))?))
             }
         }
@@ -203,30 +197,10 @@ impl<T: Taker + Hears, O: Outside> Operator<T, O> {
         Some(self.next)
     }
 
-    /// Takes a server that was announced out again, if it was not added under that number.
-    fn withdraw<R: Wait>(&self, rt: &R, announced: Option<ServerId>) {
-        if let Some(id) = announced
-            && listed(self.servers.as_slice(), id).is_none()
-        {
-            self.roster.lock(rt).remove(id);
-        }
-    }
-
-    /// Tells the loops where a server is of which an edit was carried out. The roster's lock is
+    /// Has the loops learn what is new, in place of what was announced to them. The roster's lock is
     /// taken for that alone.
-    fn tell_loops<R: Wait>(&self, rt: &R, answer: &Answer) {
-        let Answer::Edited(note) = answer else {
-            return;
-        };
-        match note {
-            Note::ServerAdded(id) | Note::ServerMode(id, _) => {
-                if let Some(server) = listed(self.servers.as_slice(), *id) {
-                    put(&mut self.roster.lock(rt), server);
-                }
-            }
-            Note::ServerRemoved(id) => self.roster.lock(rt).remove(*id),
-            _ => {}
-        }
+    fn tell_loops<R: Wait>(&self, rt: &R, news: News, announced: Option<ServerId>) {
+        news.tell(&mut self.roster.lock(rt), announced);
     }
 }
 
@@ -242,35 +216,6 @@ fn number_after(servers: &[ServerPlace]) -> ServerId {
 fn count_on(next: &mut ServerId, answer: &Answer) {
     if let Answer::Edited(Note::ServerAdded(id)) = answer {
         *next = ServerId(id.0.saturating_add(1));
-    }
-}
-
-/// The server of a list with this number.
-fn listed(servers: &[ServerPlace], id: ServerId) -> Option<&ServerPlace> {
-    servers.iter().find(|server| server.id.0 == id.0)
-}
-
-/// Where a server is, as the loops have to know it.
-fn place_of(server: &ServerPlace) -> Place
-    ensures { result ≡ spec.place_of server.now }
-{
-    Place {
-        at: Endpoint {
-            addr: server.addr,
-            port: server.port.get(),
-        },
-        mode: server.mode,
-        must_resolve: server.must_resolve,
-    }
-}
-
-/// Has the loops know where a server is. A list of servers has 256 at most, so that there is room
-/// for it.
-fn put(roster: &mut Roster, server: &ServerPlace)
-    ensures { Puts server.now roster.old roster.new }
-{
-    match roster.put(server.id, place_of(server)) {
-        Ok(()) | Err(RosterFull) => {}
     }
 }
 

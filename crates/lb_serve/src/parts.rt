@@ -94,8 +94,8 @@ pub(crate) struct Runners<'a, R: Wait + Net + Clock + RandomSource, J: Naming> {
 /// The runtime, and the allocator.
 pub(crate) type Context<'a, R> = (&'a R, Global);
 
-/// What a setup file states, and what the switches ask for.
-type Asked<'b> = (&'b Setup, &'b Switches);
+/// What a setup file states, the servers that it leaves, and what the switches ask for.
+type Asked<'b> = (&'b Setup, &'b [ServerPlace], &'b Switches);
 
 /// The sockets that listen for datagrams of the first loop and of each further one, and for clients
 /// over TCP.
@@ -196,7 +196,7 @@ pub(crate) fn prepared<'a, J: Naming, R: Wait + Net + Clock + RandomSource>(
 ) -> Result<Runners<'a, R, J>, Fault>
     ensures { IfOk result (λ p. (p.loops.streams.fronts.items ≡ map front_of given.0.listeners) × (p.loops.clock.fronts.items ≡ map front_of given.0.listeners)) }
 {
-    let (setup, switches, listening) = given;
+    let (setup, servers, switches, listening) = given;
     let Listening {
         datagrams,
         beside,
@@ -205,7 +205,7 @@ pub(crate) fn prepared<'a, J: Naming, R: Wait + Net + Clock + RandomSource>(
         consoles,
         metrics,
     } = listening;
-    let asked = (&setup, &switches);
+    let asked = (&setup, servers.as_slice(), &switches);
     let (shared, rings, takers, posts) = begun(cx, desk, seats, others, asked)?;
     let (sockets, halts) = sockets_of(cx, (datagrams, beside, streams), asked, &shared)?;
     let outside = SystemOutside::new(cx.0)?;
@@ -222,7 +222,7 @@ pub(crate) fn prepared<'a, J: Naming, R: Wait + Net + Clock + RandomSource>(
     let (http, page) = ((http, http_end), (metrics, page_end));
     let services = services_of(cx, desk, http, page, asked, around)?;
     let fronts = fronts_for_two(cx.1, setup.listeners())?;
-    let operator = operator_of(cx, (rings, console, outside.beside(), setup), &shared)?;
+    let operator = operator_of(cx, (rings, console, outside.beside()), asked, &shared)?;
     let (console, waker) = console_of(cx, consoles, operator, halts.console)?;
     let jobs = (second_sender, receiver);
     let rest = (shared, posts, halts.loops, idle_of(&switches));
@@ -247,11 +247,11 @@ fn begun<'a, J: Naming, R: Wait>(
     others: OtherSeats<J>,
     asked: Asked<'_>,
 ) -> Result<(Shared, Rings, Handlers<'a, R, J>, TwoPosts<'a, R>), Fault> {
-    let (setup, switches) = asked;
+    let (_, servers, switches) = asked;
     let ends = seats.len().saturating_add(OTHER_RINGS);
     let rings = Rings::made(cx.1, ends, switches.recent)?;
     // Those of datagrams, and that of streams.
-    let shared = Shared::made(cx.1, setup.servers(), seats.len().saturating_add(1))?;
+    let shared = Shared::made(cx.1, servers, seats.len().saturating_add(1))?;
     let posts = (shared.posts(cx)?, shared.posts(cx)?);
     let takers = callers(cx, desk, seats, others, (&rings, &shared.sends))?;
     Ok((shared, rings, takers, posts))
@@ -275,7 +275,7 @@ fn sockets_of<'a, R: Net + Clock>(
     asked: Asked<'_>,
     shared: &Shared,
 ) -> Result<(Sockets<'a, R>, Halts), Fault> {
-    let limits = limits_of(clients_of(asked), asked.1);
+    let limits = limits_of(clients_of(asked), asked.2);
     let sockets = Sockets::made(cx, bound, limits, Arc::try_clone(&shared.sends)?)?;
     let halts = Halts {
         console: sockets.halt(cx.1, &shared.stop)?,
@@ -294,11 +294,11 @@ fn fronts_for_two(alloc: Global, lines: &[Listener]) -> Result<(Vec<Front>, Vec<
 
 /// How many clients of each kind there are descriptors for.
 fn clients_of(asked: Asked<'_>) -> Clients {
-    let (setup, switches) = asked;
+    let (setup, servers, switches) = asked;
     Clients::under(
         limit(),
         setup.listeners(),
-        setup.servers(),
+        servers,
         switches.loops,
         switches.metrics.is_some(),
     )
@@ -405,21 +405,21 @@ fn noting<'a, J: Naming, R: Wait>(
 /// What answers lines of the console of a desk.
 type DeskOperator<'a, R, J> = Operator<Caller<'a, R, J>, SystemOutside<'a, R>>;
 
-/// What the operator has alone: the rings of the last queries, its handler of events, its moments
-/// and random words, and what the setup file states.
-type OwnOfOperator<'a, R, J> = (Rings, Caller<'a, R, J>, SystemOutside<'a, R>, Setup);
+/// What the operator has alone: the rings of the last queries, its handler of events, and its
+/// moments and random words.
+type OwnOfOperator<'a, R, J> = (Rings, Caller<'a, R, J>, SystemOutside<'a, R>);
 
 /// What answers lines of the console.
 fn operator_of<'a, J: Naming, R: Wait + Net + Clock + RandomSource>(
     cx: Context<'a, R>,
     own: OwnOfOperator<'a, R, J>,
+    asked: Asked<'_>,
     shared: &Shared,
 ) -> Result<DeskOperator<'a, R, J>, AllocError> {
-    let (rings, taker, outside, setup) = own;
-    let words = words_of(cx, &setup, shared, rings)?;
+    let (rings, taker, outside) = own;
+    let words = words_of(cx, asked.0, shared, rings)?;
     let roster = Arc::try_clone(&shared.roster)?;
-    let servers = setup.into_servers();
-    Ok(Operator::new(cx.1, words, taker, outside, servers, roster))
+    Ok(Operator::new(cx.1, words, taker, outside, asked.1, roster))
 }
 
 /// The console, and what wakes it.

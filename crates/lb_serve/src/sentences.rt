@@ -8,8 +8,9 @@ use crate::fault::Fault;
 use crate::listening::line_of;
 use crate::switches::{Switch, Unknowns};
 use lb_command::Protocol;
+use lb_core::Balancer;
 use lb_lines::Endpoint;
-use lb_program::Setup;
+use lb_program::{Setup, places};
 use lb_sockets::BindFault;
 use lb_wire::Addr;
 use std::alloc::{AllocError, Global};
@@ -61,19 +62,21 @@ impl Sentences {
         &mut self,
         alloc: Global,
         text: &str,
-        setup: &Setup,
+        left: (&Setup, &Balancer),
         loops: u8,
         has_metrics: bool,
     ) -> Result<(), AllocError> {
+        let (setup, balancer) = left;
         let lines = setup.listeners();
-        let wanted = wanted(lines, setup.servers(), loops, has_metrics);
+        let servers = places(alloc, balancer)?;
+        let wanted = wanted(lines, servers.as_slice(), loops, has_metrics);
         if let Some(limit) = limit()
             && limit < wanted
         {
             let Clients { streams, http } = Clients::under(
                 Some(limit),
                 lines,
-                setup.servers(),
+                servers.as_slice(),
                 loops,
                 has_metrics,
             );

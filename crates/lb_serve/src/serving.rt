@@ -4,6 +4,7 @@ ghost use Rattle.std.specs.Prelude.{IfOk, List, Option, Result, ◌≡◌, ℕ};
 ghost use Rattle.std.specs.declared.io.Error.{Error};
 ghost use Rattle.lb_core.specs.Snapshot.{snapshot_of};
 ghost use Rattle.lb_program.specs.Faults.{Tells, stop_text};
+ghost use Rattle.lb_program.specs.Servers.{server_places};
 ghost use Rattle.lb_program.specs.declared.faults.Stop.TheVariants.{Input};
 ghost use Rattle.lb_serve.specs.Fault.{fault_status, fault_text};
 ghost use Rattle.lb_serve.specs.Serving.{EndsServe, Says, Served, TellsBehind, serve_status, serve_text};
@@ -16,7 +17,7 @@ use crate::log;
 use crate::sentences::Sentences;
 use crate::switches::{Switches, limits_streams, loops_of, metrics_of};
 use lb_core::Balancer;
-use lb_program::{Ended, Setup, Stop, read_setup, write_line};
+use lb_program::{Ended, Setup, Stop, places, read_setup, write_line};
 use std::alloc::Global;
 use std::env::Env;
 use std::fs::Files;
@@ -71,7 +72,7 @@ pub fn serve_told<
         Ok(read) => read,
         Err(stop) => return Ended::tell(Err(stop), faults),
     };
-    warn(rt, alloc, text, &setup, faults);
+    warn(rt, alloc, text, (&setup, &balancer), faults);
     let end = serve_by(rt, alloc, text, setup, balancer, output);
     tell(alloc, end, faults)
 }
@@ -97,22 +98,25 @@ fn serve_by<
 ) -> Result<(), Fault>
     ensures { Served (snapshot_of balancer) setup.log (W.contents output.old) (W.contents output.new) result }
 {
-    match ready(rt, alloc, text, setup) {
+    match ready(rt, alloc, text, setup, &balancer) {
         Ok(ready) => serve_at_desk(rt, alloc, balancer, ready, output),
         Err(fault) => Err(fault),
     }
 }
 
-/// What is there before a setup file is served: what the switches ask for, threads for that, and
-/// the addresses of its text, which are bound then.
+/// What is there before a setup file is served: the servers of the balancer that it leaves, what
+/// the switches ask for, threads for that, and the addresses of its text, which are bound then.
 fn ready<R: Net<Listener = TcpListener, Stream = TcpStream> + Env + Files + Threads>(
     rt: &R,
     alloc: Global,
     text: &str,
     setup: Setup,
+    balancer: &Balancer,
 ) -> Result<Ready<R::File>, Fault>
-    ensures { IfOk result (λ ready. ready.setup ≡ setup) }
+    ensures setup { IfOk result (λ ready. ready.setup ≡ setup) }
+    ensures servers { IfOk result (λ ready. ready.servers.items ≡ server_places balancer.now) }
 {
+    let servers = places(alloc, balancer)?;
     let switches = Switches::read(rt, alloc)?;
     let threads = threads_of(switches.loops, switches.metrics.is_some());
     spare_threads(rt, alloc, threads)?;
@@ -127,6 +131,7 @@ fn ready<R: Net<Listener = TcpListener, Stream = TcpStream> + Env + Files + Thre
     let log = log::made(rt, alloc, text, &switches)?;
     Ok(Ready {
         setup,
+        servers,
         switches,
         listening,
         log,
@@ -139,15 +144,16 @@ fn warn<R: Env + Threads, F: Write>(
     rt: &R,
     alloc: Global,
     text: &str,
-    setup: &Setup,
+    left: (&Setup, &Balancer),
     faults: &mut F,
 )
     ensures { Says (F.contents faults.old) (F.contents faults.new) }
 {
+    let (setup, _) = left;
     let mut sentences = Sentences::none(alloc);
     let metrics = metrics_of(rt).unwrap_or(None);
     let loops = loops_of(rt).unwrap_or(1);
-    let _ = sentences.warn(alloc, text, setup, loops, metrics.is_some());
+    let _ = sentences.warn(alloc, text, left, loops, metrics.is_some());
     let _ = sentences.warn_of_metrics(alloc, metrics);
     if !limits_streams(rt) {
         let _ = sentences.warn_of_streams(alloc, setup);

@@ -90,7 +90,7 @@ pub(crate) fn run_beside<
         + Sync,
     D: Datagrams + Send,
     S: Streams + Send,
-    T: Taker + Hears + Send,
+    T: Hears + Send,
     O: Outside + Send,
     P: Posts + Send,
     G: Page + Send,
@@ -141,7 +141,7 @@ fn run_asked<
         + Clock
         + RandomSource
         + Sync,
-    T: Taker + Hears + Send,
+    T: Hears + Send,
     O: Outside + Send,
     G: Page + Send,
 >(
