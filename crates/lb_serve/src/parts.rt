@@ -20,7 +20,8 @@ use lb_desk::{Desk, Naming, Seat};
 use lb_doh::{HttpPosts, Requests, Waiting};
 use lb_front::{Bound, FrontParts, front_runtime};
 use lb_loops::{
-    Caller, ClockParts, DatagramParts, Front, Outbox, Parts, Receiver, Roster, Sender, StreamParts,
+    Caller, ClockParts, Connections, DatagramParts, Front, Outbox, Parts, Probes, Receiver, Roster,
+    Sender, StreamParts,
 };
 use lb_metrics::{MetricsParts, metrics_runtime};
 use lb_program::{ServerPlace, Setup};
@@ -167,16 +168,53 @@ struct Shared {
     requests: Arc<Requests>,
     /// The counts of failed sends and of probes.
     sends: Arc<Sends>,
+    /// Room that the loops need for as long as they run.
+    rooms: Rooms,
+}
+
+/// Room that the loops need for as long as they run: a copy of the roster for each, the table of
+/// connections over TCP, and the servers that are probed.
+#[derive(Drop)]
+struct Rooms {
+    datagrams: Vec<Roster>,
+    streams: Roster,
+    clock: Roster,
+    table: Connections,
+    probes: Probes,
+}
+
+impl Rooms {
+    /// That of so many loops of datagrams and of the two others. The one error is lack of memory.
+    fn made(alloc: Global, loops: usize) -> Result<Rooms, AllocError> {
+        Ok(Rooms {
+            datagrams: rosters(alloc, loops)?,
+            streams: Roster::made(alloc)?,
+            clock: Roster::made(alloc)?,
+            table: Connections::made(alloc)?,
+            probes: Probes::made(alloc)?,
+        })
+    }
+}
+
+/// So many rosters without a server. The one error is lack of memory.
+fn rosters(alloc: Global, many: usize) -> Result<Vec<Roster>, AllocError> {
+    let mut rosters = Vec::with_capacity(alloc, many)?;
+    for _ in 0..many {
+        rosters.push(Roster::made(alloc)?)?;
+    }
+    Ok(rosters)
 }
 
 impl Shared {
-    /// A roster of these servers; nothing waits yet. So many event handlers hand in replies.
-    fn made(alloc: Global, servers: &[ServerPlace], handlers: usize) -> Result<Shared, Fault> {
+    /// A roster of these servers; nothing waits yet. So many loops of datagrams hand in replies, and
+    /// that of streams.
+    fn made(alloc: Global, servers: &[ServerPlace], loops: usize) -> Result<Shared, Fault> {
         Ok(Shared {
             stop: Arc::new(alloc, AtomicBool::new(false))?,
             roster: Arc::new(alloc, Mutex::new(roster_of(alloc, servers)?))?,
             requests: Arc::new(alloc, Mutex::new(Waiting::new(alloc)))?,
-            sends: Arc::new(alloc, Sends::made(alloc, handlers)?)?,
+            sends: Arc::new(alloc, Sends::made(alloc, loops.saturating_add(1))?)?,
+            rooms: Rooms::made(alloc, loops)?,
         })
     }
 
@@ -250,8 +288,7 @@ fn begun<'a, J: Naming, R: Wait>(
     let (_, servers, switches) = asked;
     let ends = seats.len().saturating_add(OTHER_RINGS);
     let rings = Rings::made(cx.1, ends, switches.recent)?;
-    // Those of datagrams, and that of streams.
-    let shared = Shared::made(cx.1, servers, seats.len().saturating_add(1))?;
+    let shared = Shared::made(cx.1, servers, seats.len())?;
     let posts = (shared.posts(cx)?, shared.posts(cx)?);
     let takers = callers(cx, desk, seats, others, (&rings, &shared.sends))?;
     Ok((shared, rings, takers, posts))
@@ -547,28 +584,35 @@ type DatagramRow<'a, R, J> = Vec<
     DatagramParts<UdpSockets<'a, R>, Caller<'a, R, J>, SystemOutside<'a, R>>,
 >;
 
-/// What the loops of datagrams are made of, each of its sockets and its handler.
+/// The same, and room for their handlers when they have ended.
+type RowWithRoom<'a, R, J> = (DatagramRow<'a, R, J>, Vec<Caller<'a, R, J>>);
+
+/// What the loops of datagrams are made of, each of its sockets, its roster and its handler.
 fn row_of<'a, J: Naming, R: Wait + Net + Clock + RandomSource>(
     alloc: Global,
     mut sockets: Vec<UdpSockets<'a, R>>,
+    mut rosters: Vec<Roster>,
     mut takers: Vec<Caller<'a, R, J>>,
     outside: &SystemOutside<'a, R>,
-) -> Result<DatagramRow<'a, R, J>, AllocError> {
+) -> Result<RowWithRoom<'a, R, J>, AllocError> {
     let mut row = Vec::with_capacity(alloc, takers.len())?;
     for _ in 0..takers.len() {
         if let Some(taker) = takers.pop()
             && let Some(sockets) = sockets.pop()
+            && let Some(roster) = rosters.pop()
         {
             let outside = outside.beside();
             row.push(DatagramParts {
                 sockets,
+                roster,
                 taker,
                 outside,
             })
             .map_err(AllocError::from)?;
         }
     }
-    Ok(row)
+    // Its handlers are out of it, and its room is there.
+    Ok((row, takers))
 }
 
 /// What the loops have besides: what threads share, what hands answers to requests by HTTP, what
@@ -589,9 +633,18 @@ fn loops_of<'a, J: Naming, R: Wait + Net + Clock + RandomSource>(
 {
     let (sockets, outside) = own;
     let (shared, posts, halt, idle) = rest;
-    let row = row_of(alloc, sockets.datagrams, takers.0, &outside)?;
+    let rooms = shared.rooms;
+    let (row, room) = row_of(
+        alloc,
+        sockets.datagrams,
+        rooms.datagrams,
+        takers.0,
+        &outside,
+    )?;
     let streams = StreamParts {
         sockets: sockets.streams,
+        table: rooms.table,
+        roster: rooms.streams,
         receiver: jobs.1,
         fronts: fronts.0,
         posts: posts.0,
@@ -601,6 +654,8 @@ fn loops_of<'a, J: Naming, R: Wait + Net + Clock + RandomSource>(
     };
     let clock = ClockParts {
         sockets: sockets.clock,
+        probes: rooms.probes,
+        roster: rooms.clock,
         sender: jobs.0,
         fronts: fronts.1,
         posts: posts.1,
@@ -609,6 +664,7 @@ fn loops_of<'a, J: Naming, R: Wait + Net + Clock + RandomSource>(
     };
     Ok(Parts {
         datagrams: row,
+        takers: room,
         streams,
         clock,
         roster: shared.roster,

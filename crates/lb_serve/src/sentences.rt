@@ -224,7 +224,9 @@ fn is_wildcard(addr: Addr) -> bool {
 fn no_switch(alloc: Global, name: &str) -> Result<String, AllocError> {
     if name.len() > MOST_SHOWN {
         let len = name.len();
-        return format!(in alloc; "a word of the environment that begins with LB_ and has a name of {len} bytes is no switch");
+        return format!(in alloc;
+            "a word of the environment that begins with LB_ and has a name of {len} bytes is no switch"
+        );
     }
     format!(in alloc; "{name} is no switch")
 }
