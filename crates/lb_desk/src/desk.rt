@@ -1,6 +1,6 @@
 //! The desk: one balancer that many threads call.
 
-ghost use Rattle.std.specs.Prelude.{All, IfErr, IfOk, IfSome, IsErrAnd, IsSome, IsTrue, OnErr, OnOk, length, map, min, sum_by, vec_len, ◌++◌, ◌+◌, ◌-◌, ◌<◌, ◌==◌, ◌^◌, ◌⊎◌, ◌∷◌, ◌≡◌, ◌↔◌, ◌≤◌, ℕ, []};
+ghost use Rattle.std.specs.Prelude.{All, Err, IfErr, IfOk, IfSome, IsErrAnd, IsSome, IsTrue, OnErr, OnOk, length, map, min, sum_by, vec_len, ◌++◌, ◌+◌, ◌-◌, ◌<◌, ◌==◌, ◌^◌, ◌⊎◌, ◌∷◌, ◌≡◌, ◌↔◌, ◌≤◌, ℕ, []};
 ghost use Rattle.std.specs.List.{list_any, range_with_len};
 ghost use Rattle.lb_core.specs.Plain.{Plain as State};
 ghost use Rattle.lb_core.specs.Snapshot.{snapshot_of};
@@ -170,7 +170,7 @@ impl<J: Naming> Desk<J> {
             receipts,
         } = seat;
         if *calls == u64::MAX {
-            return Err((DeskFault::CountFull, event));
+            return full(event);
         }
         let room = prepared(receipts, self.alloc, self.is_full.load(Ordering::SeqCst));
         let mut guard = self.entered(rt);
@@ -268,7 +268,7 @@ impl<J: Naming> Desk<J> {
             receipts,
         } = seat;
         if *calls == u64::MAX {
-            return Err((DeskFault::CountFull, event));
+            return full(event);
         }
         let room = prepared(receipts, self.alloc, is_full);
         let answered = self.answered(rt, share, *number, event, receipts, room, noted)?;
@@ -362,6 +362,13 @@ impl<J: Naming> Desk<J> {
         }
         self.book.lock(rt)
     }
+}
+
+/// What a call of a seat comes to that has as many calls as it counts. The event comes back.
+fn full<T>(event: Event) -> Result<T, (DeskFault, Event)>
+    ensures { result ≡ Err (CountFull, event) }
+{
+    Err((DeskFault::CountFull, event))
 }
 
 /// Takes room for a receipt before the lock, unless the log is said to be full.

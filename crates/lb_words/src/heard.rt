@@ -4,9 +4,7 @@ ghost use Rattle.std.specs.Prelude.{IfOk};
 ghost use Rattle.lb_words.specs.Heard.{IsHeard, IsListed, IsSaid};
 
 use crate::lines::Lines;
-use crate::lists;
 use crate::metrics::metrics;
-use crate::program;
 use crate::recent::{Wanted, fault, recent};
 use crate::seen::Beside;
 use crate::setup::setup;
@@ -15,6 +13,7 @@ use crate::top::{By, top};
 use crate::typed::{next_word, number_of};
 use crate::watch::Watch;
 use crate::word::{Word, word_of};
+use crate::{lists, program};
 use lb_command::{CommandFault, FaultKind, Listener};
 use lb_desk::{Desk, Naming};
 use lb_recent::Rings;
