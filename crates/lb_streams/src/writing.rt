@@ -76,15 +76,13 @@ impl<S: Streams> Links<S> {
     }
 
     /// Writes what waits to be written to a connection, where it is not to wait for the turn's end.
-    /// A client that has closed its side and has all that it waits for then is closed: it may not
-    /// be noted as one that is looked at once more at the turn's end.
     #[tactic(auto, using(crate::proofs::Opening::goes_nothing))]
     fn write_urgent(&mut self, number: u64)
         ensures goes { Goes self.old self.new none none }
         ensures reads { reads_of self.new ≡ reads_of self.old }
     {
         if self.table.is_urgent(number) {
-            self.write(number);
+            self.flush(number);
         }
     }
 
