@@ -182,9 +182,12 @@ impl<J: Naming> Desk<J> {
         Ok((receipts.keep(self.alloc, answered), made))
     }
 
-    /// Says to the calls that follow that the log is full, if this one filled it.
+    /// Says to the calls that follow that the log is full, if this one filled it. The log's limit is
+    /// the desk's.
     #[inline(always)]
-    fn fills(&self, book: &Book<J>, answered: &Answered) {
+    fn fills(&self, book: &Book<J>, answered: &Answered)
+        ensures { book.now.limit ≡ J.limit }
+    {
         if book.is_full() && answered.is_logged() {
             self.is_full.store(true, Ordering::SeqCst);
         }
