@@ -1,6 +1,6 @@
 //! The desk: one balancer that many threads call.
 
-ghost use Rattle.std.specs.Prelude.{All, Err, IfErr, IfOk, IfSome, IsErrAnd, IsSome, IsTrue, OnErr, OnOk, length, map, min, sum_by, vec_len, ◌++◌, ◌+◌, ◌-◌, ◌<◌, ◌==◌, ◌^◌, ◌⊎◌, ◌∷◌, ◌≡◌, ◌↔◌, ◌≤◌, ℕ, []};
+ghost use Rattle.std.specs.Prelude.{All, IfErr, IfOk, IfSome, IsErrAnd, IsSome, IsTrue, OnErr, OnOk, length, map, min, sum_by, vec_len, ◌++◌, ◌+◌, ◌-◌, ◌<◌, ◌==◌, ◌^◌, ◌⊎◌, ◌∷◌, ◌≡◌, ◌↔◌, ◌≤◌, ℕ, []};
 ghost use Rattle.std.specs.List.{list_any, range_with_len};
 ghost use Rattle.lb_core.specs.Plain.{Plain as State};
 ghost use Rattle.lb_core.specs.Snapshot.{snapshot_of};
@@ -163,34 +163,8 @@ impl<J: Naming> Desk<J> {
         ensures back { IfErr result (λ fault. fault.1 ≡ event) }
         ensures same { OnErr result (seat.new ≡ seat.old) }
     {
-        let Seat {
-            number,
-            share,
-            calls,
-            receipts,
-        } = seat;
-        if *calls == u64::MAX {
-            return full(event);
-        }
-        let room = prepared(receipts, self.alloc, self.is_full.load(Ordering::SeqCst));
-        let mut guard = self.entered(rt);
-        let book = &mut *guard;
-        let answered = book.answer(share, *number, event, receipts, room, noted)?;
-        self.fills(book, &answered);
-        let made = reader(book.balancer(), answered.answer());
-        *calls += 1;
-        Ok((receipts.keep(self.alloc, answered), made))
-    }
-
-    /// Says to the calls that follow that the log is full, if this one filled it. The log's limit is
-    /// the desk's.
-    #[inline(always)]
-    fn fills(&self, book: &Book<J>, answered: &Answered)
-        ensures { book.now.limit ≡ J.limit }
-    {
-        if book.is_full() && answered.is_logged() {
-            self.is_full.store(true, Ordering::SeqCst);
-        }
+        let is_full = self.is_full.load(Ordering::SeqCst);
+        self.called_with_room(rt, seat, event, is_full, noted, reader)
     }
 
     /// The same call, by the caller's own hint whether the log is full. No answer depends on it: it
@@ -243,23 +217,30 @@ impl<J: Naming> Desk<J> {
                 return Ok(book.take_past(&mut seat.share, event, noted));
             }
         }
-        self.called_with_room(rt, seat, event, is_full, noted)
+        match self.called_with_room(rt, seat, event, is_full, noted, |_balancer, _answer| ()) {
+            Ok((answer, ())) => Ok(answer),
+            Err(back) => Err(back),
+        }
     }
 
-    /// A call of which the log may have an entry: room for its receipt is taken.
+    /// A call of which the log may have an entry: room for its receipt is taken. A reader has the
+    /// balancer and the answer right after its step.
     #[inline(never)]
-    fn called_with_room<R: Wait>(
+    fn called_with_room<R: Wait, T, F: FnOnce(&Balancer, &Answer) -> T>(
         &self,
         rt: &R,
         seat: &mut Seat<J>,
         event: Event,
         is_full: bool,
         noted: &mut Noted,
-    ) -> Result<Answer, (DeskFault, Event)>
+        reader: F,
+    ) -> Result<(Answer, T), (DeskFault, Event)>
+        requires { F.IsAlwaysCallable reader }
         ensures number { seat.new.number ≡ seat.old.number }
         ensures calls { OnOk result (seat.new.calls ≡ seat.old.calls + 1) }
-        ensures receipts { IfOk result (λ answer. (seat.new.receipts ≡ seat.old.receipts) ⊎ ((place : ℕ) × (place < J.limit) × (seat.new.receipts ≡ seat.old.receipts ++ receipt place event answer ∷ []))) }
-        ensures noted { IfOk result (λ answer. IsStep event answer noted.new) }
+        ensures receipts { IfOk result (λ r. (seat.new.receipts ≡ seat.old.receipts) ⊎ ((place : ℕ) × (place < J.limit) × (seat.new.receipts ≡ seat.old.receipts ++ receipt place event r.0 ∷ []))) }
+        ensures noted { IfOk result (λ r. IsStep event r.0 noted.new) }
+        ensures read { IfOk result (λ r. (old new : State) × Answers old event r.0 new × OnceReturnsAtBoth F.FnOnce reader new r.0 r.1) }
         ensures full { seat.old.calls ≡ 2 ^ 64 - 1 → IsErrAnd result (λ fault. fault.0 ≡ CountFull) }
         ensures back { IfErr result (λ fault. fault.1 ≡ event) }
         ensures same { OnErr result (seat.new ≡ seat.old) }
@@ -271,17 +252,19 @@ impl<J: Naming> Desk<J> {
             receipts,
         } = seat;
         if *calls == u64::MAX {
-            return full(event);
+            return Err((DeskFault::CountFull, event));
         }
         let room = prepared(receipts, self.alloc, is_full);
-        let answered = self.answered(rt, share, *number, event, receipts, room, noted)?;
+        let (answered, made) = self.answered(
+            rt, share, *number, event, receipts, room, noted, reader,
+        )?;
         *calls += 1;
-        Ok(receipts.keep(self.alloc, answered))
+        Ok((receipts.keep(self.alloc, answered), made))
     }
 
     /// What a call does under the lock. The call that fills the log says so to those that follow.
     #[inline(always)]
-    fn answered<R: Wait>(
+    fn answered<R: Wait, T, F: FnOnce(&Balancer, &Answer) -> T>(
         &self,
         rt: &R,
         share: &mut Share<J>,
@@ -290,14 +273,17 @@ impl<J: Naming> Desk<J> {
         receipts: &mut Receipts,
         room: Result<(), AllocError>,
         noted: &mut Noted,
-    ) -> Result<Answered, (DeskFault, Event)>
+        reader: F,
+    ) -> Result<(Answered, T), (DeskFault, Event)>
+        requires reader { F.IsAlwaysCallable reader }
         requires part { 0 < share.old.parts }
         requires seat { number.0 < J.seats }
-        ensures noted { IfOk result (λ r. IsStep event r.answer noted.new) }
+        ensures noted { IfOk result (λ r. IsStep event r.0.answer noted.new) }
+        ensures read { IfOk result (λ r. (old new : State) × Answers old event r.0.answer new × OnceReturnsAtBoth F.FnOnce reader new r.0.answer r.1) }
         ensures share { OnOk result (share.new.amount ≡ share.old.amount + 1) }
         ensures parts { share.new.parts ≡ share.old.parts }
-        ensures ticket { IfOk result (λ r. IfSome r.ticket (λ ticket. (ticket.place < J.limit) × (ticket.event ≡ event))) }
-        ensures room { IfOk result (λ r. IsSome r.ticket → IsSome receipts.new.room) }
+        ensures ticket { IfOk result (λ r. IfSome r.0.ticket (λ ticket. (ticket.place < J.limit) × (ticket.event ≡ event))) }
+        ensures room { IfOk result (λ r. IsSome r.0.ticket → IsSome receipts.new.room) }
         ensures kept { (receipts.new.kept.items ≡ receipts.old.kept.items) × (vec_len receipts.new.kept ≡ vec_len receipts.old.kept) }
         ensures back { IfErr result (λ fault. fault.1 ≡ event) }
         ensures same { OnErr result (share.new ≡ share.old) }
@@ -305,8 +291,11 @@ impl<J: Naming> Desk<J> {
         let mut guard = self.entered(rt);
         let book = &mut *guard;
         let answered = book.answer(share, number, event, receipts, room, noted)?;
-        self.fills(book, &answered);
-        Ok(answered)
+        if book.is_full() && answered.is_logged() {
+            self.is_full.store(true, Ordering::SeqCst);
+        }
+        let made = reader(book.balancer(), answered.answer());
+        Ok((answered, made))
     }
 }
 
@@ -365,13 +354,6 @@ impl<J: Naming> Desk<J> {
         }
         self.book.lock(rt)
     }
-}
-
-/// What a call of a seat comes to that has as many calls as it counts. The event comes back.
-fn full<T>(event: Event) -> Result<T, (DeskFault, Event)>
-    ensures { result ≡ Err (CountFull, event) }
-{
-    Err((DeskFault::CountFull, event))
 }
 
 /// Takes room for a receipt before the lock, unless the log is said to be full.
