@@ -3,7 +3,7 @@ use Rattle.std.proofs.Common.{◌≡◌, ℕ, ◌+◌, ◌≤◌, inl, inr, Bool
 use Rattle.std.specs.Prelude.{◌||◌}
 use Rattle.std.proofs.lemmas.Grind.{flat_map-append}
 use Rattle.std.proofs.lemmas.List.{append-nil, length-append}
-use Rattle.lb_clock.specs.Acts.{Act, AllProbes, Setting, Stops, StopsAt, any_blind, any_failed, blind_in, device_in, end_by, failed_in, first_device, line_in, lines_in, or_device, read_in, stamp_in, tried_in, tries_in}
+use Rattle.lb_clock.specs.Acts.{Act, AllProbes, Setting, Stops, StopsAt, any_blind, any_failed, blind_in, device_in, end_by, failed_in, first_device, line_in, lines_in, or_device, read_in, stamp_in, tries_in}
 use Rattle.lb_clock.specs.Lines.{AreLines, datagram_in, datagrams}
 use Rattle.lb_clock.specs.Turn.{FailsBy, Turns}
 use Rattle.lb_clock.specs.World.{World}
@@ -94,7 +94,7 @@ stops_on [] ys end first after = after
 stops_on (x ∷ xs) ys end first after = stops_at_on (end_by x) xs ys (Stops xs None) (Stops (xs ++ ys) end) end (λ s. stops_on xs ys end s after) first
 
 pub tries_on : (xs ys : List Act) → tries_in (xs ++ ys) ≡ tries_in xs + tries_in ys
-tries_on [] ys = refl
+tries_on [] ys = omega arith
 tries_on (x ∷ xs) ys = let more = tries_on xs ys in omega (arith, more)
 
 -- No act.

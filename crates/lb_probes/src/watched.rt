@@ -1,7 +1,7 @@
 //! A server that is probed.
 
-ghost use Rattle.std.specs.Prelude.{IfNone, IfSome, IsTrue, None, Some, false, nat_le, true, ◌+◌, ◌-◌, ◌<◌, ◌^◌, ◌≡◌, ◌≤◌, ◌⊎◌, ℕ};
-ghost use Rattle.lb_probes.specs.Probes.{Answers, IsAsked, IsDue, IsOver, IsQuietFor, IsTimely, IsUpAt, Misses, is_by, is_open, second};
+ghost use Rattle.std.specs.Prelude.{IfNone, IfSome, IsTrue, Some, false, nat_le, true, ◌+◌, ◌<◌, ◌≡◌, ◌≤◌, ℕ};
+ghost use Rattle.lb_probes.specs.Probes.{Answers, IsAsked, IsDue, IsOver, IsQuietFor, IsTimely, Misses, is_by, is_open, second};
 
 use lb_health::judge;
 use lb_lines::{Datagram, Endpoint, Place, Roster, Socket};
@@ -55,8 +55,7 @@ impl Waits {
 
     /// For how long from this moment on the probe is not over.
     fn open_for(self, now: u64) -> u64
-        ensures open { (moment : ℕ) → now ≤ moment → moment < now + result → is_open moment (Some self) ≡ true }
-        ensures over { (2 ^ 64 - 1 ≤ now + result) ⊎ IsOver (now + result) self }
+        ensures { (moment : ℕ) → now ≤ moment → moment < now + result → is_open moment (Some self) ≡ true }
     {
         if self.is_sent {
             self.sent.saturating_add(SECOND).saturating_sub(now)
@@ -125,8 +124,7 @@ impl Watched {
 
     /// For how long from this moment on its probe is not over, and its next one is not due.
     pub(crate) fn quiet_for(&self, roster: &Roster, now: u64) -> u64
-        ensures quiet { IsQuietFor roster.now.listed now result self.now }
-        ensures up { (2 ^ 64 - 1 ≤ now + result) ⊎ IsUpAt roster.now.listed (now + result) self.now }
+        ensures { IsQuietFor roster.now.listed now result self.now }
     {
         match self.waits {
             Some(waits) => waits.open_for(now),
@@ -136,9 +134,7 @@ impl Watched {
 
     /// For how long from this moment on its next probe is not due. None of a server that is not in mode auto ever is.
     fn rests_for(&self, roster: &Roster, now: u64) -> u64
-        requires rests { self.now.waits ≡ None }
-        ensures quiet { (moment : ℕ) (place : Place) → now ≤ moment → moment < now + result → IsDue roster.now.listed moment self.now place → ⊥ }
-        ensures due { (2 ^ 64 - 1 ≤ now + result) ⊎ ((place : Place) × IsDue roster.now.listed (now + result) self.now place) }
+        ensures { (moment : ℕ) (place : Place) → now ≤ moment → moment < now + result → IsDue roster.now.listed moment self.now place → ⊥ }
     {
         let is_auto = match roster.get(self.server) {
             Some(place) => matches!(place.mode, Mode::Auto),

@@ -3,7 +3,8 @@ use Rattle.std.proofs.Common.{ℕ, ◌+◌, ◌<◌, List, [], ◌∷◌, ◌++�
 use Rattle.std.proofs.lemmas.List.{take_more}
 use Rattle.lb_lines.specs.Roster.{Rostered}
 use Rattle.lb_program.specs.declared.servers.ServerPlace.{ServerPlace}
-use Rattle.lb_serve.specs.Operator.{Puts, PutsAll}
+use Rattle.lb_serve.specs.News.{Puts}
+use Rattle.lb_serve.specs.Operator.{PutsAll}
 
 -- a server is put behind others
 puts_push : (servers : List ServerPlace) (server : ServerPlace) (old mid new : Rostered) → PutsAll servers old mid → Puts server mid new → PutsAll (servers ++ server ∷ []) old new

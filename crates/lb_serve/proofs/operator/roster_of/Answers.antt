@@ -1,6 +1,6 @@
 use Rattle.std.proofs.Common.{rules, subst}
 use Rattle.lb_program.specs.declared.servers.ServerPlace.{ServerPlace}
-use Rattle.lb_serve.specs.Operator.{Puts}
+use Rattle.lb_serve.specs.News.{Puts}
 use Rattle.lb_serve.proofs.Rosters.{puts_more}
 use Rattle.lb_serve.proofs.operator.roster_of.Goals as goal
 
