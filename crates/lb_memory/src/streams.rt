@@ -1,6 +1,6 @@
 //! Sockets of streams in memory.
 
-ghost use Rattle.std.specs.Prelude.{[], IfOk, length, ◌++◌, ◌∷◌, ◌≡◌};
+ghost use Rattle.std.specs.Prelude.{[], IfOk, length, ◌+◌, ◌++◌, ◌∷◌, ◌≡◌};
 ghost use Rattle.lb_lines.specs.Counts.{Fails};
 ghost use Rattle.lb_memory.specs.Streams.{firsts};
 
@@ -112,6 +112,22 @@ impl<'a, R: Wait> MemoryStreams<'a, R> {
         }
     }
 
+    /// A client that waits is asked for, to be a connection with this number.
+    fn asks(&mut self, connection: u64)
+        ensures asked { length self.new.asked.items ≡ length self.old.asked.items + 1 }
+        ensures same { self.new ≡ record self.old { asked = self.new.asked } }
+    {
+        self.asked = self.asked.and(&connection, &0);
+    }
+
+    /// A device failed, at no connection.
+    fn fails(&mut self)
+        ensures counted { Fails self.old.failures self.new.failures }
+        ensures same { self.new ≡ record self.old { failures = self.new.failures } }
+    {
+        self.failures = self.failures.saturating_add(1);
+    }
+
     /// A device failed when this connection was read or written.
     fn fails_at(&mut self, connection: u64)
         ensures counted { Fails self.old.failures self.new.failures }
@@ -159,10 +175,10 @@ impl<R: Wait> Streams for MemoryStreams<'_, R> {
     }
 
     fn accept(&mut self, connection: u64) -> Result<Accepted, AllocError> {
-        self.asked = self.asked.and(&connection, &0);
+        self.asks(connection);
         self.calls.accepts = self.calls.accepts.wrapping_add(1);
         if self.calls.accepts == self.failing.accept {
-            self.failures = self.failures.saturating_add(1);
+            self.fails();
             self.wires.lock(self.rt).wait_on();
             return Ok(Accepted::Failed);
         }
