@@ -6,7 +6,8 @@ use lb_core::{Answer, Event, StatedAction};
 use lb_desk::{Desk, DeskFault, Naming, Seat, desks_cross_threads};
 use lb_loops::{
     ClockParts, Connections, Datagram, DatagramParts, Ended, Endpoint, Front, Gate, LoopFault,
-    Outbox, Parts, Probes, Roster, Socket, StreamParts, Taker, Waker, frame, run_loops,
+    Outbox, Parts, Probes, Receiver, Roster, Sender, Socket, StreamParts, Taker, Waker, frame,
+    run_loops,
 };
 use lb_memory::{
     Failing, MemoryDatagrams, MemoryOutside, MemoryPosts, MemoryStreams, Moments, Packets,
@@ -223,6 +224,67 @@ impl Shared {
         Ok(MemoryOutside::new(rt, Arc::try_clone(&self.moments)?))
     }
 
+    /// A loop of datagrams, over these.
+    fn datagramming<'a, R: Wait, J: Naming>(
+        &self,
+        rt: &'a R,
+        alloc: Global,
+        desk: &'a Desk<J>,
+        packets: &Arc<Mutex<Packets>>,
+        seat: Seat<J>,
+    ) -> Result<Datagramming<'a, R, J>, AllocError> {
+        Ok(DatagramParts {
+            sockets: sockets(rt, alloc, packets)?,
+            roster: Roster::made(alloc)?,
+            taker: self.answering(rt, desk, seat)?,
+            outside: self.outside(rt)?,
+        })
+    }
+
+    fn streaming<'a, R: Wait, J: Naming>(
+        &self,
+        rt: &'a R,
+        alloc: Global,
+        desk: &'a Desk<J>,
+        receiver: Receiver,
+        seat: Seat<J>,
+    ) -> Result<Streaming<'a, R, J>, AllocError> {
+        let wires = Arc::try_clone(&self.wires)?;
+        Ok(StreamParts {
+            sockets: MemoryStreams::new(rt, alloc, wires, StreamFailing::default()),
+            table: Connections::made(alloc)?,
+            roster: Roster::made(alloc)?,
+            receiver,
+            fronts: fronts(alloc)?,
+            posts: posts(rt, alloc)?,
+            taker: self.answering(rt, desk, seat)?,
+            outside: self.outside(rt)?,
+            idle: None,
+        })
+    }
+
+    /// The loop of the clock, which has no socket of its own.
+    fn clocking<'a, R: Wait, J: Naming>(
+        &self,
+        rt: &'a R,
+        alloc: Global,
+        desk: &'a Desk<J>,
+        sender: Sender,
+        seat: Seat<J>,
+    ) -> Result<Clocking<'a, R, J>, AllocError> {
+        let none = Arc::new(alloc, Mutex::new(Packets::new(alloc)))?;
+        Ok(ClockParts {
+            sockets: sockets(rt, alloc, &none)?,
+            probes: Probes::made(alloc)?,
+            roster: Roster::made(alloc)?,
+            sender,
+            fronts: fronts(alloc)?,
+            posts: posts(rt, alloc)?,
+            taker: self.answering(rt, desk, seat)?,
+            outside: self.outside(rt)?,
+        })
+    }
+
     /// Whether the four answers went out, each once, by the loop that took its query, and the
     /// stream's in their order.
     fn are_answered<R: Wait>(&self, rt: &R) -> bool {
@@ -325,47 +387,15 @@ fn run_at_desk<'a, J: Naming + Send + Sync, R: Threads + Wait + Clock + Sync>(
             &shared.beside
         };
         datagrams
-            .push(DatagramParts {
-                sockets: sockets(rt, alloc, packets)?,
-                roster: Roster::made(alloc)?,
-                taker: shared.answering(rt, desk, seat)?,
-                outside: shared.outside(rt)?,
-            })
+            .push(shared.datagramming(rt, alloc, desk, packets, seat)?)
             .map_err(AllocError::from)?;
         wakers.push(NoWaker).map_err(AllocError::from)?;
     }
-    let streams = StreamParts {
-        sockets: MemoryStreams::new(
-            rt,
-            alloc,
-            Arc::try_clone(&shared.wires)?,
-            StreamFailing::default(),
-        ),
-        table: Connections::made(alloc)?,
-        roster: Roster::made(alloc)?,
-        receiver,
-        fronts: fronts(alloc)?,
-        posts: posts(rt, alloc)?,
-        taker: shared.answering(rt, desk, second)?,
-        outside: shared.outside(rt)?,
-        idle: None,
-    };
-    let none = Arc::new(alloc, Mutex::new(Packets::new(alloc)))?;
-    let clock = ClockParts {
-        sockets: sockets(rt, alloc, &none)?,
-        probes: Probes::made(alloc)?,
-        roster: Roster::made(alloc)?,
-        sender: second_sender,
-        fronts: fronts(alloc)?,
-        posts: posts(rt, alloc)?,
-        taker: shared.answering(rt, desk, third)?,
-        outside: shared.outside(rt)?,
-    };
     let parts = Parts {
         takers: Vec::with_capacity(alloc, datagrams.len())?,
         datagrams,
-        streams,
-        clock,
+        streams: shared.streaming(rt, alloc, desk, receiver, second)?,
+        clock: shared.clocking(rt, alloc, desk, second_sender, third)?,
         roster: Arc::new(alloc, Mutex::new(Roster::made(alloc)?))?,
         gate: InTurn {
             rt,
