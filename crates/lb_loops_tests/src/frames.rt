@@ -1,5 +1,8 @@
 //! Streams in pieces, and what waits to be written.
 
+ghost use Rattle.std.specs.Prelude.{length, ◌≤◌};
+ghost use Rattle.lb_wire.specs.Octets.{max_message};
+
 use lb_loops::{Framer, Message, Outgoing, frame};
 use std::alloc::{AllocError, Global};
 use std::process::Abort;
@@ -41,8 +44,13 @@ fn feed(framer: &mut Framer, piece: &[u8]) -> Result<Vec<Message>, AllocError> {
 }
 
 /// A message after its length. If memory was lacking, it is asked for once more.
-fn framed(alloc: Global, message: &[u8]) -> Result<Vec<u8>, AllocError> {
-    frame(alloc, message).or_else(|_refused| frame(alloc, message))
+fn framed(alloc: Global, message: &[u8]) -> Result<Vec<u8>, AllocError>
+    requires { length message.now ≤ max_message }
+{
+    match frame(alloc, message) {
+        Ok(octets) => Ok(octets),
+        Err(_refused) => frame(alloc, message),
+    }
 }
 
 /// Puts octets after what is to be written. If memory was lacking, they are put there once more.

@@ -1,6 +1,6 @@
 //! Outboxes: full, empty, ended, and between threads.
 
-ghost use Rattle.std.specs.Prelude.{IfSome, ◌∷◌, [], ◌≡◌};
+ghost use Rattle.std.specs.Prelude.{IfOk, IfSome, ◌∷◌, [], ◌≡◌};
 ghost use Rattle.lb_outbox.specs.declared.rule.SenderId.TheVariants.{One, Two};
 
 use lb_loops::{Job, Outbox, Receiver, Sender, Settled, finish};
@@ -33,8 +33,15 @@ fn marks_of(job: &Job) -> Option<(u8, u64)> {
 }
 
 /// An outbox with room for two jobs. If memory was lacking, it is asked for once more.
-fn made(alloc: Global) -> Result<(Sender, Sender, Receiver), AllocError> {
-    Outbox::made(alloc, 2).or_else(|_refused| Outbox::made(alloc, 2))
+fn made(alloc: Global) -> Result<(Sender, Sender, Receiver), AllocError>
+    ensures one { IfOk result (λ r. (r.0.id ≡ One) × (r.0.sent ≡ [])) }
+    ensures two { IfOk result (λ r. (r.1.id ≡ Two) × (r.1.sent ≡ [])) }
+    ensures same { IfOk result (λ r. (r.0.outbox ≡ r.2.outbox) × (r.1.outbox ≡ r.2.outbox)) }
+{
+    match Outbox::made(alloc, 2) {
+        Ok(made) => Ok(made),
+        Err(_refused) => Outbox::made(alloc, 2),
+    }
 }
 
 /// The third job comes back, and the receiver gets the two and no more.
