@@ -1,5 +1,6 @@
 mod Acting
 mod Counting
 mod Going
+mod Letters
 mod Places
 mod Probing

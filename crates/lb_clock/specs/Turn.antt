@@ -8,7 +8,7 @@ use Rattle.lb_clock.specs.declared.turn.End.TheVariants as ends
 use Rattle.lb_core.specs.declared.event.Event.{Event}
 use Rattle.lb_core.specs.declared.event.Event.TheVariants.{Tick}
 use Rattle.lb_lines.specs.Counts.{Fails, Grows}
-use Rattle.lb_lines.specs.Letter.{IsOutcome, outcome_letter}
+use Rattle.lb_lines.specs.Letter.{IsOutcome, Letter, outcome_letter}
 use Rattle.lb_lines.specs.Lines.{answered_as, events_in, is_by_device, pairs}
 use Rattle.lb_lines.specs.Roster.{Rostered}
 use Rattle.lb_lines.specs.Ways.{job_in, jobs_sent, packet_in, post_in, posts}
@@ -26,6 +26,15 @@ use Rattle.lb_probes.specs.declared.watched.Watched.{Watched}
 abbrev pub FailsBy : Bool → ℕ → ℕ → Type 0
 FailsBy true before after = Fails before after
 FailsBy false before after = after ≡ before
+
+-- what becomes of a letter, if there is one: what came of its send, and what it was sent by
+pub record Sends (old new : World) (letter : Option Letter) (sending : Sending) : Type 0 where
+  pub comes : Comes old.fronts old.there letter sending
+  pub taken : (roster : List Listed) → new.taken ≡ old.taken ++ packet_in roster letter sending
+  pub sent : new.outbox ≡ record old.outbox { sent = old.outbox.sent ++ job_in letter sending }
+  pub handed : new.handed ≡ old.handed ++ post_in letter sending
+  pub failed : FailsBy (is_by_device sending) old.failures new.failures
+  pub same : new ≡ record old { taken = new.taken; outbox = new.outbox; handed = new.handed; failures = new.failures }
 
 -- what becomes of an event that is handed to the desk: what comes of it, and of its send
 pub record Tells (old new : World) (event : Event) (outcome : Outcome) (sending : Sending) : Type 0 where

@@ -1,8 +1,8 @@
 //! What a turn of the clock sends.
 
 ghost use Rattle.std.specs.Prelude.{[], Bool, IfOk, List, None, Some, false, get_or, if◌then◌else◌, slice_get, ◌++◌, ◌==◌, ◌∷◌, ◌≡◌};
-ghost use Rattle.lb_clock.specs.Lines.{Comes, ComesBy, ProbeComes, expired_in as expired_in_spec, is_done, job_again as job_again_spec, probe_to, unsent as unsent_spec};
-ghost use Rattle.lb_clock.specs.Turn.{FailsBy};
+ghost use Rattle.lb_clock.specs.Lines.{ComesBy, ProbeComes, expired_in as expired_in_spec, is_done, job_again as job_again_spec, probe_to, unsent as unsent_spec};
+ghost use Rattle.lb_clock.specs.Turn.{FailsBy, Sends};
 ghost use Rattle.lb_clock.specs.World.{listened};
 ghost use Rattle.lb_health.specs.Probes.{probe_octets};
 ghost use Rattle.lb_lines.specs.Letter.{outcome_letter};
@@ -12,71 +12,47 @@ ghost use Rattle.lb_lines.specs.declared.letter.End.TheVariants.{Client};
 ghost use Rattle.lb_lines.specs.declared.report.Way.TheVariants as ways;
 ghost use Rattle.lb_lines.specs.declared.roster.Listed.{Listed};
 
+use crate::clock::ClockLoop;
 use lb_core::{Answer, Event};
 use lb_health::probe;
-use lb_lines::{Datagrams, Endpoint, Front, Line, Outcome, Posts, Sending, Socket, Way, Why};
+use lb_lines::{
+    Datagrams, End, Endpoint, Front, Line, Outcome, Outside, Posts, Sending, Socket, Taker, Way,
+    Why, letter_of,
+};
 use lb_outbox::{Job, Sender};
 use lb_wire::{Octets, Origin, ServerId};
 use std::alloc::{AllocError, Global};
 use std::sync::Wait;
 
-/// Sends what came of an event: a message at most. The clock has no way to a server.
-pub(crate) fn send_outcome<R: Wait, S: Datagrams, P: Posts>(
-    rt: &R,
-    alloc: Global,
-    sockets: &mut S,
-    outbox: &mut Sender,
-    posts: &mut P,
-    fronts: &[Front],
-    event: &Event,
-    outcome: &Outcome,
-) -> Sending
-    ensures comes { Comes fronts.now (listened (S.listens sockets.old)) (outcome_letter event.now outcome.now) result }
-    ensures taken { (roster : List Listed) → S.taken sockets.new ≡ S.taken sockets.old ++ packet_in roster (outcome_letter event.now outcome.now) result }
-    ensures sent { outbox.new ≡ record outbox.old { sent = outbox.old.sent ++ job_in (outcome_letter event.now outcome.now) result } }
-    ensures handed { P.handed posts.new ≡ P.handed posts.old ++ post_in (outcome_letter event.now outcome.now) result }
-    ensures failed { FailsBy (is_by_device result) (S.failures sockets.old) (S.failures sockets.new) }
-    ensures same { (S.given sockets.new ≡ S.given sockets.old) × (S.listens sockets.new ≡ S.listens sockets.old) × (S.reads sockets.new ≡ S.reads sockets.old) }
-{
-    match outcome {
-        Outcome::Answered(Answer::Local(bytes, _) | Answer::NoMemory(bytes))
-        | Outcome::Fault(_, Some(bytes)) => match event {
-            Event::Query { origin, .. } => {
-                send_to_client(rt, alloc, sockets, outbox, posts, fronts, *origin, bytes)
-            }
-            _ => Sending::Nothing,
-        },
-        Outcome::Answered(Answer::Forward(..)) => Sending::Failed(Why::Gone),
-        Outcome::Answered(Answer::Deliver(origin, bytes, _) | Answer::Expired(origin, bytes)) => {
-            send_to_client(rt, alloc, sockets, outbox, posts, fronts, *origin, bytes)
+impl<S: Datagrams, P: Posts, T: Taker, O: Outside> ClockLoop<S, P, T, O> {
+    /// Sends what came of an event: a message at most. The clock has no way to a server.
+    #[tactic(auto, using(crate::proofs::Letters::sends_none, crate::proofs::Letters::sends_to_server))]
+    pub(crate) fn send_outcome<R: Wait>(
+        &mut self,
+        rt: &R,
+        event: &Event,
+        outcome: &Outcome,
+    ) -> Sending
+        ensures { Sends self.old self.new (outcome_letter event.now outcome.now) result }
+    {
+        match letter_of(event, outcome) {
+            Some((End::Client(origin), bytes)) => self.send_to_client(rt, origin, bytes),
+            Some((End::Server(..), _)) => Sending::Failed(Why::Gone),
+            None => Sending::Nothing,
         }
-        _ => Sending::Nothing,
     }
-}
 
-/// Sends a message to a client, by what its listener is.
-fn send_to_client<R: Wait, S: Datagrams, P: Posts>(
-    rt: &R,
-    alloc: Global,
-    sockets: &mut S,
-    outbox: &mut Sender,
-    posts: &mut P,
-    fronts: &[Front],
-    origin: Origin,
-    bytes: &Octets,
-) -> Sending
-    ensures comes { Comes fronts.now (listened (S.listens sockets.old)) (Some (Client origin, bytes.now)) result }
-    ensures taken { (roster : List Listed) → S.taken sockets.new ≡ S.taken sockets.old ++ packet_in roster (Some (Client origin, bytes.now)) result }
-    ensures sent { outbox.new ≡ record outbox.old { sent = outbox.old.sent ++ job_in (Some (Client origin, bytes.now)) result } }
-    ensures handed { P.handed posts.new ≡ P.handed posts.old ++ post_in (Some (Client origin, bytes.now)) result }
-    ensures failed { FailsBy (is_by_device result) (S.failures sockets.old) (S.failures sockets.new) }
-    ensures same { (S.given sockets.new ≡ S.given sockets.old) × (S.listens sockets.new ≡ S.listens sockets.old) × (S.reads sockets.new ≡ S.reads sockets.old) }
-{
-    match front_of(fronts, origin) {
-        None | Some(Front::Console) => Sending::Failed(Why::Gone),
-        Some(Front::Datagram) => send_packet(sockets, origin, bytes),
-        Some(Front::Stream) => send_job(rt, alloc, outbox, origin, bytes),
-        Some(Front::Http) => hand(posts, origin, bytes),
+    /// Sends a message to a client, by what its listener is.
+    #[tactic(auto, using(crate::proofs::Letters::sends_nowhere))]
+    fn send_to_client<R: Wait>(&mut self, rt: &R, origin: Origin, bytes: &Octets) -> Sending
+        ensures { Sends self.old self.new (Some (Client origin, bytes.now)) result }
+    {
+        match front_of(self.fronts.as_slice(), origin) {
+            None | Some(Front::Console) => Sending::Failed(Why::Gone),
+            Some(Front::Datagram) => send_packet(&mut self.sockets, origin, bytes),
+            Some(Front::Stream) => send_job(rt, self.alloc, &mut self.sender, origin, bytes),
+            Some(Front::Http) => hand(&mut self.posts, origin, bytes),
+        }
     }
 }
 

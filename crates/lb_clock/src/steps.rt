@@ -13,7 +13,7 @@ ghost use Rattle.lb_probes.specs.Probes.{Answers, Follows, Here, IsAsked, IsDue,
 
 use crate::clock::ClockLoop;
 use crate::news::News;
-use crate::sending::{send_outcome, send_probe};
+use crate::sending::send_probe;
 use lb_lines::{
     Datagram, Datagrams, Gate, Line, Outcome, Outside, Place, Posts, Received, Rooms, Roster,
     Sending, Taker, outcome_of,
@@ -135,16 +135,7 @@ impl<S: Datagrams, P: Posts, T: Taker, O: Outside> ClockLoop<S, P, T, O> {
         }
         let outcome = outcome_of(&mut self.taker, event);
         let event = news.event(now);
-        let sending = send_outcome(
-            rt,
-            self.alloc,
-            &mut self.sockets,
-            &mut self.sender,
-            &mut self.posts,
-            self.fronts.as_slice(),
-            &event,
-            &outcome,
-        );
+        let sending = self.send_outcome(rt, &event, &outcome);
         Some(Told { outcome, sending })
     }
 }

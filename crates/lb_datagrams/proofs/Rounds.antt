@@ -78,6 +78,8 @@ turns_on n m a b c ls xs held d f first one two is =
     let few_two = two.few in
     let read_one = one.reads in
     let read_two = two.reads in
+    let asks_one = one.asks in
+    let asks_two = two.asks in
     let stamps_few : length (one.stamps.stamps ++ two.stamps.stamps) ≡ length one.stamps.stamps + length two.stamps.stamps = length-append one.stamps.stamps two.stamps.stamps in
     let stamps_one = one.stamps.few in
     let stamps_two = two.stamps.few in
@@ -90,8 +92,10 @@ turns_on n m a b c ls xs held d f first one two is =
           ∙ append_assoc (heard a.given) (map timeless (events_in ls ++ [])) (map timeless (events_in xs ++ held))
           ∙ ap (λ zs. heard a.given ++ zs) (sym (map-append timeless (events_in ls ++ []) (events_in xs ++ held)) ∙ ap (map timeless) events);
       reads = omega arith;
+      asks = omega arith;
       few = omega arith;
       unsent = two.unsent ∙ one.unsent;
+      there = two.there ∙ one.there;
       asked = asked_on ls xs one.asked two.asked;
       counted = omega arith;
       grows = subst (Grows a.pairs c.pairs) (sym pairs_all) (grows_on a.pairs b.pairs c.pairs (pairs ls) (pairs xs) one.grows two.grows);
@@ -110,8 +114,10 @@ pub turns_none : (a : World) → Turns 0 a a [] [] None
 turns_none a = record {
   heard_all = sym (append-nil (heard a.given));
   reads = omega arith;
+  asks = omega arith;
   few = omega arith;
   unsent = refl;
+  there = refl;
   asked = tt;
   counted = omega arith;
   grows = (omega arith, λ _. sym (append-nil a.pairs));
@@ -121,15 +127,17 @@ turns_none a = record {
 
 -- A round in which no datagram was read.
 pub turns_idle : (a b : World) (stamps : List Stamp) (device : Option DeviceFault)
-    → b.given ≡ a.given → b.taken ≡ a.taken → b.answered ≡ a.answered → b.pairs ≡ a.pairs → b.said ≡ a.said ++ stamps → length stamps ≤ 1
+    → b.given ≡ a.given → b.taken ≡ a.taken → b.there ≡ a.there → b.reads ≤ a.reads + 1 → b.answered ≡ a.answered → b.pairs ≡ a.pairs → b.said ≡ a.said ++ stamps → length stamps ≤ 1
     → FirstFault device a.failures b.failures a.outside b.outside → Turns 1 a b [] [] device
-turns_idle a b stamps device given taken answered pairs_same said few first =
+turns_idle a b stamps device given taken there asks answered pairs_same said few first =
     let reads : length b.given ≡ length a.given = ap (λ zs. length zs) given in
     let count : length b.pairs ≡ length a.pairs = ap (λ zs. length zs) pairs_same in record {
       heard_all = ap heard given ∙ sym (append-nil (heard a.given));
       reads = omega arith;
+      asks = asks;
       few = omega arith;
       unsent = taken;
+      there = there;
       asked = tt;
       counted = omega arith;
       grows = (omega arith, λ _. pairs_same ∙ sym (append-nil a.pairs));
@@ -144,15 +152,17 @@ one_heard d (Some y) e = rw e refl
 -- A round in which a datagram was read.
 pub turns_read : (a b : World) (d : Datagram) (stamp : Stamp) (ls : List Line) (held : List Event) (device : Option DeviceFault)
     → b.given ≡ a.given ++ d ∷ [] → map timeless (events_in ls ++ held) ≡ option_to_list (event_of d) → Stamped (events_in ls ++ held) (stamp ∷ []) → length ls + length held ≤ 1
-    → b.taken ≡ a.taken → AreAsked ls → b.answered ≡ a.answered + length (pairs ls) → Grows a.pairs b.pairs (pairs ls)
+    → b.taken ≡ a.taken → b.there ≡ a.there → b.reads ≤ a.reads + 1 → AreAsked ls → b.answered ≡ a.answered + length (pairs ls) → Grows a.pairs b.pairs (pairs ls)
     → b.said ≡ a.said ++ stamp ∷ [] → FirstFault device a.failures b.failures a.outside b.outside
     → Turns 1 a b ls held device
-turns_read a b d stamp ls held device given events stamped few taken asked counted grows said first =
+turns_read a b d stamp ls held device given events stamped few taken there asks asked counted grows said first =
     let reads : length b.given ≡ length a.given + 1 = ap (λ zs. length zs) given ∙ length-append a.given (d ∷ []) in record {
       heard_all = ap heard given ∙ filter_map-append event_of a.given (d ∷ []) ∙ ap (λ zs. heard a.given ++ zs) (one_heard d (event_of d) refl ∙ sym events);
       reads = omega arith;
+      asks = asks;
       few = few;
       unsent = taken;
+      there = there;
       asked = asked;
       counted = counted;
       grows = grows;
@@ -164,13 +174,16 @@ turns_read a b d stamp ls held device given events stamped few taken asked count
 pub turns_within : (n m : ℕ) (a b : World) (ls : List Line) (held : List Event) (device : Option DeviceFault) → n ≤ m → Turns n a b ls held device → Turns m a b ls held device
 turns_within n m a b ls held device le one =
     let reads = one.reads in
+    let asks = one.asks in
     let few = one.few in
     let stamps = one.stamps.few in
     record {
       heard_all = one.heard_all;
       reads = omega arith;
+      asks = omega arith;
       few = omega arith;
       unsent = one.unsent;
+      there = one.there;
       asked = one.asked;
       counted = one.counted;
       grows = one.grows;

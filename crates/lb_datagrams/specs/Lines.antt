@@ -1,5 +1,6 @@
 -- The lines of a turn of datagrams.
-use Rattle.std.specs.Prelude.{◌≡◌, ℕ, Bool, true, false, List, [], ◌∷◌, ◌++◌, Option, Some, None, ◌==◌, ◌&&◌}
+use Rattle.std.specs.Prelude.{◌≡◌, ℕ, Bool, true, false, List, [], ◌∷◌, ◌++◌, Option, Some, None, ◌==◌, ◌&&◌, get_or, map}
+use Rattle.std.specs.List.{range_with_len}
 use Rattle.lb_lines.specs.Counts.{Fails}
 use Rattle.lb_lines.specs.Letter.{IsOutcome, Letter, outcome_letter}
 use Rattle.lb_lines.specs.Moves.{is_there}
@@ -21,6 +22,14 @@ use Rattle.lb_wire.specs.declared.transport.Kind.TheVariants as kinds
 abbrev pub is_datagram : Kind → Bool
 is_datagram kinds.Datagram = true
 is_datagram kinds.Stream = false
+
+-- at which of the 256 places there is a listener
+abbrev pub listened : (ℕ → Bool) → List Bool
+listened listens = map listens (range_with_len 0 256)
+
+-- whether there is a listener at a place
+abbrev pub hears : List Bool → ℕ → Bool
+hears there front = get_or there front false
 
 -- whether sockets of datagrams have a way to the end of a letter
 abbrev pub reaches : (ℕ → Bool) → Letter → Bool

@@ -1,5 +1,5 @@
--- What rounds of a turn of datagrams do, before anything is sent.
-use Rattle.std.specs.Prelude.{◌≡◌, ℕ, ◌+◌, ◌≤◌, List, [], ◌∷◌, ◌++◌, Option, Some, None, length, map, option_to_list}
+-- What the loop of datagrams holds, and what rounds of its turn do before anything is sent.
+use Rattle.std.specs.Prelude.{◌≡◌, ℕ, ◌+◌, ◌≤◌, Bool, List, [], ◌∷◌, ◌++◌, Option, Some, None, length, map, option_to_list}
 use Rattle.lb_core.specs.declared.answer.Answer.{Answer}
 use Rattle.lb_core.specs.declared.event.Event.{Event}
 use Rattle.lb_datagrams.specs.Lines.{AreAsked}
@@ -16,20 +16,20 @@ use Rattle.lb_lines.specs.declared.report.Sending.TheVariants.{Nothing}
 use Rattle.lb_lines.specs.declared.report.Source.TheVariants as sources
 use Rattle.lb_lines.specs.declared.traffic.Datagram.{Datagram}
 
--- what sockets, taker and outside tell: the datagrams given and taken, the failures of the sockets; the answered calls and the pairs;
--- the stamps that were said, and the failures outside
+-- what its parts tell: the datagrams that its sockets gave and took, at which places they listen,
+-- how often they failed, and how often they were asked for a datagram; the answered calls and the
+-- pairs; the stamps that were said, and the failures outside; and the room that is kept for lines
 pub record World : Type 0 where
   pub given : List Datagram
   pub taken : List Datagram
+  pub there : List Bool
   pub failures : ℕ
+  pub reads : ℕ
   pub answered : ℕ
   pub pairs : List (Event × Answer)
   pub said : List Stamp
   pub outside : ℕ
-
-abbrev pub world : List Datagram → List Datagram → ℕ → ℕ → List (Event × Answer) → List Stamp → ℕ → World
-world given taken failures answered pairs said outside =
-    record { given = given; taken = taken; failures = failures; answered = answered; pairs = pairs; said = said; outside = outside }
+  pub room : ℕ
 
 -- these events have stamps that were said, at most so many
 pub record Stamps (old new : List Stamp) (events : List Event) (rounds : ℕ) : Type 0 where
@@ -42,8 +42,10 @@ pub record Stamps (old new : List Stamp) (events : List Event) (rounds : ℕ) : 
 pub record Turns (rounds : ℕ) (old new : World) (lines : List Line) (held : List Event) (device : Option DeviceFault) : Type 0 where
   pub heard_all : heard new.given ≡ heard old.given ++ map timeless (events_in lines ++ held)
   pub reads : length new.given ≤ length old.given + rounds
+  pub asks : new.reads ≤ old.reads + rounds
   pub few : length lines + length held ≤ rounds
   pub unsent : new.taken ≡ old.taken
+  pub there : new.there ≡ old.there
   pub asked : AreAsked lines
   pub counted : new.answered ≡ old.answered + length (pairs lines)
   pub grows : Grows old.pairs new.pairs (pairs lines)

@@ -1,9 +1,10 @@
-//! The turn of the loop of datagrams.
+//! The loop of datagrams, and its turn.
 #![tactic(auto)]
 
+mod datagrams;
 mod sending;
 mod spare;
 mod turn;
 
-pub use spare::Spare;
+pub use datagrams::DatagramLoop;
 pub use turn::datagram_turn;

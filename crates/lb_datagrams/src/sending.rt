@@ -1,7 +1,7 @@
 //! What a turn of datagrams sends.
 
 ghost use Rattle.std.specs.Prelude.{[], IsTrue, Some, ◌++◌, ◌∷◌, ◌≡◌, ◌≢◌, ℕ};
-ghost use Rattle.lb_datagrams.specs.Lines.{AreAsked, AreSent, Comes, FailsBy, IsAsked, IsSent, SentAs};
+ghost use Rattle.lb_datagrams.specs.Lines.{AreAsked, AreSent, Comes, FailsBy, IsAsked, IsSent, SentAs, hears, listened};
 ghost use Rattle.lb_lines.specs.Counts.{Rose};
 ghost use Rattle.lb_lines.specs.Letter.{outcome_letter};
 ghost use Rattle.lb_lines.specs.Lines.{FirstFault, any_by_device, is_by_device};
@@ -9,21 +9,21 @@ ghost use Rattle.lb_lines.specs.Ways.{packet_in, packets, sending_of};
 ghost use Rattle.lb_lines.specs.declared.report.DeviceFault.TheVariants as devices;
 ghost use Rattle.lb_lines.specs.declared.letter.End.TheVariants.{Client, Server};
 
-use lb_core::{Answer, Event};
+use lb_core::Event;
 use lb_lines::{
-    Datagrams, DeviceFault, Endpoint, Line, Outcome, Roster, Sending, Socket, Way, Why, fault_in,
-    first_fault,
+    Datagrams, DeviceFault, End, Endpoint, Line, Outcome, Roster, Sending, Socket, Way, Why,
+    fault_in, first_fault, letter_of,
 };
 use lb_wire::{Kind, Lane, Octets, Origin, ServerId};
 
-/// Sends what came of the event of each line, in order, and tells whether a device failed.
-pub(crate) fn send_all<S: Datagrams>(
+/// Sends what came of the event of each line, in order, and reports whether a device failed.
+pub(crate) fn send_lines<S: Datagrams>(
     sockets: &mut S,
     roster: &Roster,
     lines: &mut [Line],
 ) -> Option<DeviceFault>
     requires asked { AreAsked lines.old }
-    ensures sent { AreSent roster.now.listed (S.listens sockets.old) lines.old lines.new }
+    ensures sent { AreSent roster.now.listed (hears (listened (S.listens sockets.old))) lines.old lines.new }
     ensures taken { S.taken sockets.new ≡ S.taken sockets.old ++ packets roster.now.listed lines.new }
     ensures failed { IsTrue (any_by_device lines.new) → Rose (S.failures sockets.old) (S.failures sockets.new) }
     ensures device { (o : ℕ) → FirstFault result (S.failures sockets.old) (S.failures sockets.new) o o }
@@ -41,7 +41,7 @@ pub(crate) fn send_all<S: Datagrams>(
 /// Sends what came of the event of a line.
 fn send_line<S: Datagrams>(sockets: &mut S, roster: &Roster, line: &mut Line)
     requires asked { IsAsked line.old }
-    ensures sent { IsSent roster.now.listed (S.listens sockets.old) line.old line.new }
+    ensures sent { IsSent roster.now.listed (hears (listened (S.listens sockets.old))) line.old line.new }
     ensures taken { S.taken sockets.new ≡ S.taken sockets.old ++ packets roster.now.listed (line.new ∷ []) }
     ensures failed { FailsBy (is_by_device (sending_of line.new)) (S.failures sockets.old) (S.failures sockets.new) }
     ensures same { (S.given sockets.new ≡ S.given sockets.old) × (S.listens sockets.new ≡ S.listens sockets.old) × (S.reads sockets.new ≡ S.reads sockets.old) }
@@ -58,24 +58,17 @@ fn send_outcome<S: Datagrams>(
     event: &Event,
     outcome: &Outcome,
 ) -> Sending
-    ensures comes { Comes roster.now.listed (S.listens sockets.old) (outcome_letter event.now outcome.now) result }
+    ensures comes { Comes roster.now.listed (hears (listened (S.listens sockets.old))) (outcome_letter event.now outcome.now) result }
     ensures taken { S.taken sockets.new ≡ S.taken sockets.old ++ packet_in roster.now.listed (outcome_letter event.now outcome.now) result }
     ensures failed { FailsBy (is_by_device result) (S.failures sockets.old) (S.failures sockets.new) }
     ensures same { (S.given sockets.new ≡ S.given sockets.old) × (S.listens sockets.new ≡ S.listens sockets.old) × (S.reads sockets.new ≡ S.reads sockets.old) }
 {
-    match outcome {
-        Outcome::Answered(Answer::Local(bytes, _) | Answer::NoMemory(bytes))
-        | Outcome::Fault(_, Some(bytes)) => match event {
-            Event::Query { origin, .. } => { send_to_client(sockets, roster, *origin, bytes) }
-            _ => Sending::Nothing,
-        },
-        Outcome::Answered(Answer::Forward(server, lane, _, bytes)) => {
-            send_to_server(sockets, roster, *server, *lane, bytes)
+    match letter_of(event, outcome) {
+        Some((End::Client(origin), bytes)) => send_to_client(sockets, roster, origin, bytes),
+        Some((End::Server(server, lane), bytes)) => {
+            send_to_server(sockets, roster, server, lane, bytes)
         }
-        Outcome::Answered(Answer::Deliver(origin, bytes, _) | Answer::Expired(origin, bytes)) => {
-            send_to_client(sockets, roster, *origin, bytes)
-        }
-        _ => Sending::Nothing,
+        None => Sending::Nothing,
     }
 }
 
@@ -86,7 +79,7 @@ fn send_to_client<S: Datagrams>(
     origin: Origin,
     bytes: &Octets,
 ) -> Sending
-    ensures comes { Comes roster.now.listed (S.listens sockets.old) (Some (Client origin, bytes.now)) result }
+    ensures comes { Comes roster.now.listed (hears (listened (S.listens sockets.old))) (Some (Client origin, bytes.now)) result }
     ensures taken { S.taken sockets.new ≡ S.taken sockets.old ++ packet_in roster.now.listed (Some (Client origin, bytes.now)) result }
     ensures failed { FailsBy (is_by_device result) (S.failures sockets.old) (S.failures sockets.new) }
     ensures same { (S.given sockets.new ≡ S.given sockets.old) × (S.listens sockets.new ≡ S.listens sockets.old) × (S.reads sockets.new ≡ S.reads sockets.old) }
@@ -109,7 +102,7 @@ fn send_to_server<S: Datagrams>(
     lane: Lane,
     bytes: &Octets,
 ) -> Sending
-    ensures comes { Comes roster.now.listed (S.listens sockets.old) (Some (Server server lane, bytes.now)) result }
+    ensures comes { Comes roster.now.listed (hears (listened (S.listens sockets.old))) (Some (Server server lane, bytes.now)) result }
     ensures taken { S.taken sockets.new ≡ S.taken sockets.old ++ packet_in roster.now.listed (Some (Server server lane, bytes.now)) result }
     ensures failed { FailsBy (is_by_device result) (S.failures sockets.old) (S.failures sockets.new) }
     ensures same { (S.given sockets.new ≡ S.given sockets.old) × (S.listens sockets.new ≡ S.listens sockets.old) × (S.reads sockets.new ≡ S.reads sockets.old) }

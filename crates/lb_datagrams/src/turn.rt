@@ -2,74 +2,70 @@
 
 ghost use Rattle.std.specs.Prelude.{[], IfOk, IsTrue, List, None, OnErr, Some, false, is_some, length, map, option_to_list, vec_capacity, vec_len, ◌++◌, ◌+◌, ◌<◌, ◌∷◌, ◌≡◌, ◌≢◌, ◌≤◌, ℕ};
 ghost use Rattle.lb_core.specs.declared.event.Event.TheVariants.{Query, Reply};
-ghost use Rattle.lb_datagrams.specs.Lines.{AreLines};
-ghost use Rattle.lb_datagrams.specs.Turn.{Asks, Handles, Leads, Round, Stamps, Turns, asked_line, world};
+ghost use Rattle.lb_datagrams.specs.Lines.{AreLines, hears};
+ghost use Rattle.lb_datagrams.specs.Turn.{Asks, Handles, Leads, Round, Stamps, Turns, asked_line};
 ghost use Rattle.lb_lines.specs.Counts.{Grows, Rose};
 ghost use Rattle.lb_lines.specs.Events.{asker, heard, is_strange, timeless};
 ghost use Rattle.lb_lines.specs.Lines.{FirstFault, any_by_device, events_in, pairs};
 ghost use Rattle.lb_lines.specs.Ways.{packets};
 ghost use Rattle.lb_lines.specs.declared.report.DeviceFault.TheVariants as devices;
-ghost use Rattle.lb_wire.specs.Octets.{max_message};
 ghost use Rattle.lb_wire.specs.declared.transport.Kind.TheVariants as kinds;
 
-use crate::sending::send_all;
-use crate::spare::Spare;
+use crate::datagrams::DatagramLoop;
 use lb_core::Event;
 use lb_lines::{
     Datagram, Datagrams, DeviceFault, Endpoint, Gate, Line, Outcome, Outside, Received, Report,
-    Rooms, Roster, Sending, Socket, Source, Taker, excuse, first_fault,
+    Roster, Sending, Socket, Source, Taker, excuse, first_fault,
 };
-use lb_wire::{Kind, Lane, MAX_MESSAGE, Octets, Origin, ServerId};
-use std::alloc::{AllocError, Global};
-use std::mem;
+use lb_wire::{Kind, Lane, Octets, Origin, ServerId};
+use std::alloc::AllocError;
 
 /// The most events of a turn, and the most reads.
 const MOST: usize = 64;
 
-/// Reads at most 64 datagrams and hands the event of each to the desk; then sends what it answered, in order. (Who is sent several datagrams one
-/// behind the other is woken for the first of them alone, which is a fifth of what a query costs.) The spare room is kept from turn to turn. A stranger's
-/// datagram on a server's socket makes no event. No more is read where no socket has a datagram, where the gate holds an event, where there is no moment to be
-/// had, and where room for a datagram is refused before it is read; where a device fails it goes on to the next one. A send belongs to the round of its event: its
-/// fault comes before one of what is outside, behind which there is no round. The one error is want of memory for the report: then nothing was read or sent.
-pub fn datagram_turn<S: Datagrams, T: Taker, G: Gate, O: Outside>(
-    alloc: Global,
-    spare: &mut Spare,
-    sockets: &mut S,
+/// Reads at most 64 datagrams and hands the event of each to the desk; then sends what it answered,
+/// in order. (Of several datagrams in a row their receiver is woken for the first alone, which
+/// saves a fifth of what a query costs.) A stranger's datagram on a server's socket makes no event.
+/// No more is read if no socket has a datagram, if the gate holds an event, if there is no moment
+/// to be had, or if room for a datagram is refused before it is read; if a device fails, the turn
+/// goes on to the next one. A send belongs to the round of its event: its fault comes before one of
+/// what is outside, after which there is no round. The one error is lack of memory for the report:
+/// then nothing was read or sent.
+pub fn datagram_turn<S: Datagrams, T: Taker, O: Outside, G: Gate>(
+    part: &mut DatagramLoop<S, T, O>,
     roster: &Roster,
-    taker: &mut T,
     gate: &G,
-    outside: &mut O,
 ) -> Result<Report, AllocError>
     // Each datagram that the sockets gave, strangers' left out, is the event of a line, in order, or the one that the gate held.
-    ensures heard { IfOk result (λ r. heard (S.given sockets.new) ≡ heard (S.given sockets.old) ++ map timeless (events_in r.lines.items ++ option_to_list r.held)) }
+    ensures heard { IfOk result (λ r. heard part.new.given ≡ heard part.old.given ++ map timeless (events_in r.lines.items ++ option_to_list r.held)) }
     // The events have moments and words that were said in this turn, in order, each its own.
-    ensures stamped { IfOk result (λ r. Stamps (O.said outside.old) (O.said outside.new) (events_in r.lines.items ++ option_to_list r.held) 64) }
+    ensures stamped { IfOk result (λ r. Stamps part.old.said part.new.said (events_in r.lines.items ++ option_to_list r.held) 64) }
     // What the sockets took grew by the sends that are listed as done, in order.
-    ensures taken { IfOk result (λ r. S.taken sockets.new ≡ S.taken sockets.old ++ packets roster.now.listed r.lines.items) }
+    ensures taken { IfOk result (λ r. part.new.taken ≡ part.old.taken ++ packets roster.now.listed r.lines.items) }
     // The send of each line is the letter of its event and answer or fault; it was done, or failed for its cause.
-    ensures lines { IfOk result (λ r. AreLines roster.now.listed (S.listens sockets.old) r.lines.items) }
-    // The answers are the taker's.
-    ensures answered { IfOk result (λ r. T.answered taker.new ≡ T.answered taker.old + length (pairs r.lines.items)) }
-    ensures pairs { IfOk result (λ r. Grows (T.pairs taker.old) (T.pairs taker.new) (pairs r.lines.items)) }
+    ensures lines { IfOk result (λ r. AreLines roster.now.listed (hears part.old.there) r.lines.items) }
+    // The answers are the event handler's.
+    ensures answered { IfOk result (λ r. part.new.answered ≡ part.old.answered + length (pairs r.lines.items)) }
+    ensures pairs { IfOk result (λ r. Grows part.old.pairs part.new.pairs (pairs r.lines.items)) }
     // A device failed only where the count of its failures rose, and the first that failed is reported.
-    ensures failed { IfOk result (λ r. IsTrue (any_by_device r.lines.items) → Rose (S.failures sockets.old) (S.failures sockets.new)) }
-    ensures device { IfOk result (λ r. FirstFault r.device (S.failures sockets.old) (S.failures sockets.new) (O.failures outside.old) (O.failures outside.new)) }
+    ensures failed { IfOk result (λ r. IsTrue (any_by_device r.lines.items) → Rose part.old.failures part.new.failures) }
+    ensures device { IfOk result (λ r. FirstFault r.device part.old.failures part.new.failures part.old.outside part.new.outside) }
     ensures held { IfOk result (λ r. r.is_held ≡ is_some r.held) }
     ensures few { IfOk result (λ r. length r.lines.items + length (option_to_list r.held) ≤ 64) }
     // At most 64 datagrams were asked for, whatever came of it, and so at most 64 were read.
-    ensures reads { IfOk result (λ _. S.reads sockets.new ≤ S.reads sockets.old + 64) }
-    ensures given { IfOk result (λ _. length (S.given sockets.new) ≤ length (S.given sockets.old) + 64) }
-    ensures refused { OnErr result ((sockets.new ≡ sockets.old) × (taker.new ≡ taker.old) × (outside.new ≡ outside.old)) }
+    ensures reads { IfOk result (λ _. part.new.reads ≤ part.old.reads + 64) }
+    ensures given { IfOk result (λ _. length part.new.given ≤ length part.old.given + 64) }
+    ensures there { IfOk result (λ _. part.new.there ≡ part.old.there) }
+    ensures refused { OnErr result (part.new ≡ record part.old { room = part.new.room }) }
 {
-    let mut lines = spare.blank_lines();
-    lines.reserve(MOST)?;
+    let lines = part.room(MOST)?;
     let Report {
         mut lines,
         device,
         is_held,
         held,
-    } = all_rounds(alloc, spare, lines, sockets, taker, gate, outside);
-    let failed = send_all(sockets, roster, &mut lines);
+    } = part.all_rounds(lines, gate);
+    let failed = part.send_all(roster, &mut lines);
     Ok(Report {
         lines,
         device: failed.or(device),
@@ -78,43 +74,59 @@ pub fn datagram_turn<S: Datagrams, T: Taker, G: Gate, O: Outside>(
     })
 }
 
-/// At most 64 rounds, whose lines have room. Nothing is sent.
-fn all_rounds<S: Datagrams, T: Taker, G: Gate, O: Outside>(
-    alloc: Global,
-    spare: &mut Spare,
-    mut lines: Vec<Line>,
-    sockets: &mut S,
-    taker: &mut T,
-    gate: &G,
-    outside: &mut O,
-) -> Report
-    requires empty { (lines.items ≡ []) × (vec_len lines ≡ 0) }
-    requires room { 64 ≤ vec_capacity lines }
-    ensures turned { Turns 64 (world (S.given sockets.old) (S.taken sockets.old) (S.failures sockets.old) (T.answered taker.old) (T.pairs taker.old) (O.said outside.old) (O.failures outside.old)) (world (S.given sockets.new) (S.taken sockets.new) (S.failures sockets.new) (T.answered taker.new) (T.pairs taker.new) (O.said outside.new) (O.failures outside.new)) result.lines.items (option_to_list result.held) result.device }
-    ensures held { result.is_held ≡ is_some result.held }
-    ensures reads { S.reads sockets.new ≤ S.reads sockets.old + 64 }
-    ensures same { S.listens sockets.new ≡ S.listens sockets.old }
-{
-    let mut device = None;
-    for _ in 0..MOST {
-        let (room, rooms) = (&mut spare.room, &mut spare.rooms);
-        let step = match one_round(
-            alloc, room, rooms, &mut lines, sockets, taker, gate, outside,
-        ) {
-            Ok(step) => step,
-            Err(_refused) => return report(lines, device, None),
+impl<S: Datagrams, T: Taker, O: Outside> DatagramLoop<S, T, O> {
+    /// At most 64 rounds, whose lines have room. Nothing is sent.
+    fn all_rounds<G: Gate>(&mut self, mut lines: Vec<Line>, gate: &G) -> Report
+        requires empty { (lines.items ≡ []) × (vec_len lines ≡ 0) }
+        requires room { 64 ≤ vec_capacity lines }
+        ensures turned { Turns 64 self.old self.new result.lines.items (option_to_list result.held) result.device }
+        ensures held { result.is_held ≡ is_some result.held }
+    {
+        let mut device = None;
+        for _ in 0..MOST {
+            let Step {
+                device: found,
+                held,
+                is_last,
+            } = match self.one_round(&mut lines, gate) {
+                Ok(step) => step,
+                Err(_refused) => return report(lines, device, None),
+            };
+            device = first_fault(device, found);
+            if is_last {
+                return report(lines, device, held);
+            }
+        }
+        report(lines, device, None)
+    }
+
+    /// Asks for a moment, reads one datagram, and answers it. Room for it is taken before; refused,
+    /// none was read.
+    fn one_round<G: Gate>(&mut self, lines: &mut Vec<Line>, gate: &G) -> Result<Step, AllocError>
+        requires place { vec_len lines.old < vec_capacity lines.old }
+        ensures turned { IfOk result (λ s. Round self.old self.new lines.old.items lines.new.items (option_to_list s.held) s.device) }
+        ensures refused { OnErr result (Round self.old self.new lines.old.items lines.new.items [] None) }
+        ensures clear { IfOk result (λ s. s.is_last ≡ false → (s.held ≡ None) × (s.device ≢ Some devices.Outside)) }
+        ensures len { vec_len lines.new ≤ vec_len lines.old + 1 }
+        ensures room { vec_capacity lines.new ≡ vec_capacity lines.old }
+    {
+        self.spare.prepare()?;
+        let Some((now, word)) = self.outside.ask() else {
+            return Ok(no_event(Some(DeviceFault::Outside), true));
         };
-        let Step {
-            device: found,
-            held,
-            is_last,
-        } = step;
-        device = first_fault(device, found);
-        if is_last {
-            return report(lines, device, held);
+        match self.sockets.receive(&mut self.spare.rooms)? {
+            Received::Packet(datagram) => {
+                if is_stranger(datagram.socket, datagram.peer) {
+                    return Ok(no_event(None, false));
+                }
+                let copy = self.spare.copied(self.alloc, &datagram.bytes);
+                let stamp = (now, word);
+                Ok(packet(lines, &mut self.taker, gate, stamp, datagram, copy))
+            }
+            Received::Nothing => Ok(no_event(None, true)),
+            Received::Failed => Ok(no_event(Some(DeviceFault::Sockets), false)),
         }
     }
-    report(lines, device, None)
 }
 
 /// A report of these lines.
@@ -148,59 +160,21 @@ fn no_event(device: Option<DeviceFault>, is_last: bool) -> Step
     }
 }
 
-/// Asks for a moment, reads one datagram, and answers it. Room for it is taken before; refused, none was read.
-fn one_round<S: Datagrams, T: Taker, G: Gate, O: Outside>(
-    alloc: Global,
-    spare: &mut Vec<u8>,
-    rooms: &mut Rooms,
-    lines: &mut Vec<Line>,
-    sockets: &mut S,
-    taker: &mut T,
-    gate: &G,
-    outside: &mut O,
-) -> Result<Step, AllocError>
-    requires empty { vec_len spare.old ≡ 0 }
-    requires place { vec_len lines.old < vec_capacity lines.old }
-    ensures empty { vec_len spare.new ≡ 0 }
-    ensures turned { IfOk result (λ s. Round (world (S.given sockets.old) (S.taken sockets.old) (S.failures sockets.old) (T.answered taker.old) (T.pairs taker.old) (O.said outside.old) (O.failures outside.old)) (world (S.given sockets.new) (S.taken sockets.new) (S.failures sockets.new) (T.answered taker.new) (T.pairs taker.new) (O.said outside.new) (O.failures outside.new)) lines.old.items lines.new.items (option_to_list s.held) s.device) }
-    ensures refused { OnErr result (Round (world (S.given sockets.old) (S.taken sockets.old) (S.failures sockets.old) (T.answered taker.old) (T.pairs taker.old) (O.said outside.old) (O.failures outside.old)) (world (S.given sockets.new) (S.taken sockets.new) (S.failures sockets.new) (T.answered taker.new) (T.pairs taker.new) (O.said outside.new) (O.failures outside.new)) lines.old.items lines.new.items [] None) }
-    ensures clear { IfOk result (λ s. s.is_last ≡ false → (s.held ≡ None) × (s.device ≢ Some devices.Outside)) }
-    ensures reads { S.reads sockets.new ≤ S.reads sockets.old + 1 }
-    ensures same { S.listens sockets.new ≡ S.listens sockets.old }
-    ensures len { vec_len lines.new ≤ vec_len lines.old + 1 }
-    ensures room { vec_capacity lines.new ≡ vec_capacity lines.old }
-{
-    spare.reserve(MAX_MESSAGE)?;
-    let Some((now, word)) = outside.ask() else {
-        return Ok(no_event(Some(DeviceFault::Outside), true));
-    };
-    match sockets.receive(rooms)? {
-        Received::Packet(datagram) => Ok(packet(
-            alloc, spare, rooms, lines, taker, gate, now, word, datagram,
-        )),
-        Received::Nothing => Ok(no_event(None, true)),
-        Received::Failed => Ok(no_event(Some(DeviceFault::Sockets), false)),
-    }
-}
-
-/// Has one datagram answered, which was read at this moment, with this word.
+/// Has one datagram answered, which was read at this moment, with this word. The line has an event
+/// of the copy.
 #[inline(always)]
 fn packet<T: Taker, G: Gate>(
-    alloc: Global,
-    spare: &mut Vec<u8>,
-    rooms: &mut Rooms,
     lines: &mut Vec<Line>,
     taker: &mut T,
     gate: &G,
-    now: u64,
-    word: u16,
+    stamp: (u64, u16),
     datagram: Datagram,
+    copy: Octets,
 ) -> Step
-    requires empty { vec_len spare.old ≡ 0 }
-    requires wide { max_message ≤ vec_capacity spare.old }
+    requires known { is_strange datagram.socket datagram.peer ≡ false }
+    requires copy { copy ≡ datagram.bytes }
     requires place { vec_len lines.old < vec_capacity lines.old }
-    ensures empty { vec_len spare.new ≡ 0 }
-    ensures handled { Handles datagram (now, word) lines.old.items lines.new.items (T.answered taker.old) (T.answered taker.new) (T.pairs taker.old) (T.pairs taker.new) (option_to_list result.held) }
+    ensures handled { Handles datagram (stamp.0, stamp.1) lines.old.items lines.new.items (T.answered taker.old) (T.answered taker.new) (T.pairs taker.old) (T.pairs taker.new) (option_to_list result.held) }
     ensures device { result.device ≡ None }
     ensures last { result.is_last ≡ false → result.held ≡ None }
     ensures len { vec_len lines.new ≤ vec_len lines.old + 1 }
@@ -211,10 +185,7 @@ fn packet<T: Taker, G: Gate>(
         peer,
         bytes,
     } = datagram;
-    if is_stranger(socket, peer) {
-        return no_event(None, false);
-    }
-    let copy = copied(alloc, spare, rooms, &bytes);
+    let (now, word) = stamp;
     match socket {
         Socket::Listener(front) => {
             let event = query_made(now, word, front, peer, bytes);
@@ -272,7 +243,7 @@ fn answered<T: Taker>(lines: &mut Vec<Line>, taker: &mut T, event: Event, told: 
     }
 }
 
-/// Puts a line behind the others, for which room was taken. Its send is to come.
+/// Puts a line after the others, for which room was taken. Its send is to come.
 #[inline(always)]
 fn add(lines: &mut Vec<Line>, told: Event, outcome: Outcome)
     requires place { vec_len lines.old < vec_capacity lines.old }
@@ -326,18 +297,5 @@ fn is_stranger(socket: Socket, peer: Endpoint) -> bool
     match socket {
         Socket::Listener(_) => false,
         Socket::Server(_, _, at) => !at.is(peer),
-    }
-}
-
-/// A copy, in a block that is kept or one of its own; it takes the spare room where that is refused.
-fn copied(alloc: Global, spare: &mut Vec<u8>, rooms: &mut Rooms, bytes: &Octets) -> Octets
-    requires empty { vec_len spare.old ≡ 0 }
-    requires room { max_message ≤ vec_capacity spare.old }
-    ensures copy { result ≡ bytes.now }
-    ensures empty { vec_len spare.new ≡ 0 }
-{
-    match rooms.copied(bytes.as_slice()) {
-        Ok(copy) => copy,
-        Err(refused) => bytes.copy_into(mem::replace(spare, Vec::new(alloc)), refused),
     }
 }

@@ -14,7 +14,7 @@ mod traits;
 
 pub use endpoint::Endpoint;
 pub use laws::one_send_a_line;
-pub use letter::{End, excuse};
+pub use letter::{End, excuse, letter_of};
 pub use outcome::{add_line, fault_in, first_fault, outcome_of};
 pub use report::{DeviceFault, Line, Outcome, Report, Sending, Source, Way, Why};
 pub use rooms::Rooms;

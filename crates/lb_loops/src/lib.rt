@@ -5,7 +5,6 @@
 
 mod around;
 mod caller;
-mod datagram_loop;
 mod fault;
 mod last_sent;
 mod laws;
@@ -15,12 +14,11 @@ mod running;
 mod threads;
 
 pub use caller::Caller;
-pub use datagram_loop::DatagramLoop;
 pub use fault::LoopFault;
 pub use laws::callers_cross_threads;
 pub use lb_clock::{ClockLoop, clock_turn};
 pub use lb_connections::Connections;
-pub use lb_datagrams::{Spare, datagram_turn};
+pub use lb_datagrams::{DatagramLoop, datagram_turn};
 pub use lb_frames::{Framer, Incoming, Message, Outgoing, cuts_do_not_matter, frame, one_division};
 pub use lb_lines::{
     Accepted, Datagram, Datagrams, DeviceFault, End, Endpoint, Front, Gate, Line, Outcome, Outside,

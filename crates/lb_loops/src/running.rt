@@ -4,11 +4,11 @@ ghost use Rattle.std.specs.Prelude.{IfOk, ◌≡◌, ◌≤◌};
 ghost use Rattle.lb_loops.specs.Running.{ReceivesOn, SendsOn};
 
 use crate::around::Around;
-use crate::datagram_loop::DatagramLoop;
 use crate::fault::LoopFault;
 use crate::parts::{ClockParts, DatagramParts, StreamParts};
 use lb_clock::{ClockLoop, clock_turn};
 use lb_core::Event;
+use lb_datagrams::{DatagramLoop, datagram_turn};
 use lb_lines::{
     Datagrams, Gate, Line, Outside, Posts, Roster, Sending, Streams, Taker, Waker, Way, Why,
 };
@@ -72,7 +72,7 @@ fn all_datagrams<R: Wait, S: Datagrams, T: Taker, O: Outside, G: Gate, W: Waker>
     part: &mut DatagramLoop<S, T, O>,
     roster: &mut Roster,
 ) -> Result<(), LoopFault>
-    ensures { T.answered part.old.taker ≤ T.answered part.new.taker }
+    ensures { part.old.answered ≤ part.new.answered }
 {
     for _ in rt.forever() {
         if around.is_over() {
@@ -90,9 +90,9 @@ fn one_of_datagrams<S: Datagrams, T: Taker, O: Outside, G: Gate, W: Waker>(
     part: &mut DatagramLoop<S, T, O>,
     roster: &Roster,
 ) -> Result<(), LoopFault>
-    ensures { T.answered part.old.taker ≤ T.answered part.new.taker }
+    ensures { part.old.answered ≤ part.new.answered }
 {
-    let report = match part.turn(roster, &around.gate) {
+    let report = match datagram_turn(part, roster, &around.gate) {
         Ok(report) => report,
         // Nothing was done, and a later turn does it.
         Err(_refused) => return Ok(part.wait(WAIT)?),

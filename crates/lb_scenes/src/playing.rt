@@ -7,7 +7,7 @@ use crate::stage::Stage;
 use crate::words::Words;
 use lb_loops::{
     ClockLoop, DatagramLoop, Datagrams, Outside, Posts, StreamLoop, Streams, Taker, clock_turn,
-    stream_turn,
+    datagram_turn, stream_turn,
 };
 use std::sync::Wait;
 
@@ -56,11 +56,11 @@ fn turn_of_datagrams<R: Wait, D: Datagrams, T: Taker, O: Outside>(
     stage: &mut Stage<'_, R>,
     datagrams: &mut DatagramLoop<D, T, O>,
 ) -> Result<(), Fault> {
-    let report = match datagrams.turn(&stage.roster, &stage.gate) {
+    let report = match datagram_turn(datagrams, &stage.roster, &stage.gate) {
         Ok(report) => report,
         Err(_refused) => {
             stage.told.put("datagrams nomemory\n");
-            datagrams.turn(&stage.roster, &stage.gate)?
+            datagram_turn(datagrams, &stage.roster, &stage.gate)?
         }
     };
     let lines = tell_report(&mut stage.told, "datagrams", report);

@@ -2,7 +2,7 @@
 -- through each of their calls.
 use Rattle.std.proofs.Common.{◌≡◌, ℕ, ◌+◌, ◌≤◌, List, [], ◌∷◌, ◌++◌, Result, Ok, Err, length, ap, ◌∙◌, arith}
 use Rattle.std.proofs.lemmas.List.{length-append}
-use Rattle.lb_lines.specs.Moves.{Came, Client, Dialed, Faulty, GavePiece, Piece, Took, Traffic, TurnedAway}
+use Rattle.lb_lines.specs.Moves.{Came, Client, Dialed, GavePiece, Piece, Took, Traffic, TurnedAway}
 use Rattle.lb_lines.specs.declared.endpoint.Endpoint.{Endpoint}
 use Rattle.lb_lines.specs.declared.report.Why.{Why}
 use Rattle.lb_lines.specs.declared.report.Why.TheVariants as whys

@@ -1,7 +1,7 @@
 -- A connection that was looked at is not open at its end.
-use Rattle.std.proofs.Common.{◌≡◌, ℕ, inr, false, true, true≢false, Option, Some, None, refl, sym, ap, ◌∙◌, subst}
+use Rattle.std.proofs.Common.{◌≡◌, ℕ, inr, false, true, true≢false, Option, Some, None, sym, ap, ◌∙◌, subst}
 use Rattle.std.specs.Prelude.{Bool, IsTrue}
-use Rattle.lb_connections.specs.Table.{IsDone, IsToSee, Table, at}
+use Rattle.lb_connections.specs.Table.{IsDone, IsToSee, at}
 use Rattle.lb_connections.specs.declared.connection.Connection.{Connection}
 use Rattle.lb_frames.specs.Frames.{NoneWhole}
 use Rattle.lb_streams.specs.Goes.{IsUndone}

@@ -12,7 +12,8 @@ use crate::links::Links;
 use crate::streams::StreamLoop;
 use lb_core::{Answer, Event};
 use lb_lines::{
-    Endpoint, Front, Outcome, Outside, Posts, Roster, Sending, Streams, Taker, Way, Why,
+    End, Endpoint, Front, Outcome, Outside, Posts, Roster, Sending, Streams, Taker, Way, Why,
+    letter_of,
 };
 use lb_wire::{Kind, Lane, Octets, Origin, ServerId};
 use std::alloc::Global;
@@ -94,18 +95,14 @@ impl<S: Streams, T: Taker, O: Outside, P: Posts> StreamLoop<S, T, O, P> {
         ensures sends { Sends roster.now.listed self.old self.new (outcome_letter event.now outcome.now) result }
         ensures reads { reads_of self.new.net ≡ reads_of self.old.net }
     {
-        match outcome {
-            Outcome::Answered(Answer::Local(bytes, _) | Answer::NoMemory(bytes))
-            | Outcome::Fault(_, Some(bytes)) => match event {
-                Event::Query { origin, .. } => self.send_to_client(roster, *origin, bytes, false),
-                _ => Sending::Nothing,
-            },
-            Outcome::Answered(Answer::Forward(server, lane, _, bytes)) => {
-                self.send_to_server(roster, *server, *lane, bytes)
+        match letter_of(event, outcome) {
+            Some((End::Client(origin), bytes)) => {
+                self.send_to_client(roster, origin, bytes, ends_a_query(outcome))
             }
-            Outcome::Answered(Answer::Deliver(origin, bytes, _) | Answer::Expired(origin, bytes)) =>
-                { self.send_to_client(roster, *origin, bytes, true) }
-            _ => Sending::Nothing,
+            Some((End::Server(server, lane), bytes)) => {
+                self.send_to_server(roster, server, lane, bytes)
+            }
+            None => Sending::Nothing,
         }
     }
 
@@ -181,4 +178,12 @@ impl<S: Streams, T: Taker, O: Outside, P: Posts> StreamLoop<S, T, O, P> {
             Err(why) => Sending::Failed(why),
         }
     }
+}
+
+/// Whether a query that was sent on ends with this.
+fn ends_a_query(outcome: &Outcome) -> bool {
+    matches!(
+        outcome,
+        Outcome::Answered(Answer::Deliver(..) | Answer::Expired(..))
+    )
 }

@@ -4,4 +4,4 @@ use Rattle.lb_loops.proofs.running.all_datagrams.Given as goal
 abbrev pub invariant-loop : goal.invariant-loop
 invariant-loop g l =
     (goal.iterator-loop g).can_next l.iterator' × (goal.iterator-loop g).is_finite l.iterator'
-    × (g.T.Taker.answered l.fn.part.taker ≤ g.T.Taker.answered l.part.taker)
+    × (l.fn.part.answered ≤ l.part.answered)

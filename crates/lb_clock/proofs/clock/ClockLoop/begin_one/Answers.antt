@@ -1,4 +1,4 @@
-use Rattle.std.proofs.Common.{refl, sym, ap, ◌∙◌}
+use Rattle.std.proofs.Common.{refl, ap, ◌∙◌}
 use Rattle.lb_clock.specs.Acts.{setting}
 use Rattle.lb_clock.specs.Lines.{is_done}
 use Rattle.lb_clock.specs.World.{World}

@@ -1,4 +1,4 @@
-use Rattle.std.proofs.Common.{◌≡◌, rules, inl, inr, refl, sym, ap, ◌∙◌, subst, arith}
+use Rattle.std.proofs.Common.{◌≡◌, rules, inl, inr, refl, ap, ◌∙◌, arith}
 use Rattle.lb_clock.specs.Acts.{setting}
 use Rattle.lb_clock.specs.World.{World}
 use Rattle.lb_clock.proofs.Going.{goes_blind, goes_ended, goes_held, goes_none}

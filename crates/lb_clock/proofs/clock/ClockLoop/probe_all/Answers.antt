@@ -1,4 +1,4 @@
-use Rattle.std.proofs.Common.{rules, inl, inr, refl, ◌∙◌, arith}
+use Rattle.std.proofs.Common.{rules, inr, refl, ◌∙◌}
 use Rattle.lb_clock.specs.Acts.{setting}
 use Rattle.lb_clock.proofs.Going.{goes_none, goes_on}
 use Rattle.lb_clock.proofs.Probing.{asks_first, first_none, or_all, timely_on}

@@ -1,14 +1,14 @@
 use Rattle.std.proofs.Common.{◌≡◌, ◌≢◌, ℕ, ◌++◌, IsTrue, Some, drop, take}
-use Rattle.lb_datagrams.specs.Lines.{AreSent}
+use Rattle.lb_datagrams.specs.Lines.{AreSent, hears, listened}
 use Rattle.lb_lines.specs.Counts.{Rose}
 use Rattle.lb_lines.specs.Lines.{FirstFault, any_by_device}
 use Rattle.lb_lines.specs.Ways.{packets}
 use Rattle.lb_lines.specs.declared.report.DeviceFault.TheVariants as devices
-use Rattle.lb_datagrams.proofs.sending.send_all.Given as goal
+use Rattle.lb_datagrams.proofs.sending.send_lines.Given as goal
 
 abbrev pub invariant-loop-line : goal.invariant-loop-line
 invariant-loop-line g l =
-    AreSent l.roster.listed (g.S.Datagrams.listens l.fn.sockets) (take l.line-index l.fn.lines) (take l.line-index l.lines)
+    AreSent l.roster.listed (hears (listened (g.S.Datagrams.listens l.fn.sockets))) (take l.line-index l.fn.lines) (take l.line-index l.lines)
     × (drop l.line-index l.lines ≡ drop l.line-index l.fn.lines)
     × (g.S.Datagrams.taken l.sockets ≡ g.S.Datagrams.taken l.fn.sockets ++ packets l.roster.listed (take l.line-index l.lines))
     × (IsTrue (any_by_device (take l.line-index l.lines)) → Rose (g.S.Datagrams.failures l.fn.sockets) (g.S.Datagrams.failures l.sockets))

@@ -1,9 +1,9 @@
-use Rattle.std.proofs.Common.{rules, ◌≡◌, ◌<◌, length, get_or, sym, ◌∙◌, subst, arith}
-use Rattle.lb_datagrams.specs.Lines.{IsAsked, IsSent}
+use Rattle.std.proofs.Common.{rules, ◌≡◌, ℕ, Bool, ◌<◌, length, get_or, sym, ◌∙◌, subst, arith}
+use Rattle.lb_datagrams.specs.Lines.{IsAsked, IsSent, hears, listened}
 use Rattle.lb_datagrams.proofs.Sends.{asked_at, failed_more, line_clear, line_fault, same_behind, same_here, sent_more, taken_more}
 use Rattle.lb_lines.specs.Lines.{FirstFault, is_by_device}
 use Rattle.lb_lines.specs.Ways.{sending_of}
-use Rattle.lb_datagrams.proofs.sending.send_all.Goals as goal
+use Rattle.lb_datagrams.proofs.sending.send_lines.Goals as goal
 
 pub send_line-requires : goal.send_line-requires
 send_line-requires g c =
@@ -31,8 +31,9 @@ loop-line-preserved g c =
     let s'' = g.S.Datagrams.failures c.send_line.new.sockets in
     let fault = is_by_device (sending_of y) in
     let here : get_or ys at d ≡ get_or xs at d = same_here xs ys at d lt within inv.1 in
-    let sent : IsSent roster (g.S.Datagrams.listens c.args.sockets.now) (get_or xs at d) y = subst (λ l. IsSent roster (g.S.Datagrams.listens c.args.sockets.now) l y) here (subst (λ f. IsSent roster f (get_or ys at d) y) inv.7 c.send_line.ensures.sent) in (
-      sent_more roster (g.S.Datagrams.listens c.args.sockets.now) xs ys at d y lt within inv.0 sent,
+    let there = hears (listened (g.S.Datagrams.listens c.args.sockets.now)) in
+    let sent : IsSent roster there (get_or xs at d) y = subst (λ l. IsSent roster there l y) here (subst (λ (f : ℕ → Bool). IsSent roster (hears (listened f)) (get_or ys at d) y) inv.7 c.send_line.ensures.sent) in (
+      sent_more roster there xs ys at d y lt within inv.0 sent,
       same_behind xs ys at d y lt within inv.1,
       taken_more roster (g.S.Datagrams.taken c.args.sockets.now) (g.S.Datagrams.taken c.loop-line.sockets) (g.S.Datagrams.taken c.send_line.new.sockets) ys at y within inv.2 c.send_line.ensures.taken,
       failed_more c.loop-line.device s s' s'' ys at y within (inv.4 0) inv.3 c.send_line.ensures.failed,
