@@ -114,8 +114,8 @@ impl Words {
     }
 
     /// What changed since this was asked last, as sentences: servers that went down or came up, and
-    /// what was lacking. The first time nothing did. The one error is lack of memory: then the next
-    /// time says it.
+    /// what was lacking. The first time no server has changed, and what was lacking since the start
+    /// is said. The one error is lack of memory: then the next time says it.
     pub fn changes<R: Wait + Clock, J: Naming>(
         &mut self,
         rt: &R,

@@ -34,6 +34,16 @@ struct Lacked {
     is_full: bool,
 }
 
+/// Nothing has been lacking.
+const NOTHING: Lacked = Lacked {
+    room: 0,
+    memory: 0,
+    descriptors: 0,
+    outbox: 0,
+    http: 0,
+    is_full: false,
+};
+
 impl Lacked {
     /// What has been lacking until now.
     fn by_now(told: &Told, sends: &Sends) -> Lacked {
@@ -56,8 +66,7 @@ pub(crate) struct Watch {
     servers: Vec<Seen>,
     /// The attached caches that were reported as full.
     full: Vec<CacheId>,
-    /// None before the first look.
-    lacked: Option<Lacked>,
+    lacked: Lacked,
 }
 
 impl Watch {
@@ -67,13 +76,13 @@ impl Watch {
             alloc,
             servers: Vec::new(alloc),
             full: Vec::new(alloc),
-            lacked: None,
+            lacked: NOTHING,
         }
     }
 
     /// Says what changed since the last look: servers that went down or came up, and what was
-    /// lacking. The first look says nothing. The one error is lack of memory: then the next look
-    /// says it.
+    /// lacking. At the first look no server has changed, and what was lacking since the start is
+    /// said. The one error is lack of memory: then the next look says it.
     pub(crate) fn changes(
         &mut self,
         told: &Told,
@@ -84,13 +93,11 @@ impl Watch {
         let servers = self.seen(told, now, &mut said)?;
         let lacked = Lacked::by_now(told, sends);
         let full = self.full(told, &lacked, &mut said)?;
-        if let Some(before) = self.lacked {
-            say_lacks(self.alloc, &before, &lacked, &mut said)?;
-            say_full(self.alloc, &before, sends, &mut said)?;
-        }
+        say_lacks(self.alloc, &self.lacked, &lacked, &mut said)?;
+        say_full(self.alloc, &self.lacked, sends, &mut said)?;
         self.servers = servers;
         self.full = full;
-        self.lacked = Some(lacked);
+        self.lacked = lacked;
         Ok(said)
     }
 
@@ -124,10 +131,7 @@ impl Watch {
         now: &Lacked,
         said: &mut Vec<String>,
     ) -> Result<Vec<CacheId>, AllocError> {
-        let is_refused = match &self.lacked {
-            Some(before) => now.room > before.room,
-            None => false,
-        };
+        let is_refused = now.room > self.lacked.room;
         let mut full = Vec::with_capacity(self.alloc, told.caches.len())?;
         for store in &told.caches {
             let was_full = self.full.iter().any(|id| *id == store.id);
