@@ -22,6 +22,15 @@ goes_unput n old new message whys.NoServer is told device = absurd is
 goes_unput n old new message whys.Full is told device = absurd is
 goes_unput n old new message whys.Device is told device = absurd is
 
+-- no connection changed
+pub unput_others : (n : ℕ) (old new : Table) (message : List ℕ) (why : Why) → MayNotPut n message old new why → (c : ℕ) → at c new ≡ at c old
+unput_others n old new message whys.Gone is c = ap (at c) is.1
+unput_others n old new message whys.Limit is c = ap (at c) is.3
+unput_others n old new message whys.NoMemory is c = ap (at c) is.2
+unput_others n old new message whys.NoServer is c = absurd is
+unput_others n old new message whys.Full is c = absurd is
+unput_others n old new message whys.Device is c = absurd is
+
 stays_servers : (n : ℕ) (old new : Net) (x : Connection) → at n old.table ≡ Some x → new.table ≡ record old.table { refusals = old.table.refusals ++ n ∷ [] } → is_given_up whys.NoMemory (at n new.table) ≡ false → NoClient n new
 stays_servers n old new x was table kept = (
   ap (λ (t : Table). nat_lt n t.next) table ∙ below_at n old.table x was,

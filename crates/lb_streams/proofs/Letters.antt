@@ -18,9 +18,10 @@ use Rattle.lb_lines.specs.declared.roster.Listed.{Listed}
 use Rattle.lb_lines.specs.declared.traffic.Peer.TheVariants as peers
 use Rattle.lb_streams.proofs.Lifting.{server_before}
 use Rattle.lb_streams.proofs.Opening.{goes_nothing}
+use Rattle.lb_streams.proofs.Settling.{settles_nothing}
 use Rattle.lb_streams.proofs.Steps.{lives_at}
 use Rattle.lb_streams.proofs.Then.{closed_before, full_before, peer_before, servers_later}
-use Rattle.lb_streams.specs.Goes.{Goes, IsOver, Lacks, Misses, just, none}
+use Rattle.lb_streams.specs.Goes.{Goes, IsOver, Lacks, Misses, Settles, just, none}
 use Rattle.lb_streams.specs.Lines.{ComesClient, ComesPost, FitsConnection, FitsServer, IsClosed, IsMeant, IsServers, by_front, is_http}
 use Rattle.lb_streams.specs.Links.{Net, link}
 use Rattle.lb_streams.specs.Turn.{Sends}
@@ -102,10 +103,11 @@ same_but old new e = e ∙ ap (λ zs. record old { net = new.net; handed = zs })
 same_all : (old new : World) → new ≡ old → new ≡ record old { net = new.net; handed = new.handed }
 same_all old new e = subst (λ (w : World). w ≡ record old { net = w.net; handed = w.handed }) (sym e) refl
 
-pub client_done : (roster : List Listed) (old new : World) (origin : Origin) (bytes : List ℕ) → is_http (slice_get old.fronts origin.front) ≡ false → Goes old.net new.net none (just origin.slot bytes) → new ≡ record old { net = new.net }
+pub client_done : (roster : List Listed) (old new : World) (origin : Origin) (bytes : List ℕ) → is_http (slice_get old.fronts origin.front) ≡ false → Goes old.net new.net none (just origin.slot bytes) → Settles old.net new.net → new ≡ record old { net = new.net }
     → Sends roster old new (Some (Client origin, bytes)) (Done (ways.Connection origin.slot))
-client_done roster old new origin bytes stream goes same = record {
+client_done roster old new origin bytes stream goes settles same = record {
   goes = goes;
+  settles = settles;
   comes = by_stream (is_http (slice_get old.fronts origin.front)) (ComesPost (Done (ways.Connection origin.slot))) (ComesClient old.net new.net none origin.slot bytes (Done (ways.Connection origin.slot))) stream refl;
   handed = nothing_handed old new same;
   failed = no_device (Rose old.net.told.failures new.net.told.failures);
@@ -128,10 +130,11 @@ missed_device old new n bytes whys.Full X is t = absurd (true≢false (sym t))
 missed_device old new n bytes whys.Device X is t = absurd is
 missed_device old new n bytes whys.NoMemory X is t = absurd (true≢false (sym t))
 
-pub client_failed : (roster : List Listed) (old new : World) (origin : Origin) (bytes : List ℕ) (why : Why) → is_http (slice_get old.fronts origin.front) ≡ false → Goes old.net new.net none none → Misses old.net new.net origin.slot bytes why → new ≡ record old { net = new.net }
+pub client_failed : (roster : List Listed) (old new : World) (origin : Origin) (bytes : List ℕ) (why : Why) → is_http (slice_get old.fronts origin.front) ≡ false → Goes old.net new.net none none → Settles old.net new.net → Misses old.net new.net origin.slot bytes why → new ≡ record old { net = new.net }
     → Sends roster old new (Some (Client origin, bytes)) (Failed why)
-client_failed roster old new origin bytes why stream goes misses same = record {
+client_failed roster old new origin bytes why stream goes settles misses same = record {
   goes = goes;
+  settles = settles;
   comes = by_stream (is_http (slice_get old.fronts origin.front)) (ComesPost (Failed why)) (ComesClient old.net new.net none origin.slot bytes (Failed why)) stream (missed_client old.net new.net origin.slot bytes why misses);
   handed = nothing_handed old new same;
   failed = missed_device old.net new.net origin.slot bytes why (Rose old.net.told.failures new.net.told.failures) misses;
@@ -142,6 +145,7 @@ pub post_done : (roster : List Listed) (old new : World) (origin : Origin) (byte
     → Sends roster old new (Some (Client origin, bytes)) (Done ways.Post)
 post_done roster old new origin bytes http handed same = record {
   goes = goes_nothing old.net new.net (ap (λ (w : World). w.net) same);
+  settles = settles_nothing old.net new.net (ap (λ (w : World). w.net) same);
   comes = by_http (is_http (slice_get old.fronts origin.front)) (ComesPost (Done ways.Post)) (ComesClient old.net new.net none origin.slot bytes (Done ways.Post)) http refl;
   handed = handed;
   failed = no_device (Rose old.net.told.failures new.net.told.failures);
@@ -151,6 +155,7 @@ post_done roster old new origin bytes http handed same = record {
 pub post_gone : (roster : List Listed) (old new : World) (origin : Origin) (bytes : List ℕ) → is_http (slice_get old.fronts origin.front) ≡ true → new ≡ old → Sends roster old new (Some (Client origin, bytes)) (Failed whys.Gone)
 post_gone roster old new origin bytes http same = record {
   goes = goes_nothing old.net new.net (ap (λ (w : World). w.net) same);
+  settles = settles_nothing old.net new.net (ap (λ (w : World). w.net) same);
   comes = by_http (is_http (slice_get old.fronts origin.front)) (ComesPost (Failed whys.Gone)) (ComesClient old.net new.net none origin.slot bytes (Failed whys.Gone)) http tt;
   handed = ap (λ (w : World). w.handed) same ∙ sym (append-nil old.handed);
   failed = no_device (Rose old.net.told.failures new.net.told.failures);
@@ -160,6 +165,7 @@ post_gone roster old new origin bytes http same = record {
 pub post_wanting : (roster : List Listed) (old new : World) (origin : Origin) (bytes : List ℕ) → is_http (slice_get old.fronts origin.front) ≡ true → new ≡ old → Sends roster old new (Some (Client origin, bytes)) (Failed whys.NoMemory)
 post_wanting roster old new origin bytes http same = record {
   goes = goes_nothing old.net new.net (ap (λ (w : World). w.net) same);
+  settles = settles_nothing old.net new.net (ap (λ (w : World). w.net) same);
   comes = by_http (is_http (slice_get old.fronts origin.front)) (ComesPost (Failed whys.NoMemory)) (ComesClient old.net new.net none origin.slot bytes (Failed whys.NoMemory)) http tt;
   handed = ap (λ (w : World). w.handed) same ∙ sym (append-nil old.handed);
   failed = no_device (Rose old.net.told.failures new.net.told.failures);
@@ -169,16 +175,18 @@ post_wanting roster old new origin bytes http same = record {
 pub server_none : (roster : List Listed) (old : World) (server : ServerId) (lane : Lane) (bytes : List ℕ) → end_of server roster ≡ None → Sends roster old old (Some (Server server lane, bytes)) (Failed whys.NoServer)
 server_none roster old server lane bytes none_there = record {
   goes = goes_nothing old.net old.net refl;
+  settles = settles_nothing old.net old.net refl;
   comes = rw none_there refl;
   handed = sym (append-nil old.handed);
   failed = no_device (Rose old.net.told.failures old.net.told.failures);
   same = refl;
 }
 
-pub server_done : (roster : List Listed) (old new : World) (server : ServerId) (lane : Lane) (to : Endpoint) (bytes : List ℕ) (n : ℕ) → end_of server roster ≡ Some to → Goes old.net new.net none (just n bytes) → IsServers n server lane.number to new.net
+pub server_done : (roster : List Listed) (old new : World) (server : ServerId) (lane : Lane) (to : Endpoint) (bytes : List ℕ) (n : ℕ) → end_of server roster ≡ Some to → Goes old.net new.net none (just n bytes) → Settles old.net new.net → IsServers n server lane.number to new.net
     → new ≡ record old { net = new.net } → Sends roster old new (Some (Server server lane, bytes)) (Done (ways.Connection n))
-server_done roster old new server lane to bytes n there goes is same = record {
+server_done roster old new server lane to bytes n there goes settles is same = record {
   goes = goes;
+  settles = settles;
   comes = rw there (n, refl, is);
   handed = nothing_handed old new same;
   failed = no_device (Rose old.net.told.failures new.net.told.failures);
@@ -193,10 +201,11 @@ fits_device old new server to lane bytes whys.Full is t = absurd (true≢false (
 fits_device old new server to lane bytes whys.Device is t = is
 fits_device old new server to lane bytes whys.NoMemory is t = absurd (true≢false (sym t))
 
-pub server_failed : (roster : List Listed) (old new : World) (server : ServerId) (lane : Lane) (to : Endpoint) (bytes : List ℕ) (why : Why) → end_of server roster ≡ Some to → Goes old.net new.net none none → FitsServer old.net new.net none server to lane bytes why
+pub server_failed : (roster : List Listed) (old new : World) (server : ServerId) (lane : Lane) (to : Endpoint) (bytes : List ℕ) (why : Why) → end_of server roster ≡ Some to → Goes old.net new.net none none → Settles old.net new.net → FitsServer old.net new.net none server to lane bytes why
     → new ≡ record old { net = new.net } → Sends roster old new (Some (Server server lane, bytes)) (Failed why)
-server_failed roster old new server lane to bytes why there goes fits same = record {
+server_failed roster old new server lane to bytes why there goes settles fits same = record {
   goes = goes;
+  settles = settles;
   comes = rw there fits;
   handed = nothing_handed old new same;
   failed = fits_device old.net new.net server to lane bytes why fits;
@@ -206,6 +215,7 @@ server_failed roster old new server lane to bytes why there goes fits same = rec
 pub sends_nothing : (roster : List Listed) (old : World) → Sends roster old old None Nothing
 sends_nothing roster old = record {
   goes = goes_nothing old.net old.net refl;
+  settles = settles_nothing old.net old.net refl;
   comes = refl;
   handed = sym (append-nil old.handed);
   failed = no_device (Rose old.net.told.failures old.net.told.failures);

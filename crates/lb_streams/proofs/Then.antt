@@ -106,3 +106,12 @@ misses_before a b c n message whys.Limit one is = full_before n a b c none none 
 misses_before a b c n message whys.Full one is = is
 misses_before a b c n message whys.Device one is = is
 misses_before a b c n message whys.NoMemory one is = is
+
+-- The same, where nothing was sent after.
+pub misses_later : (a b c : Net) (n : ℕ) (message : List ℕ) (why : Why) → Goes b c none none → Misses a b n message why → Misses a c n message why
+misses_later a b c n message whys.NoServer two is = is
+misses_later a b c n message whys.Gone two is = over_later n a b c none none two is
+misses_later a b c n message whys.Limit two is = full_later n a b c none none [] message two is
+misses_later a b c n message whys.Full two is = is
+misses_later a b c n message whys.Device two is = is
+misses_later a b c n message whys.NoMemory two is = no_client_later n b c none none two is

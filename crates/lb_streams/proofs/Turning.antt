@@ -30,9 +30,10 @@ use Rattle.lb_streams.proofs.Counting.{failed_on, grown_by, grows_on, received_n
 use Rattle.lb_streams.proofs.Faring.{all_on, rose_earlier, rose_later}
 use Rattle.lb_streams.proofs.Lifting.{are_on, comes_before, comes_later}
 use Rattle.lb_streams.proofs.Opening.{goes_nothing}
+use Rattle.lb_streams.proofs.Settling.{settles_nothing, settles_on, settles_swept}
 use Rattle.lb_streams.proofs.Then.{goes_after, goes_as, goes_then}
 use Rattle.lb_streams.specs.Ends.{first_device}
-use Rattle.lb_streams.specs.Goes.{Goes, Notes, both, just, none}
+use Rattle.lb_streams.specs.Goes.{Goes, Notes, Settles, both, just, none}
 use Rattle.lb_streams.specs.Lines.{AreLines, Comes, event_by, message_by, messages_by, octets_in, sends_to}
 use Rattle.lb_streams.specs.Links.{Net}
 use Rattle.lb_streams.specs.Turn.{Fared, Receives, Sends, Stamps, Sweeps, Turns, Went}
@@ -55,6 +56,7 @@ turns_on roster n m k j a b c ls xs blind one two =
       goes = goes_as a.net c.net (both (messages_by ls) (messages_by xs)) (messages_by (ls ++ xs)) (both (sends_to ls) (sends_to xs)) (sends_to (ls ++ xs))
           (λ i. sym (flat_map-append (message_by i) ls xs)) (λ i. sym (flat_map-append (λ (l : Line). message_in i (letter_of l) (sending_of l)) ls xs))
           (all_on a.net b.net c.net (messages_by ls) (messages_by xs) (sends_to ls) (sends_to xs) one.goes two.goes);
+      settles = settles_on a.net b.net c.net one.settles two.settles;
       are = are_on a.fronts roster a.net b.net c.net (messages_by ls) (messages_by xs) ls xs one.goes two.goes one.are (subst (λ (fs : List Front). AreLines fs roster b.net c.net none xs) one.fronts two.are);
       received = subst (λ (js : List Job). Receives a.jobs c.jobs js) (sym jobs) (received_on a.jobs b.jobs c.jobs (jobs_received ls) (jobs_received xs) one.received two.received);
       handed = grown_by (λ (l : Line). post_in (letter_of l) (sending_of l)) a.handed b.handed c.handed ls xs one.handed two.handed;
@@ -75,10 +77,11 @@ no_device : (a b : ℕ) → IsTrue (any_by_device []) → Rose a b
 no_device a b t = absurd (true≢false (sym t))
 
 -- steps without a line: connections went on; stamps may have been said
-pub turns_quiet : (roster : List Listed) (n k : ℕ) (a b : World) (stamps : List Stamp) (blind : Bool) → Goes a.net b.net none none → b.jobs ≡ a.jobs → b.fronts ≡ a.fronts → b.handed ≡ a.handed → b.answered ≡ a.answered → b.pairs ≡ a.pairs
+pub turns_quiet : (roster : List Listed) (n k : ℕ) (a b : World) (stamps : List Stamp) (blind : Bool) → Goes a.net b.net none none → Settles a.net b.net → b.jobs ≡ a.jobs → b.fronts ≡ a.fronts → b.handed ≡ a.handed → b.answered ≡ a.answered → b.pairs ≡ a.pairs
     → b.said ≡ a.said ++ stamps → Fared blind a.outside b.outside → Turns roster n k a b [] blind
-turns_quiet roster n k a b stamps blind goes jobs fronts handed answered same said fared = record {
+turns_quiet roster n k a b stamps blind goes settles jobs fronts handed answered same said fared = record {
   goes = goes;
+  settles = settles;
   are = tt;
   received = subst (λ (r : Receiving). Receives a.jobs r []) (sym jobs) (received_none a.jobs);
   handed = handed ∙ sym (append-nil a.handed);
@@ -93,21 +96,21 @@ turns_quiet roster n k a b stamps blind goes jobs fronts handed answered same sa
 }
 
 pub turns_none : (roster : List Listed) (n k : ℕ) (a : World) → Turns roster n k a a [] false
-turns_none roster n k a = turns_quiet roster n k a a [] false (goes_nothing a.net a.net refl) refl refl refl refl refl (sym (append-nil a.said)) refl
+turns_none roster n k a = turns_quiet roster n k a a [] false (goes_nothing a.net a.net refl) (settles_nothing a.net a.net refl) refl refl refl refl refl (sym (append-nil a.said)) refl
 
 -- connections went on
-pub turns_net : (roster : List Listed) (n k : ℕ) (a b : World) → Goes a.net b.net none none → b ≡ record a { net = b.net } → Turns roster n k a b [] false
-turns_net roster n k a b goes e = turns_quiet roster n k a b [] false goes (ap (λ (w : World). w.jobs) e) (ap (λ (w : World). w.fronts) e) (ap (λ (w : World). w.handed) e) (ap (λ (w : World). w.answered) e) (ap (λ (w : World). w.pairs) e)
+pub turns_net : (roster : List Listed) (n k : ℕ) (a b : World) → Goes a.net b.net none none → Settles a.net b.net → b ≡ record a { net = b.net } → Turns roster n k a b [] false
+turns_net roster n k a b goes settles e = turns_quiet roster n k a b [] false goes settles (ap (λ (w : World). w.jobs) e) (ap (λ (w : World). w.fronts) e) (ap (λ (w : World). w.handed) e) (ap (λ (w : World). w.answered) e) (ap (λ (w : World). w.pairs) e)
     (ap (λ (w : World). w.said) e ∙ sym (append-nil a.said)) (ap (λ (w : World). w.outside) e)
 
 -- a moment was said, and nothing came of it
 pub turns_said : (roster : List Listed) (n k : ℕ) (a b : World) (stamp : Stamp) → b ≡ record a { said = a.said ++ stamp ∷ [] } → Turns roster n k a b [] false
-turns_said roster n k a b stamp e = turns_quiet roster n k a b (stamp ∷ []) false (goes_nothing a.net b.net (ap (λ (w : World). w.net) e)) (ap (λ (w : World). w.jobs) e) (ap (λ (w : World). w.fronts) e) (ap (λ (w : World). w.handed) e)
+turns_said roster n k a b stamp e = turns_quiet roster n k a b (stamp ∷ []) false (goes_nothing a.net b.net (ap (λ (w : World). w.net) e)) (settles_nothing a.net b.net (ap (λ (w : World). w.net) e)) (ap (λ (w : World). w.jobs) e) (ap (λ (w : World). w.fronts) e) (ap (λ (w : World). w.handed) e)
     (ap (λ (w : World). w.answered) e) (ap (λ (w : World). w.pairs) e) (ap (λ (w : World). w.said) e) (ap (λ (w : World). w.outside) e)
 
 -- there was no moment to be had
 pub turns_blind : (roster : List Listed) (n k : ℕ) (a b : World) → b ≡ record a { outside = b.outside } → Fails a.outside b.outside → Turns roster n k a b [] true
-turns_blind roster n k a b e fails = turns_quiet roster n k a b [] true (goes_nothing a.net b.net (ap (λ (w : World). w.net) e)) (ap (λ (w : World). w.jobs) e) (ap (λ (w : World). w.fronts) e) (ap (λ (w : World). w.handed) e)
+turns_blind roster n k a b e fails = turns_quiet roster n k a b [] true (goes_nothing a.net b.net (ap (λ (w : World). w.net) e)) (settles_nothing a.net b.net (ap (λ (w : World). w.net) e)) (ap (λ (w : World). w.jobs) e) (ap (λ (w : World). w.fronts) e) (ap (λ (w : World). w.handed) e)
     (ap (λ (w : World). w.answered) e) (ap (λ (w : World). w.pairs) e) (ap (λ (w : World). w.said) e ∙ sym (append-nil a.said)) fails
 
 -- more events and jobs
@@ -116,6 +119,7 @@ turns_within roster n m k j a b ls blind nm kj it =
     let events = it.few_events in let jobs = it.few_jobs in
     record {
       goes = it.goes;
+      settles = it.settles;
       are = it.are;
       received = it.received;
       handed = it.handed;
@@ -152,6 +156,7 @@ turns_job roster a b c from job sending came sent =
     let goes : Goes a.net c.net none (λ i. message_in i (Some (job_letter job)) sending) = subst (λ (z : Net). Goes z c.net none (λ i. message_in i (Some (job_letter job)) sending)) net sent.goes in
     record {
       goes = goes_as a.net c.net none (messages_by (line ∷ [])) (λ i. message_in i (Some (job_letter job)) sending) (sends_to (line ∷ [])) (λ i. refl) (λ i. one_send (Some (job_letter job)) sending line i refl refl) goes;
+      settles = subst (λ (z : Net). Settles z c.net) net sent.settles;
       are = (subst (λ (z : Net). Comes a.fronts roster z c.net none (Some (job_letter job)) sending) net (subst (λ (fs : List Front). Comes fs roster b.net c.net none (Some (job_letter job)) sending) fronts sent.comes), tt);
       received = record { deliveries = delivery from job ∷ []; are = (refl, tt); received = jobs };
       handed = sent.handed ∙ ap (λ (w : World). w.handed ++ post_in (Some (job_letter job)) sending) came ∙ ap (λ zs. a.handed ++ zs) (sym (append-nil (post_in (Some (job_letter job)) sending)));
@@ -180,9 +185,9 @@ taken_by now word n peer bytes event outcome sending c e = ap (λ (zs : List (Li
 pub turns_told : (roster : List Listed) (a mid sent b : World) (n now word : ℕ) (peer : Peer) (bytes : List ℕ) (event : Event) (outcome : Outcome) (sending : Sending) (said : List Stamp)
     → IsFirst n peer bytes a.net.table → event ≡ event_by now word n peer bytes → a.said ≡ said ++ (now, word) ∷ []
     → Goes a.net mid.net (just n bytes) none → mid ≡ record a { net = mid.net; answered = mid.answered; pairs = mid.pairs } → mid.answered ≡ a.answered + length (answered_as event outcome) → Grows a.pairs mid.pairs (answered_as event outcome)
-    → IsOutcome event outcome → Sends roster mid sent (outcome_letter event outcome) sending → Goes sent.net b.net none none → b ≡ record sent { net = b.net }
+    → IsOutcome event outcome → Sends roster mid sent (outcome_letter event outcome) sending → Goes sent.net b.net none none → Settles a.net b.net → b ≡ record sent { net = b.net }
     → Turns roster 1 0 (record a { said = said }) b (lines.Event (sources.Connection n) event outcome sending ∷ []) false
-turns_told roster a mid sent b n now word peer bytes event outcome sending said first made stamp took desk counted grows is_outcome sends settled last =
+turns_told roster a mid sent b n now word peer bytes event outcome sending said first made stamp took desk counted grows is_outcome sends settled settles last =
     let line : Line = lines.Event (sources.Connection n) event outcome sending in
     let letter : Option Letter = outcome_letter event outcome in
     let same : sent ≡ record mid { net = sent.net; handed = sent.handed } = sends.same in
@@ -198,6 +203,7 @@ turns_told roster a mid sent b n now word peer bytes event outcome sending said 
     let failures = settled.failures in let before = took.failures in
     record {
       goes = goes_as a.net b.net (just n bytes) (messages_by (line ∷ [])) (λ i. message_in i letter sending) (sends_to (line ∷ [])) (λ i. taken_by now word n peer bytes event outcome sending i made) (λ i. one_send letter sending line i refl refl) goes_all;
+      settles = settles;
       are = (((n, refl, record { peer = peer; is = inl (first.0, first.2, first.3); now = now; word = word; bytes = bytes; made = made }), is_outcome, comes_all), tt);
       received = subst (λ (r : Receiving). Receives a.jobs r []) (sym (ap (λ (w : World). w.jobs) last ∙ ap (λ (w : World). w.jobs) same ∙ ap (λ (w : World). w.jobs) desk)) (received_none a.jobs);
       handed = ap (λ (w : World). w.handed) last ∙ sends.handed ∙ ap (λ (w : World). w.handed ++ post_in letter sending) desk ∙ ap (λ zs. a.handed ++ zs) (sym (append-nil (post_in letter sending)));
@@ -225,12 +231,12 @@ fared_last : (blind : Bool) (a b c : ℕ) → c ≡ b → Fared blind a b → Fa
 fared_last blind a b c e is = subst (Fared blind a) (sym e) is
 
 -- what is written behind the rounds
-pub turns_last : (roster : List Listed) (n k : ℕ) (a b c : World) (ls : List Line) (blind : Bool) → Turns roster n k a b ls blind → Goes b.net c.net none none → c ≡ record b { net = c.net } → Turns roster n k a c ls blind
-turns_last roster n k a b c ls blind one goes e =
-    let after : Turns roster 0 0 b c [] false = turns_net roster 0 0 b c goes e in
+pub turns_last : (roster : List Listed) (n k : ℕ) (a b c : World) (ls : List Line) (blind : Bool) → Turns roster n k a b ls blind → Goes b.net c.net none none → Settles b.net c.net → c ≡ record b { net = c.net } → Turns roster n k a c ls blind
+turns_last roster n k a b c ls blind one goes settles e =
     let failures = goes.failures in
     record {
       goes = goes_after a.net b.net c.net (messages_by ls) (sends_to ls) one.goes goes;
+      settles = settles_on a.net b.net c.net one.settles settles;
       are = subst (λ (zs : List Line). AreLines a.fronts roster a.net c.net none zs) (append-nil ls) (are_on a.fronts roster a.net b.net c.net (messages_by ls) none ls [] one.goes goes one.are tt);
       received = subst (λ (r : Receiving). Receives a.jobs r (jobs_received ls)) (sym (ap (λ (w : World). w.jobs) e)) one.received;
       handed = ap (λ (w : World). w.handed) e ∙ one.handed;
@@ -246,20 +252,20 @@ turns_last roster n k a b c ls blind one goes e =
 
 -- A whole turn.
 went_turns : (roster : List Listed) (old asked followed rounds new : World) (swept : Net) (now word : ℕ) (lines : List Line) (blind : Bool)
-    → asked ≡ record old { net = swept; said = old.said ++ (now, word) ∷ [] } → Goes asked.net followed.net none none → followed ≡ record asked { net = followed.net } → Turns roster 64 64 followed rounds lines blind
-    → Goes rounds.net new.net none none → new ≡ record rounds { net = new.net } → Turns roster 64 64 (record old { net = swept }) new lines blind
-went_turns roster old asked followed rounds new swept now word lines blind ask follow is_followed turned written last =
+    → asked ≡ record old { net = swept; said = old.said ++ (now, word) ∷ [] } → Goes asked.net followed.net none none → Settles asked.net followed.net → followed ≡ record asked { net = followed.net } → Turns roster 64 64 followed rounds lines blind
+    → Goes rounds.net new.net none none → Settles rounds.net new.net → new ≡ record rounds { net = new.net } → Turns roster 64 64 (record old { net = swept }) new lines blind
+went_turns roster old asked followed rounds new swept now word lines blind ask follow follows is_followed turned written writes last =
     let start : World = record old { net = swept } in
     let said : Turns roster 0 0 start asked [] false = turns_said roster 0 0 start asked (now, word) ask in
-    let on : Turns roster 0 0 asked followed [] false = turns_net roster 0 0 asked followed follow is_followed in
+    let on : Turns roster 0 0 asked followed [] false = turns_net roster 0 0 asked followed follow follows is_followed in
     let both_begun : Turns roster 0 0 start followed [] false = turns_on roster 0 0 0 0 start asked followed [] [] false said on in
     let all : Turns roster 64 64 start rounds lines blind = turns_on roster 0 64 0 64 start followed rounds [] lines blind both_begun turned in
-    turns_last roster 64 64 start rounds new lines blind all written last
+    turns_last roster 64 64 start rounds new lines blind all written writes last
 
 pub went : (roster : List Listed) (old asked followed rounds new : World) (swept : Net) (now word : ℕ) (lines : List Line) (blind : Bool) → Sweeps now (record old.net { device = None }) swept
-    → asked ≡ record old { net = swept; said = old.said ++ (now, word) ∷ [] } → Goes asked.net followed.net none none → followed ≡ record asked { net = followed.net } → Turns roster 64 64 followed rounds lines blind
-    → Goes rounds.net new.net none none → new ≡ record rounds { net = new.net } → Went roster old new lines
-went roster old asked followed rounds new swept now word lines blind sweeps ask follow is_followed turned written last = record {
+    → asked ≡ record old { net = swept; said = old.said ++ (now, word) ∷ [] } → Goes asked.net followed.net none none → Settles asked.net followed.net → followed ≡ record asked { net = followed.net } → Turns roster 64 64 followed rounds lines blind
+    → Goes rounds.net new.net none none → Settles rounds.net new.net → new ≡ record rounds { net = new.net } → Went roster old new lines
+went roster old asked followed rounds new swept now word lines blind sweeps ask follow follows is_followed turned written writes last = record {
   now = now;
   swept = swept;
   sweeps = sweeps;
@@ -267,7 +273,7 @@ went roster old asked followed rounds new swept now word lines blind sweeps ask 
   later = turned.stamps.stamps;
   said = ap (λ (w : World). w.said) last ∙ turned.stamps.said ∙ ap (λ (w : World). w.said ++ turned.stamps.stamps) is_followed ∙ ap (λ (w : World). w.said ++ turned.stamps.stamps) ask ∙ append_assoc old.said ((now, word) ∷ []) turned.stamps.stamps;
   blind = blind;
-  turns = went_turns roster old asked followed rounds new swept now word lines blind ask follow is_followed turned written last;
+  turns = went_turns roster old asked followed rounds new swept now word lines blind ask follow follows is_followed turned written writes last;
 }
 
 -- the first device fault of a turn
@@ -280,9 +286,13 @@ first_of true (Some devices.Outside) s s' o o' notes fared = absurd notes
 first_of false (Some devices.Outside) s s' o o' notes fared = absurd notes
 
 pub went_first : (roster : List Listed) (old asked followed rounds new : World) (swept : Net) (now word : ℕ) (lines : List Line) (blind : Bool) → Sweeps now (record old.net { device = None }) swept
-    → asked ≡ record old { net = swept; said = old.said ++ (now, word) ∷ [] } → Goes asked.net followed.net none none → followed ≡ record asked { net = followed.net } → Turns roster 64 64 followed rounds lines blind
-    → Goes rounds.net new.net none none → new ≡ record rounds { net = new.net } → FirstFault (first_device blind new.net.device) old.net.told.failures new.net.told.failures old.outside new.outside
-went_first roster old asked followed rounds new swept now word lines blind sweeps ask follow is_followed turned written last =
-    let all : Turns roster 64 64 (record old { net = swept }) new lines blind = went_turns roster old asked followed rounds new swept now word lines blind ask follow is_followed turned written last in
+    → asked ≡ record old { net = swept; said = old.said ++ (now, word) ∷ [] } → Goes asked.net followed.net none none → Settles asked.net followed.net → followed ≡ record asked { net = followed.net } → Turns roster 64 64 followed rounds lines blind
+    → Goes rounds.net new.net none none → Settles rounds.net new.net → new ≡ record rounds { net = new.net } → FirstFault (first_device blind new.net.device) old.net.told.failures new.net.told.failures old.outside new.outside
+went_first roster old asked followed rounds new swept now word lines blind sweeps ask follow follows is_followed turned written writes last =
+    let all : Turns roster 64 64 (record old { net = swept }) new lines blind = went_turns roster old asked followed rounds new swept now word lines blind ask follow follows is_followed turned written writes last in
     first_of blind new.net.device old.net.told.failures new.net.told.failures old.outside new.outside
     (subst (λ (k : ℕ). Notes None new.net.device k new.net.told.failures) (ap (λ (t : Traffic). t.failures) sweeps.told) (subst (λ (d : Option DeviceFault). Notes d new.net.device swept.told.failures new.net.told.failures) sweeps.device all.goes.noted)) all.fared
+
+-- no connection came to its end in a whole turn and was left open
+pub went_settles : (roster : List Listed) (old new : World) (lines : List Line) → Went roster old new lines → Settles old.net new.net
+went_settles roster old new lines it = settles_on old.net it.swept new.net (settles_swept it.now (record old.net { device = None }) it.swept it.sweeps) it.turns.settles

@@ -1,6 +1,6 @@
 -- What happens to the connections of a loop.
 use Rattle.std.specs.Prelude.{◌≡◌, ◌≢◌, ℕ, ◌+◌, ◌≤◌, ◌^◌, ◌⊎◌, Bool, List, [], ◌∷◌, ◌++◌, Option, Some, None, Result, Ok, Err, length, true, false, if◌then◌else◌, ◌==◌}
-use Rattle.lb_connections.specs.Table.{IsDone, at, clients, is_client}
+use Rattle.lb_connections.specs.Table.{IsDone, IsNew, at, clients, is_client}
 use Rattle.lb_connections.specs.declared.connection.Connection.{Connection}
 use Rattle.lb_lines.specs.Counts.{Fails, Rose}
 use Rattle.lb_lines.specs.Moves.{Traffic, TurnedAway}
@@ -148,6 +148,18 @@ Lacks old new _ = ⊥
 -- is left to be answered or written
 abbrev pub IsUndone : ℕ → Net → Type 0
 IsUndone n net = (x : Connection) → at n net.table ≡ Some x → IsDone x → ⊥
+
+-- no connection but that of this number changed
+abbrev pub SameBut : ℕ → Net → Net → Type 0
+SameBut n old new = (c : ℕ) → c ≢ n → at c new.table ≡ at c old.table
+
+-- Each connection that was not open at its end is not open at its end: one that came there was closed.
+abbrev pub Settles : Net → Net → Type 0
+Settles old new = (c : ℕ) → IsUndone c old → IsUndone c new
+
+-- of new connections none is open at its end
+abbrev pub NoneDone : Type 0
+NoneDone = (net : Net) → IsNew net.table → (c : ℕ) → IsUndone c net
 
 -- a client that waited was turned away, or there was none
 pub record TurnsOneAway (old new : Net) : Type 0 where

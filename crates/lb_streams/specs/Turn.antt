@@ -14,7 +14,7 @@ use Rattle.lb_lines.specs.declared.roster.Listed.{Listed}
 use Rattle.lb_outbox.specs.Outbox.{Receiving}
 use Rattle.lb_outbox.specs.declared.job.Job.{Job}
 use Rattle.lb_outbox.specs.declared.rule.Delivery.{Delivery}
-use Rattle.lb_streams.specs.Goes.{Goes, none}
+use Rattle.lb_streams.specs.Goes.{Goes, Settles, none}
 use Rattle.lb_streams.specs.Lines.{AreLines, Comes, messages_by, sends_to}
 use Rattle.lb_streams.specs.Links.{Net}
 use Rattle.lb_streams.specs.World.{World}
@@ -22,6 +22,7 @@ use Rattle.lb_streams.specs.World.{World}
 -- a letter, and what came of its send
 pub record Sends (roster : List Listed) (old new : World) (letter : Option Letter) (sending : Sending) : Type 0 where
   pub goes : Goes old.net new.net none (λ c. message_in c letter sending)
+  pub settles : Settles old.net new.net
   pub comes : Comes old.fronts roster old.net new.net none letter sending
   pub handed : new.handed ≡ old.handed ++ post_in letter sending
   pub failed : IsTrue (is_by_device sending) → Rose old.net.told.failures new.net.told.failures
@@ -52,6 +53,7 @@ Fared false before after = after ≡ before
 -- Steps with at most so many events and jobs lead from one world to another, with these lines; what is outside failed at their end, or did not.
 pub record Turns (roster : List Listed) (events jobs : ℕ) (old new : World) (lines : List Line) (blind : Bool) : Type 0 where
   pub goes : Goes old.net new.net (messages_by lines) (sends_to lines)
+  pub settles : Settles old.net new.net
   pub are : AreLines old.fronts roster old.net new.net none lines
   pub received : Receives old.jobs new.jobs (jobs_received lines)
   pub handed : new.handed ≡ old.handed ++ posts lines

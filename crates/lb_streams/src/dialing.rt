@@ -2,7 +2,7 @@
 
 ghost use Rattle.std.specs.Prelude.{IfErr, IfOk, ◌≡◌};
 ghost use Rattle.lb_connections.specs.Table.{IsTo};
-ghost use Rattle.lb_streams.specs.Goes.{Goes, Lacks, none, reads_of};
+ghost use Rattle.lb_streams.specs.Goes.{Goes, Lacks, Settles, none, reads_of};
 
 use crate::links::Links;
 use lb_connections::{Connection, Route};
@@ -21,6 +21,7 @@ impl<S: Streams> Links<S> {
         at: Endpoint,
     ) -> Result<u64, Why>
         ensures goes { Goes self.old self.new none none }
+        ensures settles { Settles self.old self.new }
         ensures to { IfOk result (λ n. IsTo n server lane at self.new.table) }
         ensures why { IfErr result (λ why. Lacks self.old self.new why) }
         ensures reads { reads_of self.new ≡ reads_of self.old }

@@ -1,6 +1,6 @@
 //! What holds of connections.
 
-ghost use Rattle.lb_streams.specs.Goes.{GoesOn, OneGoes};
+ghost use Rattle.lb_streams.specs.Goes.{GoesOn, NoneDone, OneGoes};
 ghost use Rattle.lb_streams.specs.Links.{EndedFares, MovedFares};
 
 /// What connections go through in two steps, they go through in all: the messages that were taken of each, and those that were sent to it,
@@ -18,4 +18,9 @@ pub fn moved_fares()
 /// A step of one connection that leaves all others as they are is a step of all.
 pub fn one_goes()
     ensures { OneGoes }
+{}
+
+/// Of new connections none is open at its end. So after each turn none is.
+pub fn none_is_done()
+    ensures { NoneDone }
 {}

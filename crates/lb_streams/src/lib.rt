@@ -13,6 +13,6 @@ mod taking;
 mod turn;
 mod writing;
 
-pub use laws::{goes_on, moved_fares, one_goes};
+pub use laws::{goes_on, moved_fares, none_is_done, one_goes};
 pub use streams::StreamLoop;
 pub use turn::stream_turn;

@@ -1,7 +1,7 @@
 //! How many answers a connection waits for, and how long it is kept.
 
 ghost use Rattle.std.specs.Prelude.{◌<◌, ◌≡◌};
-ghost use Rattle.lb_streams.specs.Goes.{Goes, none, reads_of};
+ghost use Rattle.lb_streams.specs.Goes.{Goes, SameBut, Settles, none, reads_of};
 ghost use Rattle.lb_streams.specs.Links.{Net};
 ghost use Rattle.lb_streams.specs.Turn.{Sweeps};
 
@@ -13,6 +13,7 @@ impl<S: Streams> Links<S> {
     /// A query of a connection was answered or sent on.
     pub(crate) fn owe(&mut self, number: u64, was_sent_on: bool)
         ensures goes { Goes self.old self.new none none }
+        ensures others { SameBut number self.old self.new }
         ensures reads { reads_of self.new ≡ reads_of self.old }
     {
         if !was_sent_on {
@@ -28,6 +29,7 @@ impl<S: Streams> Links<S> {
     /// A message goes to a connection. Where a query of it was sent on, that is answered.
     pub(crate) fn pay(&mut self, number: u64, was_owed: bool)
         ensures goes { Goes self.old self.new none none }
+        ensures others { SameBut number self.old self.new }
         ensures reads { reads_of self.new ≡ reads_of self.old }
     {
         if !was_owed {
@@ -42,9 +44,10 @@ impl<S: Streams> Links<S> {
 
     /// Where the roster was changed: a server's connection that is not at the roster's end of the
     /// server any more is read on for a while, and one that is there again is kept.
-    #[tactic(auto, using(crate::proofs::Opening::goes_nothing, crate::proofs::Then::goes_before))]
+    #[tactic(auto, using(crate::proofs::Opening::goes_nothing, crate::proofs::Then::goes_before, crate::proofs::Settling::settles_nothing))]
     pub(crate) fn follow(&mut self, roster: &Roster, now: u64)
         ensures goes { Goes self.old self.new none none }
+        ensures settles { Settles self.old self.new }
         ensures reads { reads_of self.new ≡ reads_of self.old }
     {
         if !self.table.is_behind(roster) {
@@ -59,6 +62,7 @@ impl<S: Streams> Links<S> {
     fn follow_one(&mut self, roster: &Roster, now: u64, place: usize)
         requires { place < 4096 }
         ensures goes { Goes self.old self.new none none }
+        ensures settles { Settles self.old self.new }
         ensures reads { reads_of self.new ≡ reads_of self.old }
     {
         let Some(number) = self.table.number_at(place) else {

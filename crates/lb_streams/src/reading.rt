@@ -1,7 +1,7 @@
 //! What comes of sockets of streams: clients, octets, and ends.
 
 ghost use Rattle.std.specs.Prelude.{◌≡◌, ◌+◌, ◌≤◌};
-ghost use Rattle.lb_streams.specs.Goes.{Goes, IsUndone, TurnsOneAway, none, reads_of};
+ghost use Rattle.lb_streams.specs.Goes.{Goes, IsUndone, SameBut, Settles, TurnsOneAway, none, reads_of};
 
 use crate::links::Links;
 use lb_connections::Connection;
@@ -13,6 +13,7 @@ impl<S: Streams> Links<S> {
     /// or if no number is left. If memory is lacking, it waits on.
     pub(crate) fn admit(&mut self, alloc: Global, now: u64)
         ensures goes { Goes self.old self.new none none }
+        ensures settles { Settles self.old self.new }
         ensures reads { reads_of self.new ≤ reads_of self.old + 1 }
     {
         if self.table.is_full() {
@@ -50,6 +51,7 @@ impl<S: Streams> Links<S> {
     /// or no room was found for what came.
     pub(crate) fn pull(&mut self, number: u64, now: u64)
         ensures goes { Goes self.old self.new none none }
+        ensures others { SameBut number self.old self.new }
         ensures reads { reads_of self.new ≤ reads_of self.old + 1 }
     {
         let Some(mut connection) = self.table.take(number) else {
@@ -93,6 +95,7 @@ impl<S: Streams> Links<S> {
     pub(crate) fn settle(&mut self, number: u64)
         ensures goes { Goes self.old self.new none none }
         ensures settled { IsUndone number self.new }
+        ensures others { SameBut number self.old self.new }
         ensures reads { reads_of self.new ≡ reads_of self.old }
     {
         if self.table.is_settled(number) {
@@ -106,6 +109,7 @@ impl<S: Streams> Links<S> {
     fn see_to(&mut self, number: u64)
         ensures goes { Goes self.old self.new none none }
         ensures settled { IsUndone number self.new }
+        ensures others { SameBut number self.old self.new }
         ensures reads { reads_of self.new ≡ reads_of self.old }
     {
         let Some(mut connection) = self.table.take(number) else {

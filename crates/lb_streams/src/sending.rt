@@ -4,7 +4,7 @@ ghost use Rattle.std.specs.Prelude.{IfErr, IfOk, Some, slice_get, true, ◌≡�
 ghost use Rattle.lb_connections.specs.Table.{IsTo};
 ghost use Rattle.lb_lines.specs.Letter.{outcome_letter};
 ghost use Rattle.lb_lines.specs.declared.letter.End.TheVariants.{Client, Server};
-ghost use Rattle.lb_streams.specs.Goes.{Goes, none, sent_by, reads_of};
+ghost use Rattle.lb_streams.specs.Goes.{Goes, Settles, none, sent_by, reads_of};
 ghost use Rattle.lb_streams.specs.Lines.{FitsServer, IsServers, is_http};
 ghost use Rattle.lb_streams.specs.Turn.{Sends};
 
@@ -30,6 +30,7 @@ impl<S: Streams> Links<S> {
         bytes: &Octets,
     ) -> Result<u64, Why>
         ensures goes { Goes self.old self.new none (sent_by result bytes.now) }
+        ensures settles { Settles self.old self.new }
         ensures to { IfOk result (λ n. IsServers n server lane.number end self.new) }
         ensures why { IfErr result (λ why. FitsServer self.old self.new none server end lane bytes.now why) }
         ensures reads { reads_of self.new ≡ reads_of self.old }
@@ -50,6 +51,7 @@ impl<S: Streams> Links<S> {
         bytes: &Octets,
     ) -> Result<u64, Why>
         ensures goes { Goes self.old self.new none (sent_by result bytes.now) }
+        ensures settles { Settles self.old self.new }
         ensures to { IfOk result (λ n. IsServers n server lane.number end self.new) }
         ensures why { IfErr result (λ why. FitsServer self.old self.new none server end lane bytes.now why) }
         ensures reads { reads_of self.new ≡ reads_of self.old }
@@ -72,6 +74,7 @@ impl<S: Streams> Links<S> {
     ) -> Result<u64, Why>
         requires to { IsTo number server lane.number end self.old.table }
         ensures goes { Goes self.old self.new none (sent_by result bytes.now) }
+        ensures settles { Settles self.old self.new }
         ensures to { IfOk result (λ n. IsServers n server lane.number end self.new) }
         ensures why { IfErr result (λ why. FitsServer self.old self.new none server end lane bytes.now why) }
         ensures reads { reads_of self.new ≡ reads_of self.old }

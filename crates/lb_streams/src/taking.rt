@@ -2,7 +2,7 @@
 
 ghost use Rattle.std.specs.Prelude.{List, ℕ, ◌≡◌};
 ghost use Rattle.lb_connections.specs.Table.{IsFirst};
-ghost use Rattle.lb_streams.specs.Goes.{Goes, just, none, reads_of};
+ghost use Rattle.lb_streams.specs.Goes.{Goes, SameBut, just, none, reads_of};
 
 use crate::links::Links;
 use lb_lines::{Peer, Streams};
@@ -12,6 +12,7 @@ impl<S: Streams> Links<S> {
     /// its turn again.
     pub(crate) fn drop_first(&mut self, number: u64)
         ensures goes { (peer : Peer) (message : List ℕ) → IsFirst number peer message self.old.table → Goes self.old self.new (just number message) none }
+        ensures others { (peer : Peer) (message : List ℕ) → IsFirst number peer message self.old.table → SameBut number self.old self.new }
         ensures reads { reads_of self.new ≡ reads_of self.old }
     {
         if let Err(refused) = self.table.drop_first(number) {

@@ -3,7 +3,7 @@
 ghost use Rattle.std.specs.Prelude.{[], IfNone, IfOk, IfSome, None, OnErr, false, option_to_list, vec_capacity, vec_len, ℕ, ◌++◌, ◌+◌, ◌∷◌, ◌≡◌, ◌≤◌};
 ghost use Rattle.lb_lines.specs.Lines.{FirstFault};
 ghost use Rattle.lb_streams.specs.Ends.{first_device, is_blind, is_blinded};
-ghost use Rattle.lb_streams.specs.Goes.{Goes, none, reads_of};
+ghost use Rattle.lb_streams.specs.Goes.{Goes, Settles, none, reads_of};
 ghost use Rattle.lb_streams.specs.Steps as steps;
 ghost use Rattle.lb_streams.specs.Steps.{lines_of};
 ghost use Rattle.lb_streams.specs.Turn.{Stood, Sweeps, Turned, Turns};
@@ -36,6 +36,9 @@ pub fn stream_turn<R: Wait, S: Streams, T: Taker, O: Outside, P: Posts, G: Gate>
     // The first device that failed is reported.
     ensures device { IfOk result (λ r. FirstFault r.device streams.old.net.told.failures streams.new.net.told.failures streams.old.outside streams.new.outside) }
     ensures held { IfOk result (λ r. r.held ≡ None) }
+    // A connection that was not at its end before is not open at its end after: one that came to
+    // its end was closed.
+    ensures closed { IfOk result (λ _. Settles streams.old.net streams.new.net) }
     // At most 64 reads and accepts were made, whatever came of them.
     ensures reads { IfOk result (λ _. reads_of streams.new.net ≤ reads_of streams.old.net + 64) }
     ensures refused { OnErr result (streams.new ≡ streams.old) }
@@ -57,6 +60,7 @@ impl<S: Streams, T: Taker, O: Outside, P: Posts> StreamLoop<S, T, O, P> {
         requires empty { (lines.items ≡ []) × (vec_len lines ≡ 0) }
         requires room { 128 ≤ vec_capacity lines }
         ensures turned { Turned roster.now.listed self.old self.new result.lines.items }
+        ensures closed { Settles self.old.net self.new.net }
         ensures device { FirstFault result.device self.old.net.told.failures self.new.net.told.failures self.old.outside self.new.outside }
         ensures held { result.held ≡ None }
         ensures reads { reads_of self.new.net ≤ reads_of self.old.net + 64 }
@@ -88,6 +92,7 @@ impl<S: Streams, T: Taker, O: Outside, P: Posts> StreamLoop<S, T, O, P> {
     /// Connections to servers that the roster has elsewhere, or no more, are read on for a while.
     fn follow(&mut self, roster: &Roster, now: u64)
         ensures goes { Goes self.old.net self.new.net none none }
+        ensures settles { Settles self.old.net self.new.net }
         ensures same { self.new ≡ record self.old { net = self.new.net } }
         ensures reads { reads_of self.new.net ≡ reads_of self.old.net }
     {
@@ -97,6 +102,7 @@ impl<S: Streams, T: Taker, O: Outside, P: Posts> StreamLoop<S, T, O, P> {
     /// Writes what is to be written at the end of the turn.
     fn write_all(&mut self)
         ensures goes { Goes self.old.net self.new.net none none }
+        ensures settles { Settles self.old.net self.new.net }
         ensures same { self.new ≡ record self.old { net = self.new.net } }
         ensures reads { reads_of self.new.net ≡ reads_of self.old.net }
     {

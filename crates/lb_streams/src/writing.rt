@@ -1,8 +1,8 @@
 //! What is written to connections.
 
-ghost use Rattle.std.specs.Prelude.{IfErr, ◌≡◌, ◌+◌, ◌≤◌};
+ghost use Rattle.std.specs.Prelude.{IfErr, OnOk, ◌≡◌, ◌+◌, ◌≤◌};
 ghost use Rattle.lb_connections.specs.Table.{at};
-ghost use Rattle.lb_streams.specs.Goes.{Goes, IsUndone, Misses, is_given_up, none, noted_by, sent_so, reads_of};
+ghost use Rattle.lb_streams.specs.Goes.{Goes, IsUndone, Misses, SameBut, Settles, is_given_up, none, noted_by, sent_so, reads_of};
 
 use crate::links::Links;
 use lb_lines::{Peer, Streams, Why};
@@ -13,6 +13,7 @@ impl<S: Streams> Links<S> {
     /// no more.
     pub(crate) fn flush(&mut self, number: u64)
         ensures goes { Goes self.old self.new none none }
+        ensures others { SameBut number self.old self.new }
         ensures reads { reads_of self.new ≡ reads_of self.old }
     {
         let Some(mut connection) = self.table.take(number) else {
@@ -47,11 +48,15 @@ impl<S: Streams> Links<S> {
         }
     }
 
-    /// Puts a message behind what a connection is to write. Where the limit would be passed, what waits is written first; where it is
-    /// passed all the same, the connection is closed. Where much waits then, it is written at once; else at the end of the turn.
+    /// Puts a message after what a connection is to write. If the limit would be passed, what waits
+    /// is written first; if it is passed all the same, the connection is closed. If much waits then,
+    /// it is written at once, else at the end of the turn. A connection that is at its end then is
+    /// closed.
     pub(crate) fn put_behind(&mut self, number: u64, message: &Octets) -> Result<(), Why>
         ensures goes { Goes self.old self.new none (sent_so result number message.now) }
         ensures why { IfErr result (λ why. Misses self.old self.new number message.now why) }
+        ensures settled { IsUndone number self.new }
+        ensures others { SameBut number self.old self.new }
         ensures reads { reads_of self.new ≡ reads_of self.old }
     {
         self.make_room(number, message);
@@ -60,14 +65,19 @@ impl<S: Streams> Links<S> {
                 self.write_urgent(number);
                 Ok(())
             }
-            Err(why) => Err(why),
+            Err(why) => {
+                self.settle(number);
+                Err(why)
+            }
         }
     }
 
-    /// Writes what waits to be written to a connection, where with this message more would wait than may.
-    #[tactic(auto, using(crate::proofs::Opening::goes_nothing))]
+    /// Writes what waits to be written to a connection, if with this message more would wait than
+    /// may.
+    #[tactic(auto, using(crate::proofs::Opening::goes_nothing, crate::proofs::Settling::but_nothing))]
     fn make_room(&mut self, number: u64, message: &Octets)
         ensures goes { Goes self.old self.new none none }
+        ensures others { SameBut number self.old self.new }
         ensures reads { reads_of self.new ≡ reads_of self.old }
     {
         if self.table.is_over(number, message) {
@@ -75,14 +85,16 @@ impl<S: Streams> Links<S> {
         }
     }
 
-    /// Writes what waits to be written to a connection, where it is not to wait for the turn's end.
-    #[tactic(auto, using(crate::proofs::Opening::goes_nothing))]
+    /// Writes what waits to be written to a connection, if it is not to wait for the turn's end.
+    #[tactic(auto, using(crate::proofs::Opening::goes_nothing, crate::proofs::Settling::but_nothing, crate::proofs::Settling::settles_nothing))]
     fn write_urgent(&mut self, number: u64)
         ensures goes { Goes self.old self.new none none }
+        ensures settles { Settles self.old self.new }
+        ensures others { SameBut number self.old self.new }
         ensures reads { reads_of self.new ≡ reads_of self.old }
     {
         if self.table.is_urgent(number) {
-            self.flush(number);
+            self.write(number);
         }
     }
 
@@ -92,6 +104,8 @@ impl<S: Streams> Links<S> {
     fn promise(&mut self, number: u64, message: &Octets) -> Result<(), Why>
         ensures goes { Goes self.old self.new none (sent_so result number message.now) }
         ensures why { IfErr result (λ why. Misses self.old self.new number message.now why) }
+        ensures waits { OnOk result (IsUndone number self.new) }
+        ensures others { SameBut number self.old self.new }
         ensures reads { reads_of self.new ≡ reads_of self.old }
     {
         let why = match self.table.promise(number, message) {
@@ -118,9 +132,10 @@ impl<S: Streams> Links<S> {
     }
 
     /// Writes what is to be written at the end of a turn.
-    #[tactic(auto, using(crate::proofs::Opening::goes_nothing, crate::proofs::Then::goes_before))]
+    #[tactic(auto, using(crate::proofs::Opening::goes_nothing, crate::proofs::Then::goes_before, crate::proofs::Settling::settles_nothing))]
     pub(crate) fn write_all(&mut self)
         ensures goes { Goes self.old self.new none none }
+        ensures settles { Settles self.old self.new }
         ensures reads { reads_of self.new ≡ reads_of self.old }
     {
         for _ in 0..self.table.touched() {
@@ -131,6 +146,7 @@ impl<S: Streams> Links<S> {
     /// Writes to a connection that is to be written at the end of a turn.
     fn write_next(&mut self)
         ensures goes { Goes self.old self.new none none }
+        ensures settles { Settles self.old self.new }
         ensures reads { reads_of self.new ≡ reads_of self.old }
     {
         let Some(number) = self.next_touched() else {
@@ -150,6 +166,8 @@ impl<S: Streams> Links<S> {
     pub(crate) fn write(&mut self, number: u64)
         ensures goes { Goes self.old self.new none none }
         ensures settled { IsUndone number self.new }
+        ensures settles { Settles self.old self.new }
+        ensures others { SameBut number self.old self.new }
         ensures reads { reads_of self.new ≡ reads_of self.old }
     {
         self.flush(number);
@@ -160,6 +178,7 @@ impl<S: Streams> Links<S> {
     pub(crate) fn read(&mut self, number: u64, now: u64)
         ensures goes { Goes self.old self.new none none }
         ensures settled { IsUndone number self.new }
+        ensures settles { Settles self.old self.new }
         ensures reads { reads_of self.new ≤ reads_of self.old + 1 }
     {
         self.pull(number, now);

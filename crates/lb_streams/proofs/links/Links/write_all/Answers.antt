@@ -1,4 +1,5 @@
 use Rattle.std.proofs.Common.{◌∙◌}
+use Rattle.lb_streams.proofs.Settling.{settles_on}
 use Rattle.lb_streams.proofs.Then.{goes_before}
 use Rattle.lb_streams.specs.Goes.{none}
 use Rattle.lb_streams.proofs.links.Links.write_all.Goals as goal
@@ -7,4 +8,5 @@ pub loop-preserved : goal.loop-preserved
 loop-preserved g c = (
   goes_before _ c.loop.self c.write_next.new.self none none c.loop.invariant.0 c.write_next.ensures.goes,
   c.write_next.ensures.reads ∙ c.loop.invariant.1,
+  settles_on c.args.self.now c.loop.self c.write_next.new.self c.loop.invariant.2 c.write_next.ensures.settles,
 )

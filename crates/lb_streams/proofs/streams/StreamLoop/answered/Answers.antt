@@ -7,10 +7,11 @@ use Rattle.lb_lines.specs.Letter.{IsOutcome, outcome_letter}
 use Rattle.lb_lines.specs.Lines.{answered_as}
 use Rattle.lb_lines.specs.declared.report.Line.TheVariants as lines
 use Rattle.lb_lines.specs.declared.report.Source.TheVariants as sources
+use Rattle.lb_streams.proofs.Settling.{but_on, settles_around}
 use Rattle.lb_streams.proofs.Then.{goes_after}
 use Rattle.lb_streams.proofs.Turning.{turns_told}
 use Rattle.lb_streams.proofs.streams.StreamLoop.answered.Goals as goal
-use Rattle.lb_streams.specs.Goes.{Goes, just, none}
+use Rattle.lb_streams.specs.Goes.{Goes, SameBut, Settles, just, none}
 use Rattle.lb_streams.specs.Turn.{Sends, Turns}
 use Rattle.lb_streams.specs.World.{World}
 
@@ -33,5 +34,7 @@ returns-clause-turns g c = λ said stamp.
     let grows : Grows a.pairs mid.pairs (answered_as told outcome) = subst (λ (e : Event). Grows a.pairs mid.pairs (answered_as e outcome)) same_event c.outcome_of-outcome.ensures.pairs in
     let is : IsOutcome told outcome = subst (λ (e : Event). IsOutcome e outcome) same_event c.outcome_of-outcome.ensures.is in
     let sends : Sends roster mid sent (outcome_letter told outcome) sending = subst (λ (w : World). Sends roster mid w (outcome_letter told outcome) sending) (sym c.self-2.view_is) c.send_outcome-sending.ensures.sends in
+    let took_others : SameBut n a.net mid.net = but_on n a.net c.drop_first.new.self mid.net (c.drop_first.ensures.others c.args.peer c.args.copy first) c.owe.ensures.others in
+    let settles : Settles a.net b.net = settles_around n a.net mid.net sent.net b.net took_others sends.settles c.settle.ensures.others c.settle.ensures.settled in
     subst (λ (w : World). Turns roster 1 0 (record w { said = said }) b (lines.Event (sources.Connection n) told outcome sending ∷ []) false) c.self.view_is
-    (turns_told roster a mid sent b n c.args.now c.args.word c.args.peer c.args.copy told outcome sending said first c.event_made-told.ensures said_now took refl counted grows is sends c.settle.ensures.goes refl)
+    (turns_told roster a mid sent b n c.args.now c.args.word c.args.peer c.args.copy told outcome sending said first c.event_made-told.ensures said_now took refl counted grows is sends c.settle.ensures.goes settles refl)

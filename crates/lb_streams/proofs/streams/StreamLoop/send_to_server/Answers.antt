@@ -17,7 +17,7 @@ returns-clause-sends g c =
     subst (λ (w : World). Sends roster w new (Some (Server c.args.server c.args.lane, c.args.bytes.now)) c.match-send_to.result) c.self.view_is
     (elim c.match-send_to.branch [
       | in-Ok w ↦ subst (λ (s : Sending). Sends roster old new (Some (Server c.args.server c.args.lane, c.args.bytes.now)) s) (sym w.result-is)
-          (server_done roster old new c.args.server c.args.lane c.in-Some.place.at c.args.bytes.now w.in-Ok.number there w.in-Ok.ensures.goes w.in-Ok.ensures.to refl)
+          (server_done roster old new c.args.server c.args.lane c.in-Some.place.at c.args.bytes.now w.in-Ok.number there w.in-Ok.ensures.goes c.send_to.ensures.settles w.in-Ok.ensures.to refl)
       | in-Err w ↦ subst (λ (s : Sending). Sends roster old new (Some (Server c.args.server c.args.lane, c.args.bytes.now)) s) (sym w.result-is)
-          (server_failed roster old new c.args.server c.args.lane c.in-Some.place.at c.args.bytes.now w.in-Err.why there w.in-Err.ensures.goes w.in-Err.ensures.why refl)
+          (server_failed roster old new c.args.server c.args.lane c.in-Some.place.at c.args.bytes.now w.in-Err.why there w.in-Err.ensures.goes c.send_to.ensures.settles w.in-Err.ensures.why refl)
     ])
