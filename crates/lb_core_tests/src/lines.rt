@@ -82,13 +82,36 @@ fn event_again(alloc: Global, line: &str) -> Result<Event, Fail> {
     }
 }
 
-/// The events of `TOLD`.
-pub(crate) fn events(alloc: Global) -> Result<Vec<Event>, Fail> {
+/// The events of some lines, told so many times.
+pub(crate) fn events(alloc: Global, lines: &[&str], times: usize) -> Result<Vec<Event>, Fail> {
     let mut events = Vec::new(alloc);
-    for line in TOLD {
-        events.push(event(alloc, line)?)?;
+    for _ in 0..times {
+        for line in lines {
+            events.push(event(alloc, line)?)?;
+        }
     }
     Ok(events)
+}
+
+/// What comes of something that is done with a new balancer. It alone has one to drop: what a function does is
+/// stated for each way out of it, with all that it drops.
+pub(crate) fn played<T, F: FnOnce(Global, &mut Balancer) -> Result<T, Fail>>(
+    alloc: Global,
+    play: F,
+) -> Result<T, Fail>
+    requires { F.IsAlwaysCallable play }
+{
+    let mut balancer = Balancer::new(alloc)?;
+    play(alloc, &mut balancer)
+}
+
+/// Lets a test go on if a row of its table, counted from 0, is as it should be, and else ends it.
+pub(crate) fn held(row: usize, holds: bool) -> Result<(), Fail> {
+    if holds {
+        Ok(())
+    } else {
+        Err(Fail::new(format_args!("row {row} is not so")))
+    }
 }
 
 /// The answer to an event. It has no clause, so that what calls it is proved without the meaning of a step.

@@ -6,26 +6,32 @@
 //! ends its row: the query is gone, and the next one is forwarded. Other want of memory ends a test with an error, and no
 //! assertion fails by it.
 
-use crate::lines::{QUERY, REPLY, TOLD, event, events, is_wanting, step, tell};
+use crate::lines::{QUERY, REPLY, TOLD, event, events, held, is_wanting, played, step, tell};
 use lb_command::{answer_line, note_text};
 use lb_core::{Answer, Balancer, DropReason, Event, LocalReason, Plain, run};
 use lb_wire::{Addr, Kept, MAX_MESSAGE, Origin, RuleId};
 use std::alloc::{AllocError, Global};
-use std::process::Abort;
 use std::test::Fail;
 
 /// A copy of each event is equal to it and to none before it.
 #[test]
 fn equal_events(rt: HostRuntime) -> Result<(), Fail> {
-    let events = events(rt.alloc())?;
-    expect_equal_events(&rt, events.as_slice())
+    let events = told(rt.alloc())?;
+    expect_equal_events(rt.alloc(), events.as_slice())
 }
 
-fn expect_equal_events<T: Abort + AllocGlobal>(rt: &T, events: &[Event]) -> Result<(), Fail> {
+/// The events of `TOLD`.
+fn told(alloc: Global) -> Result<Vec<Event>, Fail> {
+    events(alloc, TOLD, 1)
+}
+
+fn expect_equal_events(alloc: Global, events: &[Event]) -> Result<(), Fail> {
     for (place, event) in events.iter().enumerate() {
-        assert!(rt; is_event_copied(rt.alloc(), event)?, "{event:?}");
         let first = events.iter().position(|other| other.equals(event));
-        assert_eq!(rt; first, Some(place), "{event:?}");
+        held(
+            place,
+            first == Some(place) && is_event_copied(alloc, event)?,
+        )?;
     }
     Ok(())
 }
@@ -50,16 +56,15 @@ fn has_equal_command(event: &Event, other: &Event) -> bool {
 /// its whole line, or the first word of it.
 #[test]
 fn equal_answers_and_notes(rt: HostRuntime) -> Result<(), Fail> {
-    let answers = answers(rt.alloc())?;
-    expect_equal_answers(&rt, answers.as_slice())
+    let answers = played(rt.alloc(), answers)?;
+    expect_equal_answers(rt.alloc(), answers.as_slice())
 }
 
-fn expect_equal_answers<T: Abort + AllocGlobal>(rt: &T, answers: &[Answer]) -> Result<(), Fail> {
+fn expect_equal_answers(alloc: Global, answers: &[Answer]) -> Result<(), Fail> {
     for (place, answer) in answers.iter().enumerate() {
         let first = answers.iter().position(|other| other.equals(answer));
-        assert_eq!(rt; first, Some(place), "{answer:?}");
-        assert!(rt; is_copied(rt.alloc(), answer)?, "{answer:?}");
-        assert!(rt; is_noted(rt.alloc(), answer)?, "{answer:?}");
+        let is_so = first == Some(place) && is_copied(alloc, answer)? && is_noted(alloc, answer)?;
+        held(place, is_so)?;
     }
     Ok(())
 }
@@ -105,14 +110,8 @@ fn first_word(line: &str) -> &str {
     }
 }
 
-/// The answers of a new balancer to the lines of `TOLD`.
-fn answers(alloc: Global) -> Result<Vec<Answer>, Fail> {
-    let mut balancer = Balancer::new(alloc)?;
-    answers_of(alloc, &mut balancer)
-}
-
 /// The answers of a balancer to the lines of `TOLD`.
-fn answers_of(alloc: Global, balancer: &mut Balancer) -> Result<Vec<Answer>, Fail> {
+fn answers(alloc: Global, balancer: &mut Balancer) -> Result<Vec<Answer>, Fail> {
     let mut answers = Vec::new(alloc);
     for line in TOLD {
         answers.push(tell(alloc, balancer, line)?)?;
@@ -120,16 +119,32 @@ fn answers_of(alloc: Global, balancer: &mut Balancer) -> Result<Vec<Answer>, Fai
     Ok(answers)
 }
 
-/// A run gives the answers that single steps give of a balancer that began equal.
+/// A run gives the answers that single steps give of a balancer that began equal. Where memory was wanting for the
+/// answers' room, the events come back, and are run then.
 #[test]
 fn a_run_answers_as_single_steps_do(rt: HostRuntime) -> Result<(), Fail> {
-    let stepped = answers(rt.alloc())?;
-    let run = run_answers(rt.alloc())?;
+    let stepped = played(rt.alloc(), answers)?;
+    let run = run_of(rt.alloc(), told(rt.alloc())?)?;
+    expect_equal(run.as_slice(), stepped.as_slice())
+}
+
+fn expect_equal(run: &[Answer], stepped: &[Answer]) -> Result<(), Fail> {
     if run.iter().any(is_wanting) {
         return Err(Fail::from("memory was wanting"));
     }
-    assert!(rt; are_equal(run.as_slice(), stepped.as_slice()), "{run:?}");
-    Ok(())
+    held(0, are_equal(run, stepped))
+}
+
+/// Whether a new balancer answers a run of such events as another one answers single steps.
+pub(crate) fn are_as_steps<F: Fn(Global) -> Result<Vec<Event>, Fail>>(
+    alloc: Global,
+    events: F,
+) -> Result<bool, Fail>
+    requires { F.IsAlwaysCallable events }
+{
+    let stepped = steps_of(alloc, events(alloc)?)?;
+    let run = run_of(alloc, events(alloc)?)?;
+    Ok(are_equal(run.as_slice(), stepped.as_slice()))
 }
 
 fn are_equal(answers: &[Answer], others: &[Answer]) -> bool {
@@ -140,30 +155,35 @@ fn are_equal(answers: &[Answer], others: &[Answer]) -> bool {
             .all(|(answer, other)| answer.equals(other))
 }
 
-/// The answers of a new balancer to a run over the events of `TOLD`.
-fn run_answers(alloc: Global) -> Result<Vec<Answer>, Fail> {
-    let mut balancer = Balancer::new(alloc)?;
-    run_answers_of(alloc, &mut balancer)
+/// The answers of a new balancer to single steps.
+fn steps_of(alloc: Global, events: Vec<Event>) -> Result<Vec<Answer>, Fail> {
+    played(alloc, move |alloc, balancer| {
+        let mut answers = Vec::new(alloc);
+        for event in events {
+            answers.push(step(balancer, event))?;
+        }
+        Ok(answers)
+    })
 }
 
-/// The answers of a balancer to that run.
-fn run_answers_of(alloc: Global, balancer: &mut Balancer) -> Result<Vec<Answer>, Fail> {
-    match run(alloc, balancer, events(alloc)?) {
-        Ok(answers) => Ok(answers),
-        Err((_, back)) => run_again(alloc, balancer, back),
-    }
+/// The answers of a new balancer to a run. If there was no room for them, the events came back, and are run again.
+fn run_of(alloc: Global, events: Vec<Event>) -> Result<Vec<Answer>, Fail> {
+    let many = events.len();
+    played(alloc, move |alloc, balancer| {
+        match run(alloc, balancer, events) {
+            Ok(answers) => Ok(answers),
+            Err((_, back)) if back.len() == many => run_again(alloc, balancer, back),
+            Err(_) => Err(Fail::from("events that did not come back")),
+        }
+    })
 }
 
-/// The answers to events that were handed back, as there was no room for their answers.
 fn run_again(
     alloc: Global,
     balancer: &mut Balancer,
-    back: Vec<Event>,
+    events: Vec<Event>,
 ) -> Result<Vec<Answer>, Fail> {
-    if back.len() != TOLD.len() {
-        return Err(Fail::from("events that did not come back"));
-    }
-    match run(alloc, balancer, back) {
+    match run(alloc, balancer, events) {
         Ok(answers) => Ok(answers),
         Err(_) => Err(Fail::from("no room for answers the second time")),
     }
@@ -209,14 +229,14 @@ fn client(alloc: Global, balancer: &mut Balancer, line: &str) -> Result<Option<O
 }
 
 /// A reply, and a query that is given up, go back to where the query came from.
-fn expect_client<T: Abort + AllocGlobal>(rt: &T, balancer: &mut Balancer) -> Result<(), Fail> {
-    expect(rt, balancer, SERVER)?;
-    for line in [REPLY, "tick 4000"] {
-        if !is_sent(rt.alloc(), balancer)? {
-            return Err(Fail::from("a query that is not sent"));
-        }
-        let client = client(rt.alloc(), balancer, line)?;
-        assert_eq!(rt; client, Some(ORIGIN), "{line}");
+fn expect_client(alloc: Global, balancer: &mut Balancer) -> Result<(), Fail> {
+    expect(alloc, balancer, SERVER)?;
+    for (row, line) in [REPLY, "tick 4000"].into_iter().enumerate() {
+        let is_sent = is_sent(alloc, balancer)?;
+        held(
+            row,
+            is_sent && client(alloc, balancer, line)? == Some(ORIGIN),
+        )?;
     }
     Ok(())
 }
@@ -242,19 +262,21 @@ fn rule(alloc: Global, balancer: &mut Balancer, line: &str) -> Result<Option<Rul
 }
 
 /// An answer says which rule it comes from.
-fn expect_rules<T: Abort + AllocGlobal>(rt: &T, balancer: &mut Balancer) -> Result<(), Fail> {
-    play_on(rt, balancer, RULES)?;
-    assert_eq!(rt; rule(rt.alloc(), balancer, QUERY_AAAA)?, Some(RuleId(2)));
-    assert_eq!(rt; rule(rt.alloc(), balancer, QUERY)?, Some(RuleId(3)));
-    Ok(())
+fn expect_rules(alloc: Global, balancer: &mut Balancer) -> Result<(), Fail> {
+    play_on(alloc, balancer, RULES)?;
+    held(0, rule(alloc, balancer, QUERY_AAAA)? == Some(RuleId(2)))?;
+    held(1, rule(alloc, balancer, QUERY)? == Some(RuleId(3)))
 }
 
 /// An answer's line leaves out all of the client but its slot, and the number of the rule.
 #[test]
 fn answers_say_more_than_their_lines(rt: HostRuntime) -> Result<(), Fail> {
-    let mut balancer = Balancer::new(rt.alloc())?;
-    expect_client(&rt, &mut balancer)?;
-    expect_rules(&rt, &mut balancer)
+    played(rt.alloc(), expect_more)
+}
+
+fn expect_more(alloc: Global, balancer: &mut Balancer) -> Result<(), Fail> {
+    expect_client(alloc, balancer)?;
+    expect_rules(alloc, balancer)
 }
 
 /// `QUERY` for AAAA.
@@ -264,9 +286,8 @@ const QUERY_AAAA: &str =
 /// What a snapshot tells after a reply was kept.
 #[test]
 fn snapshot(rt: HostRuntime) -> Result<(), Fail> {
-    let plain = snapshot_of_kept(rt.alloc())?;
-    assert!(rt; is_of_kept(&plain), "{plain:?}");
-    Ok(())
+    let plain = played(rt.alloc(), snapshot_of_kept)?;
+    held(0, is_of_kept(&plain))
 }
 
 fn is_of_kept(plain: &Plain) -> bool {
@@ -285,10 +306,9 @@ fn is_of_kept(plain: &Plain) -> bool {
 }
 
 /// A snapshot of a balancer that keeps a reply.
-fn snapshot_of_kept(alloc: Global) -> Result<Plain, Fail> {
-    let mut balancer = Balancer::new(alloc)?;
-    keep_reply(alloc, &mut balancer)?;
-    Ok(taken(alloc, &balancer)?)
+fn snapshot_of_kept(alloc: Global, balancer: &mut Balancer) -> Result<Plain, Fail> {
+    keep_reply(alloc, balancer)?;
+    Ok(taken(alloc, balancer)?)
 }
 
 /// A snapshot. If memory was lacking for it, it is taken once more.
@@ -346,7 +366,7 @@ const SENT_TO_2: &str =
 /// A reply that is kept answers the next query.
 #[test]
 fn wanting_memory_a_reply_is_delivered(rt: HostRuntime) -> Result<(), Fail> {
-    play(&rt, KEPT)
+    play(rt.alloc(), KEPT)
 }
 
 /// Where memory is wanting for a rule, no number is given. Where it is wanting for a query, no pass, no turn and no
@@ -370,7 +390,7 @@ const LIMITED: &[Line] = &[
 
 #[test]
 fn wanting_memory_a_query_counts_nothing(rt: HostRuntime) -> Result<(), Fail> {
-    play(&rt, LIMITED)
+    play(rt.alloc(), LIMITED)
 }
 
 /// Where memory is wanting for an edit, it changes nothing.
@@ -407,28 +427,23 @@ const EDITED: &[Line] = &[
 
 #[test]
 fn wanting_memory_an_edit_changes_nothing(rt: HostRuntime) -> Result<(), Fail> {
-    play(&rt, EDITED)
+    play(rt.alloc(), EDITED)
 }
 
 /// The line of the answer to `QUERY` where there is no server.
 const SERV_FAIL: &str = "local noserver 123481820001000000000000076578616d706c6503636f6d0000010001";
 
 /// Tells a new balancer the lines of a row, and compares the answers.
-fn play<T: Abort + AllocGlobal>(rt: &T, row: &[Line]) -> Result<(), Fail> {
-    let mut balancer = Balancer::new(rt.alloc())?;
-    play_on(rt, &mut balancer, row)
+fn play(alloc: Global, row: &[Line]) -> Result<(), Fail> {
+    played(alloc, move |alloc, balancer| play_on(alloc, balancer, row))
 }
 
-fn play_on<T: Abort + AllocGlobal>(
-    rt: &T,
-    balancer: &mut Balancer,
-    row: &[Line],
-) -> Result<(), Fail> {
+fn play_on(alloc: Global, balancer: &mut Balancer, row: &[Line]) -> Result<(), Fail> {
     for line in row {
-        if !expect(rt, balancer, *line)? {
+        if !expect(alloc, balancer, *line)? {
             // The query whose reply came last is gone, and the next one is forwarded.
-            expect(rt, balancer, (REPLY, "ignored unknown"))?;
-            expect(rt, balancer, (QUERY, SENT_TO_1))?;
+            expect(alloc, balancer, (REPLY, "ignored unknown"))?;
+            expect(alloc, balancer, (QUERY, SENT_TO_1))?;
             return Ok(());
         }
     }
@@ -436,21 +451,14 @@ fn play_on<T: Abort + AllocGlobal>(
 }
 
 /// Tells a balancer a line, and compares the answer. Whether the row goes on: not behind a reply that was not kept for want of memory.
-fn expect<T: Abort + AllocGlobal>(
-    rt: &T,
-    balancer: &mut Balancer,
-    (line, wanted): Line,
-) -> Result<bool, Fail> {
-    let told = told(rt.alloc(), balancer, line)?;
+fn expect(alloc: Global, balancer: &mut Balancer, (line, wanted): Line) -> Result<bool, Fail> {
+    let answer = tell(alloc, balancer, line)?;
+    let told = answer_line(alloc, &answer)?;
     if told.as_str().starts_with("deliver 7 nomemory ") {
         return Ok(false);
     }
-    assert_eq!(rt; told.as_str(), wanted, "{line}");
+    if told.as_str() != wanted {
+        return Err(Fail::new(format_args!("{told} in place of {wanted}")));
+    }
     Ok(true)
-}
-
-/// The line of the answer to a line.
-fn told(alloc: Global, balancer: &mut Balancer, line: &str) -> Result<String, Fail> {
-    let answer = tell(alloc, balancer, line)?;
-    Ok(answer_line(alloc, &answer)?)
 }
