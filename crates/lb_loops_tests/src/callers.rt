@@ -1,5 +1,6 @@
-//! What the callers of a desk do, each by a seat of its own. None of it has a clause, and a seat is
-//! lent where it can be, so that few functions have one to drop.
+//! What the callers of a desk do, each by a seat of its own. None of it has a clause, and all but
+//! `AtDesk` knows of a desk and its seat no more than `Calls` says: what a type is made of is looked
+//! at in each function that names it.
 
 use crate::events::{query, rule_for_all};
 use lb_chain::ChainFault;
@@ -52,56 +53,78 @@ impl Flags {
     }
 }
 
+/// Makes calls.
+pub(crate) trait Calls {
+    /// A call. If it is refused, the event comes back.
+    fn call(&mut self, event: Event) -> Result<Answer, (DeskFault, Event)>;
+
+    /// A call that is told whether the log is full, rightly or not.
+    fn call_hinted(&mut self, event: Event, is_full: bool) -> Result<Answer, (DeskFault, Event)>;
+
+    /// How many calls were answered, and how many receipts there are of them.
+    fn counts(&self) -> (u64, usize);
+}
+
+/// Makes calls of a desk from a seat.
+#[derive(Drop)]
+pub(crate) struct AtDesk<'a, R, J: Naming> {
+    pub(crate) rt: &'a R,
+    pub(crate) desk: &'a Desk<J>,
+    pub(crate) seat: &'a mut Seat<J>,
+}
+
+impl<R: Wait, J: Naming> Calls for AtDesk<'_, R, J> {
+    fn call(&mut self, event: Event) -> Result<Answer, (DeskFault, Event)> {
+        self.desk.call(self.rt, self.seat, event)
+    }
+
+    fn call_hinted(&mut self, event: Event, is_full: bool) -> Result<Answer, (DeskFault, Event)> {
+        self.desk.call_hinted(self.rt, self.seat, event, is_full)
+    }
+
+    fn counts(&self) -> (u64, usize) {
+        (self.seat.calls(), self.seat.receipts().len())
+    }
+}
+
 /// Whether a caller's calls were all answered.
-pub(crate) fn is_done<J: Naming, R: Wait + Clock + Eprint>(
+pub(crate) fn is_done<C: Calls, R: Wait + Clock + Eprint>(
     rt: &R,
     alloc: Global,
-    desk: &Desk<J>,
-    seat: &mut Seat<J>,
+    calls: &mut C,
     flags: &Flags,
     caller: Caller,
 ) -> bool {
     match caller {
         Caller::Rests => true,
-        Caller::Ticks(calls) => has_ticked(rt, desk, seat, calls),
-        Caller::IsMisled(calls, limit) => has_been_misled(rt, desk, seat, calls, limit),
-        Caller::Asks(calls) => has_asked(rt, alloc, desk, seat, calls),
-        Caller::AsksAgain => has_asked_again(rt, alloc, desk, seat),
-        Caller::Edits(calls) => has_edited(rt, alloc, desk, seat, calls),
-        Caller::Drops => has_ruled(rt, alloc, desk, seat, 1, StatedAction::Drop),
-        Caller::Waits(true) => has_waited(rt, desk, seat, &flags.first, &flags.second),
-        Caller::Waits(false) => has_waited(rt, desk, seat, &flags.second, &flags.first),
+        Caller::Ticks(count) => has_ticked(calls, count),
+        Caller::IsMisled(count, limit) => has_been_misled(calls, count, limit),
+        Caller::Asks(count) => has_asked(alloc, calls, count),
+        Caller::AsksAgain => has_asked_again(rt, alloc, calls),
+        Caller::Edits(count) => has_edited(alloc, calls, count),
+        Caller::Drops => has_ruled(alloc, calls, 1, StatedAction::Drop),
+        Caller::Waits(true) => has_waited(rt, calls, &flags.first, &flags.second),
+        Caller::Waits(false) => has_waited(rt, calls, &flags.second, &flags.first),
     }
 }
 
-/// Whether a call was answered.
-fn is_answered<J: Naming, R: Wait>(
-    rt: &R,
-    desk: &Desk<J>,
-    seat: &mut Seat<J>,
-    event: Event,
-) -> bool {
-    desk.call(rt, seat, event).is_ok()
+/// Whether a tick was answered.
+fn is_ticked<C: Calls>(calls: &mut C, now: u64) -> bool {
+    calls.call(Event::Tick { now }).is_ok()
 }
 
-fn has_ticked<J: Naming, R: Wait>(rt: &R, desk: &Desk<J>, seat: &mut Seat<J>, calls: u64) -> bool {
-    for now in 0..calls {
-        if !is_answered(rt, desk, seat, Event::Tick { now }) {
+fn has_ticked<C: Calls>(calls: &mut C, count: u64) -> bool {
+    for now in 0..count {
+        if !is_ticked(calls, now) {
             return false;
         }
     }
     true
 }
 
-fn has_been_misled<J: Naming, R: Wait>(
-    rt: &R,
-    desk: &Desk<J>,
-    seat: &mut Seat<J>,
-    calls: u64,
-    limit: u64,
-) -> bool {
-    for now in 0..calls {
-        if !is_answered_misled(rt, desk, seat, now, now < limit) {
+fn has_been_misled<C: Calls>(calls: &mut C, count: u64, limit: u64) -> bool {
+    for now in 0..count {
+        if !is_ticked_misled(calls, now, now < limit) {
             return false;
         }
     }
@@ -109,26 +132,13 @@ fn has_been_misled<J: Naming, R: Wait>(
 }
 
 /// Whether a tick was answered, by this hint whether the log is full.
-fn is_answered_misled<J: Naming, R: Wait>(
-    rt: &R,
-    desk: &Desk<J>,
-    seat: &mut Seat<J>,
-    now: u64,
-    is_full: bool,
-) -> bool {
-    desk.call_hinted(rt, seat, Event::Tick { now }, is_full)
-        .is_ok()
+fn is_ticked_misled<C: Calls>(calls: &mut C, now: u64, is_full: bool) -> bool {
+    calls.call_hinted(Event::Tick { now }, is_full).is_ok()
 }
 
-fn has_asked<J: Naming, R: Wait>(
-    rt: &R,
-    alloc: Global,
-    desk: &Desk<J>,
-    seat: &mut Seat<J>,
-    calls: u64,
-) -> bool {
-    for now in 0..calls {
-        if !(is_asked(rt, alloc, desk, seat, now) || is_asked(rt, alloc, desk, seat, now)) {
+fn has_asked<C: Calls>(alloc: Global, calls: &mut C, count: u64) -> bool {
+    for now in 0..count {
+        if !(is_asked(alloc, calls, now) || is_asked(alloc, calls, now)) {
             return false;
         }
     }
@@ -136,24 +146,18 @@ fn has_asked<J: Naming, R: Wait>(
 }
 
 /// Whether a query was answered, for which memory sufficed.
-fn is_asked<J: Naming, R: Wait>(
-    rt: &R,
-    alloc: Global,
-    desk: &Desk<J>,
-    seat: &mut Seat<J>,
-    now: u64,
-) -> bool {
-    let Ok(event) = query(alloc, now) else {
-        return false;
-    };
-    suffices(rt, desk, seat, event)
+fn is_asked<C: Calls>(alloc: Global, calls: &mut C, now: u64) -> bool {
+    match query(alloc, now) {
+        Ok(event) => suffices(calls, event),
+        Err(_) => false,
+    }
 }
 
 /// Whether memory sufficed for a call, at once or when it was made once more, and for its answer.
-fn suffices<J: Naming, R: Wait>(rt: &R, desk: &Desk<J>, seat: &mut Seat<J>, event: Event) -> bool {
-    match desk.call(rt, seat, event) {
+fn suffices<C: Calls>(calls: &mut C, event: Event) -> bool {
+    match calls.call(event) {
         Ok(answer) => !is_wanting(&answer),
-        Err((DeskFault::NoMemory, back)) => is_answered(rt, desk, seat, back),
+        Err((DeskFault::NoMemory, back)) => calls.call(back).is_ok(),
         Err(_) => false,
     }
 }
@@ -166,17 +170,10 @@ pub(crate) fn is_wanting(answer: &Answer) -> bool {
     )
 }
 
-fn has_edited<J: Naming, R: Wait>(
-    rt: &R,
-    alloc: Global,
-    desk: &Desk<J>,
-    seat: &mut Seat<J>,
-    calls: u64,
-) -> bool {
-    for now in 0..calls {
-        let action = StatedAction::None;
-        if !(has_ruled(rt, alloc, desk, seat, now, action)
-            || has_ruled(rt, alloc, desk, seat, now, StatedAction::None))
+fn has_edited<C: Calls>(alloc: Global, calls: &mut C, count: u64) -> bool {
+    for now in 0..count {
+        if !(has_ruled(alloc, calls, now, StatedAction::None)
+            || has_ruled(alloc, calls, now, StatedAction::None))
         {
             return false;
         }
@@ -184,53 +181,47 @@ fn has_edited<J: Naming, R: Wait>(
     true
 }
 
-pub(crate) fn has_ruled<J: Naming, R: Wait>(
-    rt: &R,
+pub(crate) fn has_ruled<C: Calls>(
     alloc: Global,
-    desk: &Desk<J>,
-    seat: &mut Seat<J>,
+    calls: &mut C,
     now: u64,
     action: StatedAction,
 ) -> bool {
     match rule_for_all(alloc, now, action) {
-        Some(event) => suffices(rt, desk, seat, event),
+        Some(event) => suffices(calls, event),
         None => false,
     }
 }
 
-fn has_asked_again<J: Naming, R: Wait + Eprint>(
-    rt: &R,
-    alloc: Global,
-    desk: &Desk<J>,
-    seat: &mut Seat<J>,
-) -> bool {
+fn has_asked_again<C: Calls, R: Eprint>(rt: &R, alloc: Global, calls: &mut C) -> bool {
     for now in 0..3 {
-        let Ok(event) = query(alloc, now).or_else(|_refused| query(alloc, now)) else {
-            return false;
-        };
-        if !is_answered_again(rt, desk, seat, event) {
+        if !is_asked_again(rt, alloc, calls, now) {
             return false;
         }
     }
     true
 }
 
+/// Whether a query was answered, at once or when it was asked once more.
+fn is_asked_again<C: Calls, R: Eprint>(rt: &R, alloc: Global, calls: &mut C, now: u64) -> bool {
+    match query(alloc, now) {
+        Ok(event) => is_answered_again(rt, calls, event),
+        Err(_refused) => match query(alloc, now) {
+            Ok(event) => is_answered_again(rt, calls, event),
+            Err(_) => false,
+        },
+    }
+}
+
 /// Whether a call was answered, at once or when it was made once more. It tells which was refused.
-fn is_answered_again<J: Naming, R: Wait + Eprint>(
-    rt: &R,
-    desk: &Desk<J>,
-    seat: &mut Seat<J>,
-    event: Event,
-) -> bool {
+fn is_answered_again<C: Calls, R: Eprint>(rt: &R, calls: &mut C, event: Event) -> bool {
     let now = event.now();
-    let before = (seat.calls(), seat.receipts().len());
-    let Err((fault, back)) = desk.call(rt, seat, event) else {
+    let before = calls.counts();
+    let Err((fault, back)) = calls.call(event) else {
         return true;
     };
-    let is_same = before == (seat.calls(), seat.receipts().len()) && back.now() == now;
-    let is_right = is_same
-        && matches!(fault, DeskFault::NoMemory)
-        && is_answered(rt, desk, seat, back);
+    let is_same = before == calls.counts() && back.now() == now;
+    let is_right = is_same && matches!(fault, DeskFault::NoMemory) && calls.call(back).is_ok();
     eprintln!(rt; "refused at {now}, and answered then: {is_right}").is_ok() && is_right
 }
 
@@ -248,14 +239,13 @@ pub(crate) fn is_raised<R: Wait + Clock>(rt: &R, flag: &AtomicBool) -> bool {
     false
 }
 
-fn has_waited<J: Naming, R: Wait + Clock>(
+fn has_waited<C: Calls, R: Wait + Clock>(
     rt: &R,
-    desk: &Desk<J>,
-    seat: &mut Seat<J>,
+    calls: &mut C,
     mine: &AtomicBool,
     theirs: &AtomicBool,
 ) -> bool {
-    let is_first = has_ticked(rt, desk, seat, 1);
+    let is_first = has_ticked(calls, 1);
     mine.store(true, Ordering::SeqCst);
-    is_first && is_raised(rt, theirs) && has_ticked(rt, desk, seat, 1)
+    is_first && is_raised(rt, theirs) && has_ticked(calls, 1)
 }

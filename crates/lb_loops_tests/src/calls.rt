@@ -1,36 +1,16 @@
 //! Calls of desks, from one thread and from several.
 
 use crate::callers::{Caller, is_wanting};
-use crate::rounds::{Left, Round, go_round};
+use crate::rounds::{Round, go_round};
 use lb_core::{Answer, DropReason, Event, Note};
 use lb_desk::{Audit, CloseFault, Entry, SeatId};
 use lb_wire::RuleId;
 use std::alloc::{AllocError, Global};
-use std::process::Abort;
 use std::test::Fail;
 
 /// How many calls a desk counted, and how many its log has.
-fn counts(left: Left) -> Option<(u64, usize)> {
-    match left {
-        Some(Ok(audit)) => Some((audit.count, audit.log.len())),
-        _ => None,
-    }
-}
-
-/// Why a desk was not closed.
-fn fault(left: Left) -> Option<CloseFault> {
-    match left {
-        Some(Err(fault)) => Some(fault),
-        _ => None,
-    }
-}
-
-/// What a closed desk leaves.
-fn audit(left: Left) -> Result<Audit, Fail> {
-    match left {
-        Some(Ok(audit)) => Ok(audit),
-        _ => Err(Fail::from("a call was refused, or the desk not closed")),
-    }
+fn counts(_: Global, audit: &Audit) -> (u64, usize) {
+    (audit.count, audit.log.len())
 }
 
 /// A desk's limit, its one caller, and how many calls it counted and logged.
@@ -50,9 +30,9 @@ const ROWS: &[Row] = &[
 #[test]
 fn a_log_ends_at_its_limit(rt: HostRuntime) -> Result<(), Fail> {
     for (limit, caller, wanted) in ROWS {
-        let left = go_round(&rt, rt.alloc(), 1, *limit, &[Round::One(*caller)])?;
-        let counts = counts(left);
-        assert!(rt; counts == Some(*wanted), "{counts:?} at a limit of {limit}");
+        let rounds = [Round::One(*caller)];
+        let seen = go_round(&rt, rt.alloc(), (1, *limit), &rounds, counts)?;
+        assert!(rt; seen == Some(Ok(*wanted)), "{seen:?} at a limit of {limit}");
     }
     Ok(())
 }
@@ -60,15 +40,16 @@ fn a_log_ends_at_its_limit(rt: HostRuntime) -> Result<(), Fail> {
 /// With `rt try --test --fail-alloc N` no call is refused: past its log a desk takes no memory.
 #[test]
 fn a_log_without_room_stays_empty(rt: HostRuntime) -> Result<(), Fail> {
-    let left = go_round(&rt, rt.alloc(), 1, 0, &[Round::One(Caller::Ticks(5))])?;
-    assert!(rt; counts(left) == Some((5, 0)));
+    let rounds = [Round::One(Caller::Ticks(5))];
+    let seen = go_round(&rt, rt.alloc(), (1, 0), &rounds, counts)?;
+    assert!(rt; seen == Some(Ok((5, 0))));
     Ok(())
 }
 
 #[test]
 fn a_seat_that_is_missing_is_told(rt: HostRuntime) -> Result<(), Fail> {
-    let left = go_round(&rt, rt.alloc(), 2, 1000, &[Round::Lose])?;
-    assert!(rt; fault(left) == Some(CloseFault::MissingSeat));
+    let seen = go_round(&rt, rt.alloc(), (2, 1000), &[Round::Lose], counts)?;
+    assert!(rt; seen == Some(Err(CloseFault::MissingSeat)));
     assert!(rt; CloseFault::MissingSeat.number() == 1);
     Ok(())
 }
@@ -76,26 +57,32 @@ fn a_seat_that_is_missing_is_told(rt: HostRuntime) -> Result<(), Fail> {
 /// With `rt try --test --fail-alloc N` it tells which calls were refused.
 #[test]
 fn a_refused_call_changes_nothing(rt: HostRuntime) -> Result<(), Fail> {
-    let left = go_round(&rt, rt.alloc(), 1, 3, &[Round::One(Caller::AsksAgain)])?;
-    assert!(rt; counts(left) == Some((3, 3)));
+    let rounds = [Round::One(Caller::AsksAgain)];
+    let seen = go_round(&rt, rt.alloc(), (1, 3), &rounds, counts)?;
+    assert!(rt; seen == Some(Ok((3, 3))));
     Ok(())
 }
 
 /// One thread asks, and one edits.
 #[test]
 fn two_threads_share_a_desk(rt: HostRuntime) -> Result<(), Fail> {
-    let both = Round::Two(Caller::Asks(100), Caller::Edits(100));
-    let audit = audit(go_round(&rt, rt.alloc(), 2, 1000, &[both])?)?;
-    expect_shared(&rt, &audit)
+    let rounds = [Round::Two(Caller::Asks(100), Caller::Edits(100))];
+    match go_round(&rt, rt.alloc(), (2, 1000), &rounds, is_shared)? {
+        Some(Ok(is_shared)) => {
+            assert!(rt; is_shared?);
+            Ok(())
+        }
+        _ => Err(Fail::from("a call was refused, or the desk not closed")),
+    }
 }
 
-fn expect_shared<T: Abort + AllocGlobal>(rt: &T, audit: &Audit) -> Result<(), Fail> {
+/// Whether each of two seats had 100 calls, and the log's events and answers are equal to their
+/// copies.
+fn is_shared(alloc: Global, audit: &Audit) -> Result<bool, AllocError> {
     // With `rt try --test --fail-alloc N` a call that lacked memory is counted and logged besides.
     let lacked = u64::from(audit.log.iter().any(|entry| is_wanting(&entry.answer)));
     let counts = (audit.count, calls_of(audit, 0), calls_of(audit, 1));
-    assert!(rt; counts == (200 + lacked, 100, 100), "{counts:?}");
-    assert!(rt; are_copied(rt.alloc(), audit.log.as_slice())?);
-    Ok(())
+    Ok(counts == (200 + lacked, 100, 100) && are_copied(alloc, audit.log.as_slice())?)
 }
 
 /// How many calls of a seat the log has for which memory sufficed.
@@ -134,13 +121,13 @@ fn a_rule_is_met_by_another_thread(rt: HostRuntime) -> Result<(), Fail> {
         Round::Two(Caller::Drops, Caller::Rests),
         Round::Two(Caller::Rests, Caller::Asks(1)),
     ];
-    let audit = audit(go_round(&rt, rt.alloc(), 2, 1000, &rounds)?)?;
-    assert!(rt; is_met(&audit));
+    let seen = go_round(&rt, rt.alloc(), (2, 1000), &rounds, is_met)?;
+    assert!(rt; seen == Some(Ok(true)));
     Ok(())
 }
 
 /// Whether the log has the rule, added by seat 0, and then the query of seat 1 that it dropped.
-fn is_met(audit: &Audit) -> bool {
+fn is_met(_: Global, audit: &Audit) -> bool {
     match audit.log.as_slice() {
         [added, asked] => {
             added.seat == SeatId(0)
@@ -155,33 +142,33 @@ fn is_met(audit: &Audit) -> bool {
 /// Each of two threads waits between its calls until the other one had an answer.
 #[test]
 fn both_answered(rt: HostRuntime) -> Result<(), Fail> {
-    let both = Round::Two(Caller::Waits(true), Caller::Waits(false));
-    let left = go_round(&rt, rt.alloc(), 2, 1000, &[both])?;
-    assert!(rt; counts(left) == Some((4, 4)));
+    let rounds = [Round::Two(Caller::Waits(true), Caller::Waits(false))];
+    let seen = go_round(&rt, rt.alloc(), (2, 1000), &rounds, counts)?;
+    assert!(rt; seen == Some(Ok((4, 4))));
     Ok(())
 }
 
 /// Four threads, far past the limit of the log.
 #[test]
 fn four_threads_share_a_desk(rt: HostRuntime) -> Result<(), Fail> {
-    let left = go_round(&rt, rt.alloc(), 4, 100, &[Round::Four(10_000)])?;
-    assert!(rt; counts(left) == Some((40_000, 100)));
+    let seen = go_round(&rt, rt.alloc(), (4, 100), &[Round::Four(10_000)], counts)?;
+    assert!(rt; seen == Some(Ok((40_000, 100))));
     Ok(())
 }
 
 /// Queries of two loops of datagrams and of the loop of streams are at their gates at once.
 #[test]
 fn queries_of_loops_wait_for_one_another(rt: HostRuntime) -> Result<(), Fail> {
-    let left = go_round(&rt, rt.alloc(), 4, 10, &[Round::Loops(true)])?;
-    let audit = audit(left)?;
-    assert!(rt; audit.count >= 5, "{} calls", audit.count);
+    let seen = go_round(&rt, rt.alloc(), (4, 10), &[Round::Loops(true)], counts)?;
+    let is_done = matches!(seen, Some(Ok((count, _))) if count >= 5);
+    assert!(rt; is_done, "{seen:?}");
     Ok(())
 }
 
 /// The gate holds the first event: the loops end, and their seats with them.
 #[test]
 fn a_gate_that_holds_ends_the_loops(rt: HostRuntime) -> Result<(), Fail> {
-    let left = go_round(&rt, rt.alloc(), 4, 10, &[Round::Loops(false)])?;
-    assert_eq!(rt; fault(left), Some(CloseFault::MissingSeat));
+    let seen = go_round(&rt, rt.alloc(), (4, 10), &[Round::Loops(false)], counts)?;
+    assert!(rt; seen == Some(Err(CloseFault::MissingSeat)));
     Ok(())
 }

@@ -1,7 +1,7 @@
 //! Four loops in threads of their own, over sockets in memory and a desk: two of datagrams, that of
 //! streams, and the clock.
 
-use crate::callers::{has_ruled, is_raised};
+use crate::callers::{AtDesk, has_ruled, is_raised};
 use lb_core::{Answer, Event, StatedAction};
 use lb_desk::{Desk, DeskFault, Naming, Seat, desks_cross_threads};
 use lb_loops::{
@@ -64,7 +64,7 @@ struct Order {
 #[derive(Drop)]
 struct InTurn<'a, R: Wait + Clock> {
     rt: &'a R,
-    order: Arc<Order>,
+    order: &'a Order,
     is_open: bool,
 }
 
@@ -103,8 +103,8 @@ struct Answering<'a, R: Wait, J: Naming> {
     rt: &'a R,
     desk: &'a Desk<J>,
     seat: Seat<J>,
-    order: Arc<Order>,
-    stop: Arc<AtomicBool>,
+    order: &'a Order,
+    stop: &'a AtomicBool,
 }
 
 impl<'a, R: Wait, J: Naming> Answering<'a, R, J> {
@@ -161,62 +161,54 @@ impl Waker for NoWaker {
 /// What the loops and the test share.
 #[derive(Drop)]
 struct Shared {
-    /// The datagrams of the first loop, and those of the second.
-    packets: Arc<Mutex<Packets>>,
-    beside: Arc<Mutex<Packets>>,
     wires: Arc<Mutex<Wires>>,
     moments: Arc<Mutex<Moments>>,
-    order: Arc<Order>,
+    packets: TwoPackets,
+    order: Order,
     stop: Arc<AtomicBool>,
+}
+
+/// The datagrams of the first loop, and those of the second.
+#[derive(Drop)]
+struct TwoPackets {
+    first: Arc<Mutex<Packets>>,
+    beside: Arc<Mutex<Packets>>,
+}
+
+impl TwoPackets {
+    /// A query comes to each.
+    fn new<R: Wait>(rt: &R, alloc: Global) -> Result<TwoPackets, AllocError> {
+        Ok(TwoPackets {
+            first: first_packets(rt, alloc)?,
+            beside: first_packets(rt, alloc)?,
+        })
+    }
+}
+
+impl Order {
+    /// Nobody is at a gate, and nothing is answered.
+    fn new() -> Order {
+        Order {
+            datagrams: AtomicU64::new(0),
+            is_asked: AtomicBool::new(false),
+            is_second: AtomicBool::new(false),
+            told: AtomicU64::new(0),
+            is_answered: AtomicBool::new(false),
+            streams: AtomicU64::new(0),
+            answers: AtomicU64::new(0),
+        }
+    }
 }
 
 impl Shared {
     /// A query by a datagram to each of two loops, and two by a stream.
     fn new<R: Wait>(rt: &R, alloc: Global) -> Result<Shared, AllocError> {
-        let shared = Shared {
-            packets: Arc::new(alloc, Mutex::new(Packets::new(alloc)))?,
-            beside: Arc::new(alloc, Mutex::new(Packets::new(alloc)))?,
-            wires: Arc::new(alloc, Mutex::new(Wires::new(alloc)))?,
+        Ok(Shared {
+            wires: wires(rt, alloc)?,
             moments: Arc::new(alloc, Mutex::new(Moments::new(1, 0, 16, 0)))?,
-            order: Arc::new(
-                alloc,
-                Order {
-                    datagrams: AtomicU64::new(0),
-                    is_asked: AtomicBool::new(false),
-                    is_second: AtomicBool::new(false),
-                    told: AtomicU64::new(0),
-                    is_answered: AtomicBool::new(false),
-                    streams: AtomicU64::new(0),
-                    answers: AtomicU64::new(0),
-                },
-            )?,
+            packets: TwoPackets::new(rt, alloc)?,
+            order: Order::new(),
             stop: Arc::new(alloc, AtomicBool::new(false))?,
-        };
-        shared.come(rt, alloc)?;
-        Ok(shared)
-    }
-
-    fn come<R: Wait>(&self, rt: &R, alloc: Global) -> Result<(), AllocError> {
-        first_comes(rt, alloc, &self.packets)?;
-        first_comes(rt, alloc, &self.beside)?;
-        let piece = Octets::from_vec(Vec::from_slice(alloc, BOTH)?);
-        let mut wires = self.wires.lock(rt);
-        wires.come(1, CLIENT)?;
-        wires.piece(1, piece)
-    }
-
-    fn answering<'a, R: Wait, J: Naming>(
-        &self,
-        rt: &'a R,
-        desk: &'a Desk<J>,
-        seat: Seat<J>,
-    ) -> Result<Answering<'a, R, J>, AllocError> {
-        Ok(Answering {
-            rt,
-            desk,
-            seat,
-            order: Arc::try_clone(&self.order)?,
-            stop: Arc::try_clone(&self.stop)?,
         })
     }
 
@@ -224,74 +216,34 @@ impl Shared {
         Ok(MemoryOutside::new(rt, Arc::try_clone(&self.moments)?))
     }
 
-    /// A loop of datagrams, over these.
-    fn datagramming<'a, R: Wait, J: Naming>(
-        &self,
-        rt: &'a R,
-        alloc: Global,
-        desk: &'a Desk<J>,
-        packets: &Arc<Mutex<Packets>>,
-        seat: Seat<J>,
-    ) -> Result<Datagramming<'a, R, J>, AllocError> {
-        Ok(DatagramParts {
-            sockets: sockets(rt, alloc, packets)?,
-            roster: Roster::made(alloc)?,
-            taker: self.answering(rt, desk, seat)?,
-            outside: self.outside(rt)?,
-        })
-    }
-
-    fn streaming<'a, R: Wait, J: Naming>(
-        &self,
-        rt: &'a R,
-        alloc: Global,
-        desk: &'a Desk<J>,
-        receiver: Receiver,
-        seat: Seat<J>,
-    ) -> Result<Streaming<'a, R, J>, AllocError> {
-        let wires = Arc::try_clone(&self.wires)?;
-        Ok(StreamParts {
-            sockets: MemoryStreams::new(rt, alloc, wires, StreamFailing::default()),
-            table: Connections::made(alloc)?,
-            roster: Roster::made(alloc)?,
-            receiver,
-            fronts: fronts(alloc)?,
-            posts: posts(rt, alloc)?,
-            taker: self.answering(rt, desk, seat)?,
-            outside: self.outside(rt)?,
-            idle: None,
-        })
-    }
-
-    /// The loop of the clock, which has no socket of its own.
-    fn clocking<'a, R: Wait, J: Naming>(
-        &self,
-        rt: &'a R,
-        alloc: Global,
-        desk: &'a Desk<J>,
-        sender: Sender,
-        seat: Seat<J>,
-    ) -> Result<Clocking<'a, R, J>, AllocError> {
-        let none = Arc::new(alloc, Mutex::new(Packets::new(alloc)))?;
-        Ok(ClockParts {
-            sockets: sockets(rt, alloc, &none)?,
-            probes: Probes::made(alloc)?,
-            roster: Roster::made(alloc)?,
-            sender,
-            fronts: fronts(alloc)?,
-            posts: posts(rt, alloc)?,
-            taker: self.answering(rt, desk, seat)?,
-            outside: self.outside(rt)?,
-        })
-    }
-
     /// Whether the four answers went out, each once, by the loop that took its query, and the
     /// stream's in their order.
     fn are_answered<R: Wait>(&self, rt: &R) -> bool {
-        is_first_told(rt, &self.packets)
-            && is_first_told(rt, &self.beside)
+        is_first_told(rt, &self.packets.first)
+            && is_first_told(rt, &self.packets.beside)
             && self.wires.lock(rt).taken(1) == BOTH_REFUSED
     }
+}
+
+/// A connection by which two queries come.
+fn wires<R: Wait>(rt: &R, alloc: Global) -> Result<Arc<Mutex<Wires>>, AllocError> {
+    let wires = Arc::new(alloc, Mutex::new(Wires::new(alloc)))?;
+    both_come(rt, alloc, &wires)?;
+    Ok(wires)
+}
+
+fn both_come<R: Wait>(rt: &R, alloc: Global, wires: &Mutex<Wires>) -> Result<(), AllocError> {
+    let piece = Octets::from_vec(Vec::from_slice(alloc, BOTH)?);
+    let mut wires = wires.lock(rt);
+    wires.come(1, CLIENT)?;
+    wires.piece(1, piece)
+}
+
+/// Datagrams, of which one comes.
+fn first_packets<R: Wait>(rt: &R, alloc: Global) -> Result<Arc<Mutex<Packets>>, AllocError> {
+    let packets = Arc::new(alloc, Mutex::new(Packets::new(alloc)))?;
+    first_comes(rt, alloc, &packets)?;
+    Ok(packets)
 }
 
 /// A query comes by a datagram.
@@ -324,149 +276,356 @@ pub(crate) fn are_loops_done<J: Naming + Send + Sync, R: Threads + Wait + Clock 
     seats: &mut Vec<Seat<J>>,
     is_open: bool,
 ) -> Result<bool, AllocError> {
-    let (Some(mut first), Some(beside), Some(second), Some(third)) = (
-        seats.pop(),
-        seats.pop(),
-        seats.pop(),
-        seats.pop(),
-    ) else {
-        return Ok(false);
-    };
-    if !has_ruled(
-        rt,
-        alloc,
-        desk,
-        &mut first,
-        0,
-        StatedAction::Rcode(Rcode::Refused),
-    ) {
+    if !is_ruled(rt, alloc, desk, seats) {
         return Ok(false);
     }
     let shared = Shared::new(rt, alloc)?;
-    let mut row = Vec::with_capacity(alloc, 2)?;
-    row.push(first)?;
-    row.push(beside)?;
-    let ended = run_at_desk(rt, alloc, desk, &shared, (row, second, third), is_open)?;
-    match ended {
-        Ok((row, second, third)) => {
-            let is_whole = row.len() == 2;
-            seats.push(third)?;
-            seats.push(second)?;
-            for taker in row {
-                seats.push(taker.into_seat())?;
-            }
-            Ok(is_open && is_whole && shared.are_answered(rt))
-        }
+    match run_at_desk(rt, alloc, desk, &shared, seats, is_open)? {
+        Ok(()) => Ok(is_open && shared.are_answered(rt)),
         Err(fault) => Ok(!is_open && fault == LoopFault::Held),
     }
 }
 
-/// The seats of the loops: those of datagrams, that of streams, and that of the clock.
-type Seats<J> = (Vec<Seat<J>>, Seat<J>, Seat<J>);
-
-/// What loops leave: the handlers of those of datagrams, and the seats of the others.
-type Left<'a, R, J> = (Vec<Answering<'a, R, J>>, Seat<J>, Seat<J>);
-
-/// Runs the loops, and gives what they leave.
-fn run_at_desk<'a, J: Naming + Send + Sync, R: Threads + Wait + Clock + Sync>(
-    rt: &'a R,
+/// Whether the desk refuses each query from now on.
+fn is_ruled<J: Naming, R: Wait>(
+    rt: &R,
     alloc: Global,
-    desk: &'a Desk<J>,
+    desk: &Desk<J>,
+    seats: &mut Vec<Seat<J>>,
+) -> bool {
+    match seats.first_mut() {
+        Some(seat) => {
+            let refused = StatedAction::Rcode(Rcode::Refused);
+            has_ruled(alloc, &mut AtDesk { rt, desk, seat }, 0, refused)
+        }
+        None => false,
+    }
+}
+
+/// Runs the loops from seats, which come back if they end well.
+fn run_at_desk<J: Naming + Send + Sync, R: Threads + Wait + Clock + Sync>(
+    rt: &R,
+    alloc: Global,
+    desk: &Desk<J>,
     shared: &Shared,
-    (row, second, third): Seats<J>,
+    seats: &mut Vec<Seat<J>>,
     is_open: bool,
-) -> Result<Result<Left<'a, R, J>, LoopFault>, AllocError> {
-    let (sender, second_sender, receiver) = Outbox::made(alloc, 4)?;
-    drop(sender);
-    let mut datagrams = Vec::with_capacity(alloc, row.len())?;
-    let mut wakers = Vec::with_capacity(alloc, row.len())?;
-    for (place, seat) in row.into_iter().enumerate() {
-        let packets = if place == 0 {
-            &shared.packets
-        } else {
-            &shared.beside
-        };
-        datagrams
-            .push(shared.datagramming(rt, alloc, desk, packets, seat)?)
-            .map_err(AllocError::from)?;
-        wakers.push(NoWaker).map_err(AllocError::from)?;
-    }
-    let parts = Parts {
-        takers: Vec::with_capacity(alloc, datagrams.len())?,
-        datagrams,
-        streams: shared.streaming(rt, alloc, desk, receiver, second)?,
-        clock: shared.clocking(rt, alloc, desk, second_sender, third)?,
-        roster: Arc::new(alloc, Mutex::new(Roster::made(alloc)?))?,
-        gate: InTurn {
-            rt,
-            order: Arc::try_clone(&shared.order)?,
-            is_open,
-        },
-        sends: Arc::new(alloc, Sends::made(alloc, 0)?)?,
-        stop: Arc::try_clone(&shared.stop)?,
-        datagrams_wakers: wakers,
-        streams_waker: NoWaker,
-        clock_waker: NoWaker,
+) -> Result<Result<(), LoopFault>, AllocError> {
+    let Some(takers) = takers_by(rt, desk, shared, seats) else {
+        return Ok(Err(LoopFault::NoMemory));
     };
-    Ok(run(rt, alloc, parts))
-}
-
-/// A loop of datagrams of a test.
-type Datagramming<'a, R, J> = DatagramParts<
-    MemoryDatagrams<'a, R>,
-    Answering<'a, R, J>,
-    MemoryOutside<'a, R>,
->;
-
-/// The loop of streams.
-type Streaming<'a, R, J> = StreamParts<
-    MemoryStreams<'a, R>,
-    Answering<'a, R, J>,
-    MemoryOutside<'a, R>,
-    MemoryPosts<'a, R>,
->;
-
-/// The loop of the clock.
-type Clocking<'a, R, J> = ClockParts<
-    MemoryDatagrams<'a, R>,
-    Answering<'a, R, J>,
-    MemoryOutside<'a, R>,
-    MemoryPosts<'a, R>,
->;
-
-/// Runs loops of these parts. It stands alone, so that the search for what lets them cross to
-/// threads ends.
-fn run<'a, J: Naming + Send + Sync, R: Threads + Wait + Clock + Sync>(
-    rt: &'a R,
-    alloc: Global,
-    parts: Parts<
-        Datagramming<'a, R, J>,
-        Answering<'a, R, J>,
-        Streaming<'a, R, J>,
-        Clocking<'a, R, J>,
-        InTurn<'a, R>,
-        NoWaker,
-    >,
-) -> Result<Left<'a, R, J>, LoopFault> {
-    // A law, which does nothing.
-    desks_cross_threads::<J>();
-    match run_loops(rt, alloc, parts) {
-        Ok(ended) => Ok(left_by(ended)),
-        Err(fault) => Err(fault),
+    match run(rt, alloc, parts_of(rt, alloc, shared, takers, is_open)?) {
+        Ok(ended) => come_back(seats, ended),
+        Err(fault) => Ok(Err(fault)),
     }
 }
 
-/// What loops leave.
-fn left_by<'a, R: Wait, J: Naming>(
-    ended: Ended<Answering<'a, R, J>, Answering<'a, R, J>, Answering<'a, R, J>>,
-) -> Left<'a, R, J> {
+/// The handlers of the loops: of those of datagrams, of that of streams, and of the clock.
+#[derive(Drop)]
+struct Takers<T> {
+    first: T,
+    beside: T,
+    streams: T,
+    clock: T,
+}
+
+/// Handlers by four seats, if there are so many.
+fn takers_by<'a, J: Naming, R: Wait>(
+    rt: &'a R,
+    desk: &'a Desk<J>,
+    shared: &'a Shared,
+    seats: &mut Vec<Seat<J>>,
+) -> Option<Takers<Answering<'a, R, J>>> {
+    Some(Takers {
+        first: answering_by(rt, desk, shared, seats.pop()?),
+        beside: answering_by(rt, desk, shared, seats.pop()?),
+        streams: answering_by(rt, desk, shared, seats.pop()?),
+        clock: answering_by(rt, desk, shared, seats.pop()?),
+    })
+}
+
+fn answering_by<'a, J: Naming, R: Wait>(
+    rt: &'a R,
+    desk: &'a Desk<J>,
+    shared: &'a Shared,
+    seat: Seat<J>,
+) -> Answering<'a, R, J> {
+    Answering {
+        rt,
+        desk,
+        seat,
+        order: &shared.order,
+        stop: &shared.stop,
+    }
+}
+
+/// Puts the seats back by which the loops called. It tells a fault if handlers are missing.
+fn come_back<R: Wait, J: Naming>(
+    seats: &mut Vec<Seat<J>>,
+    ended: Ended<Answering<'_, R, J>, Answering<'_, R, J>, Answering<'_, R, J>>,
+) -> Result<Result<(), LoopFault>, AllocError> {
     let Ended {
         datagrams,
         streams,
         clock,
         ..
     } = ended;
-    (datagrams, streams.into_seat(), clock.into_seat())
+    let is_whole = datagrams.len() == 2;
+    seats.push(streams.into_seat())?;
+    seats.push(clock.into_seat())?;
+    for taker in datagrams {
+        seats.push(taker.into_seat())?;
+    }
+    Ok(if is_whole {
+        Ok(())
+    } else {
+        Err(LoopFault::NoMemory)
+    })
+}
+
+/// A loop of datagrams of a test.
+type Datagramming<'a, R, T> = DatagramParts<MemoryDatagrams<'a, R>, T, MemoryOutside<'a, R>>;
+
+/// The loop of streams.
+type Streaming<'a, R, T> = StreamParts<
+    MemoryStreams<'a, R>,
+    T,
+    MemoryOutside<'a, R>,
+    MemoryPosts<'a, R>,
+>;
+
+/// The loop of the clock.
+type Clocking<'a, R, T> = ClockParts<
+    MemoryDatagrams<'a, R>,
+    T,
+    MemoryOutside<'a, R>,
+    MemoryPosts<'a, R>,
+>;
+
+/// What the loops of a test are made of.
+type TestParts<'a, R, T> = Parts<
+    Datagramming<'a, R, T>,
+    T,
+    Streaming<'a, R, T>,
+    Clocking<'a, R, T>,
+    InTurn<'a, R>,
+    NoWaker,
+>;
+
+/// What a loop of datagrams, or the clock, is made of that every loop needs: sockets, a roster, and
+/// moments.
+#[derive(Drop)]
+struct Room<'a, R: Wait> {
+    sockets: MemoryDatagrams<'a, R>,
+    roster: Roster,
+    outside: MemoryOutside<'a, R>,
+}
+
+fn room_over<'a, R: Wait>(
+    rt: &'a R,
+    alloc: Global,
+    shared: &Shared,
+    packets: &Arc<Mutex<Packets>>,
+) -> Result<Room<'a, R>, AllocError> {
+    Ok(Room {
+        sockets: sockets(rt, alloc, packets)?,
+        roster: Roster::made(alloc)?,
+        outside: shared.outside(rt)?,
+    })
+}
+
+impl<'a, R: Wait> Room<'a, R> {
+    fn with<T>(self, taker: T) -> Datagramming<'a, R, T> {
+        DatagramParts {
+            sockets: self.sockets,
+            roster: self.roster,
+            taker,
+            outside: self.outside,
+        }
+    }
+}
+
+/// What the loop of streams is made of besides its handler and the jobs.
+#[derive(Drop)]
+struct StreamRoom<'a, R: Wait> {
+    sockets: MemoryStreams<'a, R>,
+    table: Connections,
+    roster: Roster,
+    fronts: Vec<Front>,
+    posts: MemoryPosts<'a, R>,
+    outside: MemoryOutside<'a, R>,
+}
+
+impl<'a, R: Wait> StreamRoom<'a, R> {
+    fn made(rt: &'a R, alloc: Global, shared: &Shared) -> Result<StreamRoom<'a, R>, AllocError> {
+        let wires = Arc::try_clone(&shared.wires)?;
+        Ok(StreamRoom {
+            sockets: MemoryStreams::new(rt, alloc, wires, StreamFailing::default()),
+            table: Connections::made(alloc)?,
+            roster: Roster::made(alloc)?,
+            fronts: fronts(alloc)?,
+            posts: posts(rt, alloc)?,
+            outside: shared.outside(rt)?,
+        })
+    }
+
+    fn with<T>(self, receiver: Receiver, taker: T) -> Streaming<'a, R, T> {
+        StreamParts {
+            sockets: self.sockets,
+            table: self.table,
+            roster: self.roster,
+            receiver,
+            fronts: self.fronts,
+            posts: self.posts,
+            taker,
+            outside: self.outside,
+            idle: None,
+        }
+    }
+}
+
+/// What the loop of the clock is made of besides its handler and its end of the outbox. It has no
+/// socket of its own.
+#[derive(Drop)]
+struct ClockRoom<'a, R: Wait> {
+    room: Room<'a, R>,
+    probes: Probes,
+    fronts: Vec<Front>,
+    posts: MemoryPosts<'a, R>,
+}
+
+impl<'a, R: Wait> ClockRoom<'a, R> {
+    fn made(rt: &'a R, alloc: Global, shared: &Shared) -> Result<ClockRoom<'a, R>, AllocError> {
+        let none = Arc::new(alloc, Mutex::new(Packets::new(alloc)))?;
+        Ok(ClockRoom {
+            room: room_over(rt, alloc, shared, &none)?,
+            probes: Probes::made(alloc)?,
+            fronts: fronts(alloc)?,
+            posts: posts(rt, alloc)?,
+        })
+    }
+
+    fn with<T>(self, sender: Sender, taker: T) -> Clocking<'a, R, T> {
+        let ClockRoom {
+            room,
+            probes,
+            fronts,
+            posts,
+        } = self;
+        ClockParts {
+            sockets: room.sockets,
+            probes,
+            roster: room.roster,
+            sender,
+            fronts,
+            posts,
+            taker,
+            outside: room.outside,
+        }
+    }
+}
+
+/// What the loops have of their own.
+#[derive(Drop)]
+struct Rooms<'a, R: Wait> {
+    first: Room<'a, R>,
+    beside: Room<'a, R>,
+    streams: StreamRoom<'a, R>,
+    clock: ClockRoom<'a, R>,
+}
+
+impl<'a, R: Wait> Rooms<'a, R> {
+    fn made(rt: &'a R, alloc: Global, shared: &Shared) -> Result<Rooms<'a, R>, AllocError> {
+        Ok(Rooms {
+            first: room_over(rt, alloc, shared, &shared.packets.first)?,
+            beside: room_over(rt, alloc, shared, &shared.packets.beside)?,
+            streams: StreamRoom::made(rt, alloc, shared)?,
+            clock: ClockRoom::made(rt, alloc, shared)?,
+        })
+    }
+}
+
+/// What the loops have in common.
+#[derive(Drop)]
+struct Common {
+    roster: Arc<Mutex<Roster>>,
+    sends: Arc<Sends>,
+    stop: Arc<AtomicBool>,
+    wakers: Vec<NoWaker>,
+    sender: Sender,
+    receiver: Receiver,
+}
+
+impl Common {
+    fn made(alloc: Global, shared: &Shared) -> Result<Common, AllocError> {
+        let (_, sender, receiver) = Outbox::made(alloc, 4)?;
+        Ok(Common {
+            roster: Arc::new(alloc, Mutex::new(Roster::made(alloc)?))?,
+            sends: Arc::new(alloc, Sends::made(alloc, 0)?)?,
+            stop: Arc::try_clone(&shared.stop)?,
+            wakers: Vec::from_slice(alloc, &[NoWaker, NoWaker])?,
+            sender,
+            receiver,
+        })
+    }
+}
+
+/// Two loops of datagrams.
+fn row_of<'a, R: Wait, T: Drop>(
+    alloc: Global,
+    first: Datagramming<'a, R, T>,
+    beside: Datagramming<'a, R, T>,
+) -> Result<Vec<Datagramming<'a, R, T>>, AllocError> {
+    let mut row = Vec::with_capacity(alloc, 2)?;
+    row.push(first).map_err(AllocError::from)?;
+    row.push(beside).map_err(AllocError::from)?;
+    Ok(row)
+}
+
+/// What the loops are made of, with these handlers.
+fn parts_of<'a, R: Wait + Clock, T: Drop>(
+    rt: &'a R,
+    alloc: Global,
+    shared: &'a Shared,
+    takers: Takers<T>,
+    is_open: bool,
+) -> Result<TestParts<'a, R, T>, AllocError> {
+    let rooms = Rooms::made(rt, alloc, shared)?;
+    let common = Common::made(alloc, shared)?;
+    let room = Vec::with_capacity(alloc, 2)?;
+    let (first, beside) = (
+        rooms.first.with(takers.first),
+        rooms.beside.with(takers.beside),
+    );
+    Ok(Parts {
+        takers: room,
+        datagrams: row_of(alloc, first, beside)?,
+        streams: rooms.streams.with(common.receiver, takers.streams),
+        clock: rooms.clock.with(common.sender, takers.clock),
+        roster: common.roster,
+        gate: InTurn {
+            rt,
+            order: &shared.order,
+            is_open,
+        },
+        sends: common.sends,
+        stop: common.stop,
+        datagrams_wakers: common.wakers,
+        streams_waker: NoWaker,
+        clock_waker: NoWaker,
+    })
+}
+
+/// Runs loops of these parts. It stands alone, so that the search for what lets them cross to
+/// threads ends.
+fn run<'a, J: Naming + Send + Sync, R: Threads + Wait + Clock + Sync>(
+    rt: &'a R,
+    alloc: Global,
+    parts: TestParts<'a, R, Answering<'a, R, J>>,
+) -> Result<Ended<Answering<'a, R, J>, Answering<'a, R, J>, Answering<'a, R, J>>, LoopFault> {
+    // A law, which does nothing.
+    desks_cross_threads::<J>();
+    run_loops(rt, alloc, parts)
 }
 
 fn sockets<'a, R: Wait>(

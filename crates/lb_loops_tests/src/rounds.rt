@@ -5,7 +5,7 @@
 ghost use Rattle.std.specs.Prelude.{◌≡◌, ◌≤◌};
 ghost use Rattle.lb_core.specs.Snapshot.{snapshot_of};
 
-use crate::callers::{Caller, Flags, is_done};
+use crate::callers::{AtDesk, Caller, Flags, is_done};
 use crate::loops::are_loops_done;
 use lb_core::Balancer;
 use lb_desk::{Audit, CloseFault, Desk, Naming, Seat, desks_cross_threads};
@@ -32,42 +32,48 @@ pub(crate) enum Round {
     Lose,
 }
 
-/// What a desk leaves that was closed; none where a caller's call was not answered.
-pub(crate) type Left = Option<Result<Audit, CloseFault>>;
+/// What was seen of what a desk leaves, or why it was not closed; none if a caller's call was not
+/// answered.
+pub(crate) type Seen<T> = Option<Result<T, CloseFault>>;
 
-/// A desk over a new balancer, with so many seats and a log of this limit, and what it leaves after
-/// these rounds.
-pub(crate) fn go_round<R: Threads + Wait + Clock + Eprint + Sync>(
-    rt: &R,
-    alloc: Global,
-    seats: u8,
-    limit: u64,
-    rounds: &[Round],
-) -> Result<Left, AllocError>
-    requires { (1 ≤ seats) × (seats ≤ 64) }
+/// A desk over a new balancer, with so many seats and a log of this limit, and what is seen of what
+/// it leaves after these rounds. What it leaves stays here, as it is much to drop.
+pub(crate) fn go_round<
+    R: Threads + Wait + Clock + Eprint + Sync,
+    T: Drop,
+    F: FnOnce(Global, &Audit) -> T,
+>(rt: &R, alloc: Global, size: (u8, u64), rounds: &[Round], look: F) -> Result<Seen<T>, AllocError>
+    requires size { (1 ≤ size.0) × (size.0 ≤ 64) }
+    requires look { F.IsAlwaysCallable look }
 {
     let balancer = Balancer::new(alloc)?;
-    let blank = Blank::new(u64::from(seats));
-    gone_round::<Brand, R>(rt, alloc, blank, balancer, seats, limit, rounds)
+    let blank = Blank::new(u64::from(size.0));
+    let left = gone_round::<Brand, R>((rt, alloc), blank, balancer, size, rounds)?;
+    Ok(match left {
+        Some(Ok(audit)) => Some(Ok(look(alloc, &audit))),
+        Some(Err(fault)) => Some(Err(fault)),
+        None => None,
+    })
 }
 
+/// The same with a name. The size is how many seats there are, and the log's limit.
 fn gone_round<J: Naming + Send + Sync, R: Threads + Wait + Clock + Eprint + Sync>(
-    rt: &R,
-    alloc: Global,
+    cx: (&R, Global),
     blank: Blank,
     balancer: Balancer,
-    seats: u8,
-    limit: u64,
+    size: (u8, u64),
     rounds: &[Round],
-) -> Result<Left, AllocError>
+) -> Result<Seen<Audit>, AllocError>
     requires name { blank.name ≡ J.name }
     requires parts { (blank.parts ≡ J.parts) × (J.parts ≡ J.seats) }
-    requires seats { J.seats ≡ seats }
-    requires some { (1 ≤ seats) × (seats ≤ 64) }
-    requires limit { J.limit ≡ limit }
+    requires seats { J.seats ≡ size.0 }
+    requires some { (1 ≤ size.0) × (size.0 ≤ 64) }
+    requires limit { J.limit ≡ size.1 }
     requires opening { J.opening ≡ snapshot_of balancer }
 {
-    let (desk, mut seats) = Desk::<J>::made(alloc, blank, balancer, limit, seats)?;
+    let (rt, alloc) = cx;
+    let (count, limit) = size;
+    let (desk, mut seats) = Desk::<J>::made(alloc, blank, balancer, limit, count)?;
     let are_done = are_rounds_done(rt, alloc, &desk, &mut seats, rounds);
     Ok(are_done.then_some(desk.close(seats)))
 }
@@ -115,7 +121,7 @@ fn is_one_done<J: Naming, R: Wait + Clock + Eprint>(
     caller: Caller,
 ) -> bool {
     match seats.first_mut() {
-        Some(seat) => is_done(rt, alloc, desk, seat, flags, caller),
+        Some(seat) => is_done(rt, alloc, &mut AtDesk { rt, desk, seat }, flags, caller),
         None => false,
     }
 }
@@ -201,7 +207,12 @@ fn call<J: Naming, R: Wait + Clock + Eprint>(
     flags: &Flags,
     caller: Caller,
 ) -> Option<Seat<J>> {
-    if is_done(rt, alloc, desk, &mut seat, flags, caller) {
+    let mut calls = AtDesk {
+        rt,
+        desk,
+        seat: &mut seat,
+    };
+    if is_done(rt, alloc, &mut calls, flags, caller) {
         Some(seat)
     } else {
         None

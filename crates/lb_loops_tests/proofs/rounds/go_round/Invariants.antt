@@ -5,4 +5,4 @@ abbrev pub ghosts-gone_round-J-Ledger : goal.ghosts-gone_round-J-Ledger
 ghosts-gone_round-J-Ledger g a = record { name = a.blank.name; parts = a.blank.parts }
 
 abbrev pub ghosts-gone_round-J-Naming : goal.ghosts-gone_round-J-Naming
-ghosts-gone_round-J-Naming g a = record { seats = a.seats; limit = a.limit; opening = snapshot_of a.balancer }
+ghosts-gone_round-J-Naming g a = record { seats = a.size.0; limit = a.size.1; opening = snapshot_of a.balancer }
