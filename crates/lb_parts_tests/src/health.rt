@@ -1,7 +1,7 @@
-//! Probes, their answers and rows of results, by values worked out by hand from RFC 1035 section 4.1.
+//! Probes and their answers, by values worked out by hand from RFC 1035 section 4.1; and a copy.
 
 use super::rows::held;
-use Changed::{Down, No, Up};
+use Changed::{Down, No};
 use lb_health::{Changed, Health, judge, probe};
 use std::num::NonZeroU8;
 use std::test::Fail;
@@ -57,47 +57,12 @@ fn answers_to_a_probe() -> Result<(), Fail> {
     Ok(())
 }
 
-/// The health of a server that goes down after so many failures in a row, and up after as many successes.
-fn health(number: u8) -> Result<Health, Fail> {
-    let number = NonZeroU8::new(number).ok_or("no such number")?;
-    Ok(Health::new(number, number))
-}
-
-/// Takes a result, and tells whether it makes this change, after which the server is up or not; so does a copy.
-fn takes(health: &mut Health, ok: bool, changed: Changed, up: bool) -> bool {
-    let mut copy = health.copy();
-    health.result(ok) == changed && health.is_up() == up && copy.result(ok) == changed
-}
-
-/// Results, the change that each makes, and whether the server is up then.
-type Results = &'static [(bool, Changed, bool)];
-
-/// How many results in a row change a server, and what each does.
-const RESULTS: &[(u8, Results)] = &[
-    (
-        2,
-        &[
-            (false, No, true),
-            (false, Down, false),
-            (true, No, false),
-            (false, No, false),
-            (true, No, false),
-            (true, Up, true),
-        ],
-    ),
-    (
-        1,
-        &[(false, Down, false), (true, Up, true), (true, No, true)],
-    ),
-];
-
 #[test]
-fn rows_of_results() -> Result<(), Fail> {
-    for (number, results) in RESULTS {
-        let mut health = health(*number)?;
-        for (row, (ok, changed, up)) in results.iter().enumerate() {
-            held(row, takes(&mut health, *ok, *changed, *up))?;
-        }
-    }
-    Ok(())
+fn a_copy_goes_on_by_itself() -> Result<(), Fail> {
+    let two = NonZeroU8::new(2).ok_or("no such number")?;
+    let mut health = Health::new(two, two);
+    held(0, health.result(false) == No)?;
+    let mut copy = health.copy();
+    held(1, copy.result(false) == Down && !copy.is_up())?;
+    held(2, health.is_up() && health.result(false) == Down)
 }

@@ -1,37 +1,9 @@
-//! Sets of names, by values worked out by hand.
+//! Sets of names: lists of them, copies, and lack of memory, by values worked out by hand.
 
 use super::rows::held;
 use lb_name::Name;
 use lb_terms::Names;
-use std::alloc::Global;
 use std::test::Fail;
-
-/// A list of these names.
-fn names(alloc: Global, texts: &[&str]) -> Result<Names, Fail> {
-    let mut names = Names::new(alloc);
-    for text in texts {
-        names.push(&Name::parse_text(text)?)?;
-    }
-    Ok(names)
-}
-
-/// Whether a list of names is example.com and example.org.
-fn are_names(names: &Names, org: &Name) -> bool {
-    match (names.get(0), names.get(1), names.get(2)) {
-        (Some(first), Some(last), None) => {
-            names.len() == 2 && names.covers(org) && !first.is_under(org) && last.is_under(org)
-        }
-        _ => false,
-    }
-}
-
-#[test]
-fn names_in_order(rt: HostRuntime) -> Result<(), Fail> {
-    let org = Name::parse_text("example.org")?;
-    let names = names(rt.alloc(), &["example.com", "example.org"])?;
-    let copy = names.copy(rt.alloc())?;
-    held(0, are_names(&copy, &org) && copy.equals(&names))
-}
 
 /// Whether a list has a name at a place, and none behind it.
 fn ends_at(names: &Names, place: usize, name: &Name) -> bool {
@@ -58,7 +30,8 @@ const PUT: &[&str] = &[
     "example.org",
 ];
 
-/// With `rt try --test --fail-alloc N` a name is refused, and comes again.
+/// With `rt try --test --fail-alloc N` a name is refused, and comes again. A copy of the list is
+/// equal to it.
 #[test]
 fn a_refused_name_leaves_the_others(rt: HostRuntime) -> Result<(), Fail> {
     let mut names = Names::new(rt.alloc());
@@ -66,5 +39,6 @@ fn a_refused_name_leaves_the_others(rt: HostRuntime) -> Result<(), Fail> {
         let name = Name::parse_text(text)?;
         held(row, is_put(&mut names, &name) && names.covers(&name))?;
     }
-    held(PUT.len(), names.len() == PUT.len())
+    let copy = names.copy(rt.alloc())?;
+    held(PUT.len(), names.len() == PUT.len() && copy.equals(&names))
 }
