@@ -42,10 +42,6 @@ pub record Told : Type 0 where
   pub answered : ℕ
   pub pairs : List (Event × Answer)
 
--- what a handler has that answered so many calls and has these pairs
-abbrev pub told : ℕ → List (Event × Answer) → Told
-told answered pairs = record { answered = answered; pairs = pairs }
-
 -- a line is told a fault for want of memory, and nothing was done
 pub record Wants (said : Said) (old new : Told) : Type 0 where
   pub fault : CommandFault

@@ -39,11 +39,6 @@ Served opening limit old new (Ok done) = (count : ℕ) × Closes opening limit c
 Served opening limit old new (Err (Output error)) = (count : ℕ) × WritesFront old new (ready_text ++ closed_text count)
 Served opening limit old new (Err fault) = Keeps old new ⊎ Appends old new ready_text
 
--- the same of any desk that was closed with so many calls, of which nothing but `ready` was written before
-abbrev pub ServedOnceClosed : ℕ → Option (List ℕ) → Option (List ℕ) → Result (Unit {0}) Fault → Type 0
-ServedOnceClosed count mid new result =
-    (old : Option (List ℕ)) (opening : Snapshot) (limit : ℕ) → Closes opening limit count → Appends old mid ready_text → Served opening limit old new result
-
 -- what writing to the output gave, as the end of serving
 abbrev pub output_end : Result (Unit {0}) Error → Result (Unit {0}) Fault
 output_end (Ok done) = Ok done

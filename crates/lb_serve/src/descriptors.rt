@@ -1,6 +1,5 @@
 //! How many descriptors the program may have, and for how many clients they suffice.
 
-use crate::desk::Plan;
 use lb_command::{Listener, Protocol};
 use lb_program::ServerPlace;
 use libc;
@@ -55,17 +54,6 @@ pub(crate) struct Clients {
 }
 
 impl Clients {
-    /// As many as descriptors are left beside what a plan needs.
-    pub(crate) fn beside(plan: &Plan) -> Clients {
-        Clients::under(
-            limit(),
-            plan.setup.listeners(),
-            plan.servers.as_slice(),
-            plan.switches.loops,
-            plan.switches.metrics.is_some(),
-        )
-    }
-
     /// As many as descriptors are left of this limit for each kind that is listened for, once the
     /// listeners, the loops of datagrams, the service of metrics and these servers have theirs;
     /// 1,024 at most.

@@ -1,16 +1,15 @@
 //! The desk that the threads of serving call, and its closing.
 
-ghost use Rattle.std.specs.Prelude.{Err, IfErr, IfOk, List, OnOk, Option, ◌≡◌, ◌≤◌, ℕ};
+ghost use Rattle.std.specs.Prelude.{Err, IfErr, IfOk, List, OnOk, Option, string_bytes, ◌≡◌, ◌≤◌, ℕ};
 ghost use Rattle.std.specs.Io.KnownBytes.{Appends};
-ghost use Rattle.lb_core.specs.Snapshot.{snapshot_of};
-ghost use Rattle.lb_serve.specs.Serving.{Closes, Served, ServedOnceClosed, output_end, ready_text};
+ghost use Rattle.lb_core.specs.Snapshot.{Snapshot, snapshot_of};
+ghost use Rattle.lb_serve.specs.Serving.{Closes, Served, closed_text, output_end, ready_text};
 
 use crate::fault::Fault;
-use crate::handlers::OtherSeats;
 use crate::listening::Listening;
 use crate::log::{LogFile, keep};
-use crate::pages::{DeskPage, pages_cross_threads};
-use crate::parts::{Context, DeskRunners, Loops, OwnConsole, OwnServices, Runners, runners_at};
+use crate::pages::pages_cross_threads;
+use crate::parts::{Context, DeskConsole, DeskServices, Loops, OtherSeats, Runners, prepared};
 use crate::switches::{MOST_LOOPS, Switches};
 use crate::threads::{FrontEnd, LoopsEnd, Over, run_beside};
 use lb_core::Balancer;
@@ -37,29 +36,20 @@ use std::{io, net};
 /// clock, of the console, and of the front of DNS on HTTP.
 const OTHERS: u8 = 4;
 
-/// What a setup file states, the servers of the balancer that it leaves, and what the switches ask
-/// for.
+/// What a setup file states, the servers that it leaves, what the switches ask for, and the sockets
+/// that listen.
+pub(crate) type Given = (Setup, Vec<ServerPlace>, Switches, Listening);
+
+/// What a setup file states, the servers of the balancer that it leaves, what the switches ask for,
+/// the sockets that listen, and the file to which the log is written once it was found true.
 #[derive(Drop)]
-pub(crate) struct Plan {
+pub(crate) struct Ready<L> {
     pub(crate) setup: Setup,
     pub(crate) servers: Vec<ServerPlace>,
     pub(crate) switches: Switches,
-}
-
-/// A plan, the sockets that listen, and the file to which the log is written once it was found
-/// true.
-#[derive(Drop)]
-pub(crate) struct Ready<L> {
-    pub(crate) plan: Plan,
     pub(crate) listening: Listening,
     pub(crate) log: Option<LogFile<L>>,
 }
-
-/// The console of a desk.
-type DeskConsole<'a, R, J> = OwnConsole<'a, R, Caller<'a, R, J>>;
-
-/// The services of a desk by HTTP.
-type DeskServices<'a, R, J> = OwnServices<'a, R, Caller<'a, R, J>, DeskPage<'a, R, J>>;
 
 /// What has run at a desk.
 type Ran<'a, R, J> = (
@@ -87,11 +77,12 @@ pub(crate) fn serve_at_desk<
     W: Write,
     L: Write + Drop,
 >(rt: &R, alloc: Global, balancer: Balancer, ready: Ready<L>, output: &mut W) -> Result<(), Fault>
-    ensures { Served (snapshot_of balancer) ready.plan.setup.log (W.contents output.old) (W.contents output.new) result }
+    ensures { Served (snapshot_of balancer) ready.setup.log (W.contents output.old) (W.contents output.new) result }
 {
-    let seats = seats_of(ready.plan.switches.loops);
+    let limit = u64::from(ready.setup.log());
+    let seats = seats_of(ready.switches.loops);
     let blank = Blank::new(u64::from(seats));
-    serve_named::<Brand, R, W, L>((rt, alloc), blank, balancer, seats, ready, output)
+    serve_named::<Brand, R, W, L>(rt, alloc, blank, balancer, limit, seats, ready, output)
 }
 
 /// How many seats there are with so many loops of datagrams: at most as many as a desk has.
@@ -112,9 +103,11 @@ fn serve_named<
     W: Write,
     L: Write + Drop,
 >(
-    cx: Context<'_, R>,
+    rt: &R,
+    alloc: Global,
     blank: Blank,
     balancer: Balancer,
+    limit: u64,
     count: u8,
     ready: Ready<L>,
     output: &mut W,
@@ -123,22 +116,22 @@ fn serve_named<
     requires parts { (blank.parts ≡ J.parts) × (J.parts ≡ J.seats) }
     requires seats { J.seats ≡ count }
     requires some { (1 ≤ count) × (count ≤ 64) }
-    requires limit { J.limit ≡ ready.plan.setup.log }
+    requires limit { J.limit ≡ limit }
     requires opening { J.opening ≡ snapshot_of balancer }
     ensures { Served J.opening J.limit (W.contents output.old) (W.contents output.new) result }
 {
-    let (rt, alloc) = cx;
-    let limit = u64::from(ready.plan.setup.log());
     let (desk, mut seats) = Desk::<J>::made(alloc, blank, balancer, limit, count)?;
     let Some(others) = taken(&mut seats) else {
         return Err(Fault::Closing(CloseFault::MissingSeat));
     };
     let Ready {
-        plan,
+        setup,
+        servers,
+        switches,
         listening,
         log,
     } = ready;
-    let given = (&plan, listening);
+    let given = (setup, servers, switches, listening);
     match run_at_desk((rt, alloc), &desk, &mut seats, others, given, output) {
         Ok(left) => close(alloc, desk, seats, left, log, output),
         Err(fault) => Err(fault),
@@ -210,7 +203,7 @@ fn counted<J: Naming, L: Write + Drop>(
 /// Reports how many calls there were. It takes no memory, so that it is reported however little
 /// there is.
 fn tell_closed<W: Write>(count: u64, client: Option<TcpStream>, output: &mut W) -> Result<(), Fault>
-    ensures { ServedOnceClosed count (W.contents output.old) (W.contents output.new) result }
+    ensures { (old : Option (List ℕ)) (opening : Snapshot) (limit : ℕ) → Closes opening limit count → Appends old (W.contents output.old) ready_text → Served opening limit old (W.contents output.new) result }
 {
     let line = closed_line(count);
     if let Some(mut client) = client {
@@ -246,14 +239,13 @@ fn run_at_desk<
     desk: &'a Desk<J>,
     seats: &mut Vec<Seat<J>>,
     others: OtherSeats<J>,
-    given: (&Plan, Listening),
+    given: Given,
     output: &mut W,
 ) -> Result<Left<J>, Fault>
     ensures ready { OnOk result (Appends (W.contents output.old) (W.contents output.new) ready_text) }
     ensures ended { IfErr result (λ fault. Served J.opening J.limit (W.contents output.old) (W.contents output.new) (Err fault)) }
 {
-    let (plan, listening) = given;
-    match runners_at(cx, desk, seats, others, plan, listening) {
+    match prepared(cx, desk, seats, others, given) {
         Ok(runners) => run_prepared(cx, seats, runners, output),
         Err(fault) => Err(fault),
     }
@@ -273,7 +265,7 @@ fn run_prepared<
 >(
     cx: Context<'a, R>,
     seats: &mut Vec<Seat<J>>,
-    runners: DeskRunners<'a, R, J>,
+    runners: Runners<'a, R, J>,
     output: &mut W,
 ) -> Result<Left<J>, Fault>
     ensures ready { OnOk result (Appends (W.contents output.old) (W.contents output.new) ready_text) }
@@ -307,7 +299,7 @@ fn left_of<
 >(
     cx: Context<'a, R>,
     seats: &mut Vec<Seat<J>>,
-    loops: Loops<'a, R, Caller<'a, R, J>>,
+    loops: Loops<'a, R, J>,
     console: DeskConsole<'a, R, J>,
     over: Over,
     services: DeskServices<'a, R, J>,
@@ -329,7 +321,7 @@ fn run<
         + Sync,
 >(
     cx: Context<'a, R>,
-    loops: Loops<'a, R, Caller<'a, R, J>>,
+    loops: Loops<'a, R, J>,
     console: DeskConsole<'a, R, J>,
     over: Over,
     services: DeskServices<'a, R, J>,
