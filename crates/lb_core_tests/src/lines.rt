@@ -7,15 +7,18 @@ use lb_servers::ParkFault;
 use std::alloc::Global;
 use std::test::Fail;
 
-/// A datagram from 192.0.2.1, slot 7, that asks for example.com A IN, with the ID 0x1234 and RD (RFC 1035).
+/// A datagram from 192.0.2.1, slot 7, that asks for example.com A IN, with the ID 0x1234 and RD
+/// (RFC 1035).
 pub(crate) const QUERY: &str =
     "query 1000 7 udp 192.0.2.1 16 123401000001000000000000076578616d706c6503636f6d0000010001";
 
-/// Its reply from server 1, to which it was sent under the ID 16: the address 192.0.2.1, to live 300 seconds.
+/// Its reply from server 1, to which it was sent under the ID 16: the address 192.0.2.1, to live
+/// 300 seconds.
 pub(crate) const REPLY: &str =
     "reply 2000 1 udp 001081800001000100000000076578616d706c6503636f6d0000010001c00c000100010000012c0004c0000201";
 
-/// No two of these are equal, and no two of their answers. Each kind of event is here, and each command.
+/// No two of these are equal, and no two of their answers. Each kind of event is here, and each
+/// command.
 pub(crate) const TOLD: &[&str] = &[
     QUERY,
     // AXFR
@@ -93,8 +96,8 @@ pub(crate) fn events(alloc: Global, lines: &[&str], times: usize) -> Result<Vec<
     Ok(events)
 }
 
-/// What comes of something that is done with a new balancer. It alone has one to drop: what a function does is
-/// stated for each way out of it, with all that it drops.
+/// What comes of something that is done with a new balancer. It alone has one to drop: what a
+/// function does is stated for each way out of it, with all that it drops.
 pub(crate) fn played<T, F: FnOnce(Global, &mut Balancer) -> Result<T, Fail>>(
     alloc: Global,
     play: F,
@@ -114,12 +117,13 @@ pub(crate) fn held(row: usize, holds: bool) -> Result<(), Fail> {
     }
 }
 
-/// The answer to an event. It has no clause, so that what calls it is proved without the meaning of a step.
+/// The answer to an event. It has no clause, so that what calls it is proved without the meaning of
+/// a step.
 pub(crate) fn step(balancer: &mut Balancer, event: Event) -> Answer {
     balancer.step(event)
 }
 
-/// The answer to a line; where memory was wanting, to the same line told again.
+/// The answer to a line; if memory was lacking, to the same line told again.
 pub(crate) fn tell(alloc: Global, balancer: &mut Balancer, line: &str) -> Result<Answer, Fail> {
     let answer = step(balancer, event(alloc, line)?);
     if is_wanting(&answer) {
@@ -128,7 +132,7 @@ pub(crate) fn tell(alloc: Global, balancer: &mut Balancer, line: &str) -> Result
     Ok(answer)
 }
 
-/// Whether memory was wanting for a query or an edit.
+/// Whether memory was lacking for a query or an edit.
 pub(crate) fn is_wanting(answer: &Answer) -> bool {
     match answer {
         Answer::NoMemory(_) => true,

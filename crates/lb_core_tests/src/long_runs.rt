@@ -1,6 +1,6 @@
-//! Runs of many events: more queries than a lane has IDs, than two have, and each octet of a query and of its
-//! reply with each value. What is wanted follows from the rules for IDs and lanes; where single steps are
-//! the measure, they are made of a balancer of their own.
+//! Runs of many events: more queries than a lane has IDs, than two have, and each octet of a query
+//! and of its reply with each value. What is wanted follows from the rules for IDs and lanes; where
+//! single steps are the measure, they are made of a balancer of their own.
 
 use crate::lines::{QUERY, REPLY, TOLD, event, events, held, played, tell};
 use crate::tests::are_as_steps;
@@ -16,8 +16,9 @@ const IDS: usize = 65_536;
 const QUERY_0: &str =
     "query 1000 7 udp 192.0.2.1 0 123401000001000000000000076578616d706c6503636f6d0000010001";
 
-/// Whether a query was sent by the lanes of server 1 in their order, each with its IDs in their order, or, after
-/// so many, found each ID taken: then it is answered with ServFail (RFC 1035 section 4.1.1), QR and RA.
+/// Whether a query was sent by the lanes of server 1 in their order, each with its IDs in their
+/// order, or, after so many, found each ID taken: then it is answered with ServFail (RFC 1035
+/// section 4.1.1), QR and RA.
 fn is_in_order(place: usize, many: usize, answer: &Answer) -> bool {
     match answer {
         Answer::Forward(server, lane, id, _) => {
@@ -50,8 +51,8 @@ fn expect_filled(many: usize, answers: &[Answer]) -> Result<(), Fail> {
     held(many, answers.len() == many.saturating_add(1))
 }
 
-/// A lane's IDs are all taken by 65,536 queries. The next one is refused, and the pool's turn is counted all
-/// the same: by 65,537 turns a further query goes to the second of two servers.
+/// A lane's IDs are all taken by 65,536 queries. The next one is refused, and the pool's turn is
+/// counted all the same: by 65,537 turns a further query goes to the second of two servers.
 #[test]
 fn a_lane_takes_65_536_queries(rt: HostRuntime) -> Result<(), Fail> {
     played(rt.alloc(), full_lane)
@@ -95,13 +96,15 @@ fn a_thousand(alloc: Global) -> Result<Vec<Event>, Fail> {
     events(alloc, TOLD, 25)
 }
 
-/// Each octet of a query, and of its reply, with each of its 256 values: a run answers as single steps do.
+/// Each octet of a query, and of its reply, with each of its 256 values: a run answers as single
+/// steps do.
 #[test]
 fn a_run_over_replaced_octets_answers_as_single_steps_do(rt: HostRuntime) -> Result<(), Fail> {
     held(0, are_as_steps(rt.alloc(), replaced)?)
 }
 
-/// A server, a cache, and `QUERY` and `REPLY` with each octet replaced, the query before each reply as it is.
+/// A server, a cache, and `QUERY` and `REPLY` with each octet replaced, the query before each reply
+/// as it is.
 fn replaced(alloc: Global) -> Result<Vec<Event>, Fail> {
     let first = [
         "edit 0 server add s1 127.0.0.1 5301",
@@ -113,7 +116,8 @@ fn replaced(alloc: Global) -> Result<Vec<Event>, Fail> {
     Ok(events)
 }
 
-/// Puts a line after some events with each octet of its message replaced, each after the events of other lines.
+/// Puts a line after some events with each octet of its message replaced, each after the events of
+/// other lines.
 fn push_replaced(
     alloc: Global,
     events: &mut Vec<Event>,

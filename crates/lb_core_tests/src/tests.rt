@@ -1,10 +1,12 @@
-//! What lines of `lb replay` cannot say of a balancer: equal values and copies, what an answer's line leaves out, snapshots, runs,
-//! and want of memory. Answers that are wanted were written out by hand from RFC 1035.
+//! What lines of `lb replay` cannot say of a balancer: equal values and copies, what an answer's
+//! line leaves out, snapshots, runs, and lack of memory. Answers that are wanted were written out
+//! by hand from RFC 1035.
 //!
-//! The rows at the end are for refused allocations: `rt try --test --fail-alloc N`. What met want of memory is told again and then
-//! gets the answer that it gets with ample memory, so that nothing was changed by it. A reply that was not kept for want of memory
-//! ends its row: the query is gone, and the next one is forwarded. Other want of memory ends a test with an error, and no
-//! assertion fails by it.
+//! The rows at the end are for refused allocations: `rt try --test --fail-alloc N`. What lacked
+//! memory is told again and then gets the answer that it gets with ample memory, so that nothing
+//! was changed by it. A reply that was not kept for lack of memory ends its row: the query is gone,
+//! and the next one is forwarded. Other lack of memory ends a test with an error, and no assertion
+//! fails by it.
 
 use crate::lines::{QUERY, REPLY, TOLD, event, events, held, is_wanting, played, step, tell};
 use lb_command::{answer_line, note_text};
@@ -52,8 +54,8 @@ fn has_equal_command(event: &Event, other: &Event) -> bool {
     }
 }
 
-/// A copy of each answer is equal to it and to none before it, one that is written into room that was taken before too. Its note is
-/// its whole line, or the first word of it.
+/// A copy of each answer is equal to it and to none before it, one that is written into room that
+/// was taken before too. Its note is its whole line, or the first word of it.
 #[test]
 fn equal_answers_and_notes(rt: HostRuntime) -> Result<(), Fail> {
     let answers = played(rt.alloc(), answers)?;
@@ -119,8 +121,8 @@ fn answers(alloc: Global, balancer: &mut Balancer) -> Result<Vec<Answer>, Fail> 
     Ok(answers)
 }
 
-/// A run gives the answers that single steps give of a balancer that began equal. Where memory was wanting for the
-/// answers' room, the events come back, and are run then.
+/// A run gives the answers that single steps give of a balancer that began equal. If memory was
+/// lacking for the answers' room, the events come back, and are run then.
 #[test]
 fn a_run_answers_as_single_steps_do(rt: HostRuntime) -> Result<(), Fail> {
     let stepped = played(rt.alloc(), answers)?;
@@ -166,7 +168,8 @@ fn steps_of(alloc: Global, events: Vec<Event>) -> Result<Vec<Answer>, Fail> {
     })
 }
 
-/// The answers of a new balancer to a run. If there was no room for them, the events came back, and are run again.
+/// The answers of a new balancer to a run. If there was no room for them, the events came back, and
+/// are run again.
 fn run_of(alloc: Global, events: Vec<Event>) -> Result<Vec<Answer>, Fail> {
     let many = events.len();
     played(alloc, move |alloc, balancer| {
@@ -330,7 +333,7 @@ fn keep_reply(alloc: Global, balancer: &mut Balancer) -> Result<(), Fail> {
     Ok(())
 }
 
-/// Whether memory was wanting for keeping a reply.
+/// Whether memory was lacking for keeping a reply.
 fn is_not_kept(answer: &Answer) -> bool {
     matches!(answer, Answer::Deliver(_, _, Kept::NoMemory))
 }
@@ -369,9 +372,9 @@ fn wanting_memory_a_reply_is_delivered(rt: HostRuntime) -> Result<(), Fail> {
     play(rt.alloc(), KEPT)
 }
 
-/// Where memory is wanting for a rule, no number is given. Where it is wanting for a query, no pass, no turn and no
-/// outstanding query is counted: a pass more would have the third query's answer come at the second, a turn would send it
-/// to the other server, and an entry would take its ID.
+/// If memory is lacking for a rule, no number is given. If it is lacking for a query, no pass, no
+/// turn and no outstanding query is counted: a pass more would have the third query's answer come
+/// at the second, a turn would send it to the other server, and an entry would take its ID.
 const LIMITED: &[Line] = &[
     SERVER,
     (
@@ -393,7 +396,7 @@ fn wanting_memory_a_query_counts_nothing(rt: HostRuntime) -> Result<(), Fail> {
     play(rt.alloc(), LIMITED)
 }
 
-/// Where memory is wanting for an edit, it changes nothing.
+/// If memory is lacking for an edit, it changes nothing.
 const EDITED: &[Line] = &[
     ("edit 0 pool add p1", "edited pool p1 added"),
     (
@@ -450,7 +453,8 @@ fn play_on(alloc: Global, balancer: &mut Balancer, row: &[Line]) -> Result<(), F
     Ok(())
 }
 
-/// Tells a balancer a line, and compares the answer. Whether the row goes on: not behind a reply that was not kept for want of memory.
+/// Tells a balancer a line, and compares the answer. Whether the row goes on: not after a reply
+/// that was not kept for lack of memory.
 fn expect(alloc: Global, balancer: &mut Balancer, (line, wanted): Line) -> Result<bool, Fail> {
     let answer = tell(alloc, balancer, line)?;
     let told = answer_line(alloc, &answer)?;

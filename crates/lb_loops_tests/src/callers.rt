@@ -1,6 +1,6 @@
 //! What the callers of a desk do, each by a seat of its own. None of it has a clause, and all but
-//! `AtDesk` knows of a desk and its seat no more than `Calls` says: what a type is made of is looked
-//! at in each function that names it.
+//! `AtDesk` knows of a desk and its seat no more than `Calls` says: what a type is made of is
+//! looked at in each function that names it.
 
 use crate::events::{query, rule_for_all};
 use lb_chain::ChainFault;

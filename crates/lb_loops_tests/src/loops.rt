@@ -359,7 +359,7 @@ fn answering_by<'a, J: Naming, R: Wait>(
     }
 }
 
-/// Puts the seats back by which the loops called. It tells a fault if handlers are missing.
+/// Puts the seats back from which the loops called, or reports a fault if handlers are missing.
 fn come_back<R: Wait, J: Naming>(
     seats: &mut Vec<Seat<J>>,
     ended: Ended<Answering<'_, R, J>, Answering<'_, R, J>, Answering<'_, R, J>>,

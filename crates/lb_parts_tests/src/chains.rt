@@ -109,7 +109,8 @@ enum Ending {
     Truncated,
 }
 
-/// What a walk gives: the rule that ends it, 0 where none does, and the limiters that count the query.
+/// What a walk gives: the rule that ends it, 0 where none does, and the limiters that count the
+/// query.
 #[derive(Clone, Copy)]
 struct Walk {
     rule: u64,

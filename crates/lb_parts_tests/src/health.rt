@@ -30,7 +30,8 @@ fn octets_of_a_probe() -> Result<(), Fail> {
     held(0, probe(0x1234).as_slice() == PROBE && PROBE.len() == 36)
 }
 
-/// Octets, the ID of the probe, and whether they are a good answer to it; and whether they are where names have to be resolved.
+/// Octets, the ID of the probe, and whether they are a good answer to it; and whether they are
+/// where names have to be resolved.
 const ANSWERS: &[(&[u8], u16, bool, bool)] = &[
     (GOOD, 0x1234, true, true),
     (FAILED, 0x1234, false, false),

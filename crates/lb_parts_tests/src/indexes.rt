@@ -42,10 +42,12 @@ fn masks_over_addresses(rt: HostRuntime) -> Result<(), Fail> {
     Ok(())
 }
 
-/// Names, each with the rank that is filed under it: a name and one above it, and two others that come and go.
+/// Names, each with the rank that is filed under it: a name and one above it, and two others that
+/// come and go.
 const SUFFIXES: &[(&str, u64)] = &[("example.com", 7), ("com", 2)];
 
-/// Names, the rank from which on one is looked for, and the least one filed at the name or above it.
+/// Names, the rank from which on one is looked for, and the least one filed at the name or above
+/// it.
 const ABOVE: &[(&str, u64, Option<u64>)] = &[
     ("a.example.com", 0, Some(2)),
     ("a.example.com", 3, Some(7)),

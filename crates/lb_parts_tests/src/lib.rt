@@ -1,5 +1,6 @@
-//! The tests of the ten crates below lb_core, which call what is public there: in a crate of their own, so that each of the ten
-//! is proved once and not a second time with them. There is nothing else here.
+//! The tests of the ten crates below lb_core, which call what is public there: in a crate of their
+//! own, so that each of the ten is proved once and not a second time with them. There is nothing
+//! else here.
 #![tactic(auto)]
 
 #[cfg(test)]

@@ -112,8 +112,8 @@ fn over_of_fresh(clock: &mut Clock, queries: u32) -> Result<u32, AllocError> {
     Ok(over)
 }
 
-/// A million addresses in 250 seconds: those that are out leave room, and the test ends in time only if what is kept of them is
-/// given up.
+/// A million addresses in 250 seconds: those that are out leave room, and the test ends in time
+/// only if what is kept of them is given up.
 #[test]
 fn fresh_addresses_leave_little_behind(rt: HostRuntime) -> Result<(), Fail> {
     let mut clock = limiter(rt.alloc(), 1, 32, 128)?;

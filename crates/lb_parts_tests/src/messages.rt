@@ -55,8 +55,8 @@ fn keys(rt: HostRuntime) -> Result<(), Fail> {
     Ok(())
 }
 
-/// Whether so many octets, which are no more than a message may have, are copied into room that was taken before for the longest
-/// message, and keep no more room than they need.
+/// Whether so many octets, which are no more than a message may have, are copied into room that was
+/// taken before for the longest message, and keep no more room than they need.
 fn is_copied(alloc: Global, octets: Vec<u8>) -> Result<bool, AllocError> {
     let len = octets.len();
     if len > MAX_MESSAGE {

@@ -174,7 +174,8 @@ fn servers_and_pools_are_listed_by_number(rt: HostRuntime) -> Result<(), Fail> {
     held(0, are_by_number(rt.alloc(), &park)?)
 }
 
-/// Whether there is no server, and the default pool alone, with the policy that a pool has at first.
+/// Whether there is no server, and the default pool alone, with the policy that a pool has at
+/// first.
 fn is_new(alloc: Global, park: &Park) -> Result<bool, AllocError> {
     let servers = park.list(alloc).or_else(|_refused| park.list(alloc))?;
     let pools = park

@@ -12,8 +12,8 @@ fn ends_at(names: &Names, place: usize, name: &Name) -> bool {
         && names.get(place).is_some_and(|last| last.equals(name))
 }
 
-/// Whether a name comes to its place behind the others. Where it is refused memory, they have to be what they were, and it
-/// comes again.
+/// Whether a name comes to its place behind the others. Where it is refused memory, they have to be
+/// what they were, and it comes again.
 fn is_put(names: &mut Names, name: &Name) -> bool {
     let place = names.len();
     let is_taken = names.push(name).is_ok()

@@ -1,4 +1,5 @@
-//! Rules that are found by what they ask first, and sets within terms, by values worked out by hand.
+//! Rules that are found by what they ask first, and sets within terms, by values worked out by
+//! hand.
 
 use super::{Clock, Does, EXAMPLE, Ending, UNTOUCHED, Walk, action, gives, rule_of};
 use crate::rows::held;
@@ -29,7 +30,8 @@ type Line = (&'static [Op], Does);
 /// A query by a datagram: its name, its type and where it comes from.
 type Query = (&'static str, RecordType, &'static str);
 
-/// What a walk comes to: the rule that ends it, 0 where none does; how; how many rules it tests; and the limiters that count.
+/// What a walk comes to: the rule that ends it, 0 where none does; how; how many rules it tests;
+/// and the limiters that count.
 type Found = (u64, Ending, usize, &'static [Passed]);
 
 /// Walks the rules for a query at 1,500.
@@ -85,8 +87,8 @@ fn chain_of(alloc: Global, lines: &[Line]) -> Result<Clock, Fail> {
     Ok(clock)
 }
 
-/// 300 rules, of which each odd one refuses the names under x1.example, x3.example and so on by its number, and each even one
-/// drops those under example; and one that drops all.
+/// 300 rules, of which each odd one refuses the names under x1.example, x3.example and so on by its
+/// number, and each even one drops those under example; and one that drops all.
 fn long_chain(alloc: Global) -> Result<Clock, Fail> {
     let mut clock = Clock::new(alloc);
     for number in 1..=300 {
@@ -272,7 +274,8 @@ fn are_ends(clock: &Clock, ends: &[(u64, usize)]) -> Result<bool, Fail> {
     Ok(true)
 }
 
-/// Whether a chain takes an edit. Where it is refused memory, the walks have to end as before, and the edit comes again.
+/// Whether a chain takes an edit. Where it is refused memory, the walks have to end as before, and
+/// the edit comes again.
 fn is_edited(
     alloc: Global,
     clock: &mut Clock,
@@ -282,7 +285,8 @@ fn is_edited(
     Ok(takes(alloc, clock, edit)? || (are_ends(clock, before)? && takes(alloc, clock, edit)?))
 }
 
-/// With `rt try --test --fail-alloc N` a rule has no memory, which ends the test, or an edit is refused.
+/// With `rt try --test --fail-alloc N` a rule has no memory, which ends the test, or an edit is
+/// refused.
 #[test]
 fn a_refused_edit_changes_no_walk(rt: HostRuntime) -> Result<(), Fail> {
     let mut clock = Clock::new(rt.alloc());
