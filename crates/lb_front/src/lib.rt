@@ -25,6 +25,5 @@ pub use lb_doh::{
 };
 pub use paced::Paced;
 pub use serving::{
-    Bound, END_MILLISECONDS, FrontEnded, FrontParts, Room, front_runtime, run_front,
-    serve_connections, settings,
+    Bound, FrontEnded, FrontParts, Room, front_runtime, run_front, serve_connections, settings,
 };

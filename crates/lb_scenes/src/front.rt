@@ -15,8 +15,9 @@ pub(crate) fn tell<R: Wait, T: Taker>(
     console: &mut T,
     stage: &mut Stage<'_, R>,
     words: &Words<'_>,
+    line: &str,
 ) -> Result<(), Fault> {
-    match read_event_line(stage.alloc, words.line()) {
+    match read_event_line(stage.alloc, line) {
         Ok(event) => hand(console, stage, words, event),
         Err(_) => Err(words.bad()),
     }

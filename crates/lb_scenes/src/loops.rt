@@ -5,8 +5,7 @@ use crate::fault::Fault;
 use crate::playing::play_all;
 use crate::stage::{Sides, Stage};
 use lb_loops::{
-    Answering, ClockLoop, Connections, DatagramLoop, Outbox, Probes, Receiver, Sender, StreamLoop,
-    Taker,
+    ClockLoop, Connections, DatagramLoop, Outbox, Probes, Receiver, Sender, StreamLoop, Taker,
 };
 use lb_memory::{MemoryDatagrams, MemoryOutside, MemoryPosts, MemoryStreams};
 use std::sync::Wait;
@@ -81,14 +80,8 @@ fn streaming<'a, R: Wait, T: Taker>(
         fronts,
         outside,
     } = stage.sides()?;
-    let taker = next(handlers)?;
-    let answering = Answering {
-        fronts,
-        posts,
-        taker,
-        outside,
-    };
-    Ok(StreamLoop::made(stage.alloc, net, receiver, answering))
+    let handler = next(handlers)?;
+    Ok(StreamLoop::made(stage.alloc, net, receiver, fronts, posts, handler, outside))
 }
 
 /// Plays the lines with a loop of the clock beside the others.
@@ -122,12 +115,14 @@ fn clocking<'a, R: Wait, T: Taker>(
         fronts,
         outside,
     } = stage.sides()?;
-    let taker = next(handlers)?;
-    let answering = Answering {
+    let handler = next(handlers)?;
+    Ok(ClockLoop::made(
+        stage.alloc,
+        probing,
+        second,
         fronts,
         posts,
-        taker,
+        handler,
         outside,
-    };
-    Ok(ClockLoop::made(stage.alloc, probing, second, answering))
+    ))
 }

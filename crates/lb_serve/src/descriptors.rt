@@ -1,10 +1,7 @@
 //! How many descriptors the program may have, and for how many clients they suffice.
 
-use crate::desk::Plan;
 use lb_command::{Listener, Protocol};
-use lb_lines::MAX_CLIENTS;
 use lb_program::ServerPlace;
-use lb_servers::MAX_SERVERS;
 use libc;
 use libc::types::rlimit;
 
@@ -13,7 +10,7 @@ use libc::types::rlimit;
 const ENOUGH: u64 = 3_200;
 
 /// The most clients of a kind, however many descriptors there are.
-const MAX_OF_KIND: u64 = MAX_CLIENTS as u64;
+const MOST: u64 = 1_024;
 
 /// What the program has besides listeners, servers and their clients: its queues of events, what
 /// wakes its threads, standard input and output, clients of the console, and some to spare for
@@ -30,6 +27,9 @@ const OF_LOOP: u64 = 4;
 /// What the service of metrics takes: its listener, six of its runtime, eight clients, and one that
 /// is closed at once.
 const OF_METRICS: u64 = 16;
+
+/// How many servers there can be.
+const SERVERS: u64 = 256;
 
 /// The clients of a kind for which there is room in any case, if a line listens for them.
 const LEAST: u64 = 4;
@@ -54,17 +54,6 @@ pub(crate) struct Clients {
 }
 
 impl Clients {
-    /// As many as descriptors are left beside what a plan needs.
-    pub(crate) fn beside(plan: &Plan) -> Clients {
-        Clients::under(
-            limit(),
-            plan.setup.listeners(),
-            plan.servers.as_slice(),
-            plan.switches.loops,
-            plan.switches.metrics.is_some(),
-        )
-    }
-
     /// As many as descriptors are left of this limit for each kind that is listened for, once the
     /// listeners, the loops of datagrams, the service of metrics and these servers have theirs;
     /// 1,024 at most.
@@ -82,9 +71,9 @@ impl Clients {
                 let limit = limit.saturating_sub(of_metrics(has_metrics));
                 left_of(limit, lines, servers, loops) / kinds.max(1)
             }
-            None => MAX_OF_KIND,
+            None => MOST,
         };
-        let each = each.clamp(LEAST, MAX_OF_KIND);
+        let each = each.clamp(LEAST, MOST);
         Clients {
             streams: if listens(lines, Protocol::Tcp) {
                 each
@@ -104,7 +93,7 @@ impl Clients {
     /// How many clients of streams the sockets take in at a time. If that is no less than the loop
     /// of streams takes, the sockets set no bound, as the loop turns further clients away.
     pub(crate) fn room(self) -> usize {
-        if self.streams < MAX_OF_KIND {
+        if self.streams < MOST {
             self.streams as usize
         } else {
             usize::MAX
@@ -121,7 +110,7 @@ pub(crate) fn wanted(
     has_metrics: bool,
 ) -> u64 {
     let further = u64::from(loops.saturating_sub(1))
-        .saturating_mul(MAX_SERVERS as u64)
+        .saturating_mul(SERVERS)
         .saturating_add(of_further(lines, loops))
         .saturating_add(of_metrics(has_metrics));
     servers

@@ -6,7 +6,8 @@ ghost use Rattle.lb_streams.specs.Links.{Net};
 ghost use Rattle.lb_streams.specs.Turn.{Sweeps};
 
 use crate::links::Links;
-use lb_lines::{MAX_CONNECTIONS, Roster, Streams};
+use lb_connections::PLACES;
+use lb_lines::{Roster, Streams};
 
 impl<S: Streams> Links<S> {
     /// A query of a connection was answered or sent on.
@@ -52,7 +53,7 @@ impl<S: Streams> Links<S> {
         if !self.table.is_behind(roster) {
             return;
         }
-        for place in 0..MAX_CONNECTIONS {
+        for place in 0..PLACES {
             self.follow_one(roster, now, place);
         }
     }
@@ -82,7 +83,7 @@ impl<S: Streams> Links<S> {
         if !self.table.is_due(now) {
             return;
         }
-        for place in 0..MAX_CONNECTIONS {
+        for place in 0..PLACES {
             self.sweep_one(now, place);
         }
     }

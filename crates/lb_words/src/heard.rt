@@ -5,7 +5,7 @@ ghost use Rattle.lb_words.specs.Heard.{IsHeard, IsListed, IsSaid};
 
 use crate::lines::Lines;
 use crate::metrics::metrics;
-use crate::recent::{Wanted, Wording, fault, recent};
+use crate::recent::{Wanted, fault, recent};
 use crate::seen::Beside;
 use crate::setup::setup;
 use crate::told::{Told, ended, look};
@@ -190,22 +190,9 @@ impl Words {
             Ok(wanted) => wanted,
             Err(fault) => return Ok(Heard::Fault(fault)),
         };
-        Ok(Heard::Lines(self.listed(rt, &wanted, &told)?))
-    }
-
-    /// The last queries that are asked for.
-    fn listed<R: Wait + Clock>(
-        &self,
-        rt: &R,
-        wanted: &Wanted,
-        told: &Told,
-    ) -> Result<String, AllocError> {
-        let wording = Wording {
-            told,
-            listeners: self.listeners.as_slice(),
-            now: self.ran(rt),
-        };
-        recent(rt, self.alloc, &self.rings, wanted, wording)
+        let listeners = self.listeners.as_slice();
+        let now = self.ran(rt);
+        Ok(Heard::Lines(recent(rt, alloc, &self.rings, &wanted, &told, listeners, now)?))
     }
 
     /// What `top` says by what stands from a place on.
@@ -259,7 +246,18 @@ impl Words {
             )?,
             Word::Metrics => self.counts(rt, desk)?.ended()?,
             Word::Setup => setup(rt, alloc, desk, listeners, self.log)?,
-            Word::Recent => self.listed(rt, &Wanted::usual(), &look(rt, alloc, desk)?)?,
+            Word::Recent => {
+                let now = self.ran(rt);
+                recent(
+                    rt,
+                    alloc,
+                    &self.rings,
+                    &Wanted::usual(),
+                    &look(rt, alloc, desk)?,
+                    listeners,
+                    now,
+                )?
+            }
             Word::Top => return Ok(Heard::Fault(fault(end, FaultKind::Missing))),
         }))
     }

@@ -1,0 +1,13 @@
+use denote.Param.Send.{sendable}
+use Rattle.std.proofs.Crossing.{crosses}
+use Rattle.lb_serve.proofs.desk.run.Goals as goal
+
+pub run_beside-requires-send-T : goal.run_beside-requires-send-T
+run_beside-requires-send-T g c κs within =
+    let caller_send = c.callers_cross_threads.ensures in
+    search (caller_send, sendable, crosses) depth 40 fits 10000
+
+pub run_beside-requires-send-G : goal.run_beside-requires-send-G
+run_beside-requires-send-G g c κs within =
+    let page_send = c.pages_cross_threads.ensures in
+    search (page_send, sendable, crosses) depth 40 fits 10000
