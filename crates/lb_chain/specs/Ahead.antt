@@ -5,10 +5,12 @@ use Rattle.lb_suffix.specs.Index.{Pair as NamePair}
 use Rattle.lb_masks.specs.Index.{Pair as MaskPair}
 use Rattle.lb_wire.specs.declared.addr.Addr.{Addr}
 use Rattle.lb_wire.specs.declared.query.QueryView.{QueryView}
+use Rattle.lb_terms.specs.Selector.{Selector}
 use Rattle.lb_chain.specs.declared.offers.Ahead.{Ahead}
 use Rattle.lb_chain.specs.declared.offers.Offers.{Offers}
 use Rattle.lb_chain.specs.FirstAsked.{AreRising}
 use Rattle.lb_chain.specs.Filing.{IsFiledFor}
+use Rattle.lb_chain.specs.Offers.{AreOffers}
 
 -- the rank comes behind those before the place
 abbrev pub IsBehind : List ℕ → ℕ → ℕ → Type 0
@@ -34,6 +36,16 @@ IsAhead offers view addr ahead = IsAheadOf offers.names offers.masks offers.loos
 -- the rank is loose, or an index finds it for the query
 abbrev pub IsOffered : List NamePair → List MaskPair → List ℕ → QueryView → Addr → ℕ → Type 0
 IsOffered names masks loose view addr rank = Contains loose rank ⊎ IsFiledFor names masks view addr rank
+
+-- what an index finds next in a walk of some rules: the least rank from its place on of a rule whose
+-- first set has the name or the address of the query
+abbrev pub IsNextIndexed : Offers → QueryView → Addr → Ahead → Option ℕ → Type 0
+IsNextIndexed offers view addr ahead found = (terms : List Selector) → AreOffers offers terms → IsAhead offers view addr ahead → IsLeastBehind (IsFiledFor offers.names offers.masks view addr) offers.ranks.items ahead.at found
+
+-- what comes next in a walk of some rules: the least rank from its place on of a rule that asks for
+-- no set first, or whose first set has the name or the address of the query
+abbrev pub IsNextRank : Offers → QueryView → Addr → Ahead → Option ℕ → Type 0
+IsNextRank offers view addr ahead found = (terms : List Selector) → AreOffers offers terms → IsAhead offers view addr ahead → IsLeastBehind (IsOffered offers.names offers.masks offers.loose view addr) offers.ranks.items ahead.at found
 
 -- ranks without their first, where this is it
 abbrev pub without_first : ℕ → List ℕ → List ℕ

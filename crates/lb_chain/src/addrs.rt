@@ -6,7 +6,7 @@ use lb_wire::Addr;
 use std::marker::Model;
 
 /// The most addresses of a spoofed answer.
-const MAX_ADDRS: usize = 8;
+pub const MAX_ADDRS: usize = 8;
 
 /// 1 to 8 addresses, in order. A contract sees them as the list.
 #[derive(Clone, Copy, Debug)]

@@ -19,7 +19,7 @@ use crate::numbered::Numbered;
 use crate::offers::Offers;
 use crate::places::Places;
 use crate::rule::Rule;
-use crate::walk::walk_rules;
+use crate::walk::{Arrival, walk_rules};
 use crate::walked::Walked;
 use lb_limits::{
     passed_are_passes, put_is_there, recent_are_passes, recent_twice, reserving_keeps_matches,
@@ -231,7 +231,13 @@ impl Chain {
         ensures { walked.new ≡ walk_of self.now.rules view.now addr.now kind now }
     {
         let rules = self.rules.as_slice();
-        walk_rules(rules, &self.offers, view, addr, kind, now, walked);
+        let arrival = Arrival {
+            view,
+            addr,
+            kind,
+            moment: now,
+        };
+        walk_rules(rules, &self.offers, &arrival, walked);
     }
 
     /// Takes the memory for counting the passes of a walk of this chain for that address and moment. Where it is refused,

@@ -21,7 +21,7 @@ mod walk;
 mod walked;
 
 pub use action::Action;
-pub use addrs::Addrs;
+pub use addrs::{Addrs, MAX_ADDRS};
 pub use chain::Chain;
 pub use fault::ChainFault;
 pub use laws::{

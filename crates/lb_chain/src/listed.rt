@@ -7,7 +7,7 @@ ghost use Rattle.lb_chain.specs.Seen.{seen_rule, seen_rules};
 
 use crate::numbered::Numbered;
 use crate::rule::Rule;
-use lb_limits::{Limiter, Pass};
+use lb_limits::{Limiter, Pass, WINDOW};
 use lb_wire::RuleId;
 use std::alloc::{AllocError, Global};
 use std::marker::Model;
@@ -34,9 +34,6 @@ impl Model for RulePasses {
 
     ghost view = { λ p. p.items.items };
 }
-
-/// How long a pass counts, in milliseconds.
-const WINDOW: u64 = 1000;
 
 impl RulePass {
     /// Whether it counts at a moment.

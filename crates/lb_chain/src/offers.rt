@@ -7,7 +7,7 @@ ghost use Rattle.lb_terms.specs.Selector.{Selector};
 ghost use Rattle.lb_chain.specs.FirstAsked.{AreRising};
 ghost use Rattle.lb_chain.specs.Offers.{AreOffers, IsNextOffered, terms_of};
 ghost use Rattle.lb_chain.specs.Filing.{AreEven, IsFree, IsFiledFor};
-ghost use Rattle.lb_chain.specs.Ahead.{IsAhead, IsLeastBehind, IsOffered, is_rank, without_first};
+ghost use Rattle.lb_chain.specs.Ahead.{IsAhead, IsNextIndexed, IsNextRank, is_rank, without_first};
 ghost use Rattle.lb_wire.specs.declared.addr.Addr.{Addr as AddrValue};
 ghost use Rattle.lb_wire.specs.declared.query.QueryView.{QueryView as ViewValue};
 
@@ -226,7 +226,7 @@ impl Offers {
     ) -> Option<u64>
         requires at { ahead.old.at < length self.now.ranks.items }
         requires here { slice_index self.now.ranks.items ahead.old.at ≡ here }
-        ensures found { (terms : List Selector) → AreOffers self.now terms → IsAhead self.now view.now addr.now ahead.old → IsLeastBehind (IsFiledFor self.now.names self.now.masks view.now addr.now) self.now.ranks.items ahead.old.at result }
+        ensures found { IsNextIndexed self.now view.now addr.now ahead.old result }
         ensures ahead { (terms : List Selector) → AreOffers self.now terms → IsAhead self.now view.now addr.now ahead.old → IsAhead self.now view.now addr.now ahead.new }
         ensures at { ahead.new.at ≡ ahead.old.at }
     {
@@ -240,8 +240,8 @@ impl Offers {
         ahead.indexed
     }
 
-    /// The next rank of a walk: that of its place where this is loose, and else the lesser of the next loose one and of the next one
-    /// that an index finds.
+    /// The next rank of a walk: that of its place if this is loose. Otherwise it is the lesser of
+    /// the next loose one and of the next one that an index finds.
     fn next_rank(
         &self,
         ahead: &mut Ahead<'_>,
@@ -251,7 +251,7 @@ impl Offers {
     ) -> Option<u64>
         requires at { ahead.old.at < length self.now.ranks.items }
         requires here { slice_index self.now.ranks.items ahead.old.at ≡ here }
-        ensures found { (terms : List Selector) → AreOffers self.now terms → IsAhead self.now view.now addr.now ahead.old → IsLeastBehind (IsOffered self.now.names self.now.masks self.now.loose view.now addr.now) self.now.ranks.items ahead.old.at result }
+        ensures found { IsNextRank self.now view.now addr.now ahead.old result }
         ensures ahead { (terms : List Selector) → AreOffers self.now terms → IsAhead self.now view.now addr.now ahead.old → IsAhead self.now view.now addr.now ahead.new }
         ensures at { ahead.new.at ≡ ahead.old.at }
     {

@@ -18,6 +18,16 @@ use crate::walked::{Passed, PassedList, Verdict, Walked};
 use lb_terms::{CheckedTerm, Term, holds};
 use lb_wire::{Addr, Class, Kind, QueryView, RecordType, RuleId, fits_type};
 
+/// A query as the rules see it: its parts, the address that it came from, its transport, and the
+/// moment in milliseconds.
+#[derive(Debug, Drop)]
+pub(crate) struct Arrival<'a> {
+    pub(crate) view: &'a QueryView,
+    pub(crate) addr: &'a Addr,
+    pub(crate) kind: Kind,
+    pub(crate) moment: u64,
+}
+
 /// Whether one of the addresses answers a question of this type.
 fn one_fits(qtype: RecordType, addrs: &[Addr]) -> bool
     ensures { result ≡ list_any (fits_type_of qtype.0) addrs.now }
@@ -34,9 +44,9 @@ fn answers(view: &QueryView, addrs: &[Addr]) -> bool
 
 /// Whether an action ends the walk for a query of this transport. If so, its verdict is written
 /// where it is to stand, as a verdict has many octets; else nothing is written.
-fn ends(action: &Action, view: &QueryView, kind: Kind, verdict: &mut Verdict) -> bool
-    ensures ended { IsTrue result → ending_of_action action.now view.now kind ≡ Some verdict.new }
-    ensures open { result ≡ false → ending_of_action action.now view.now kind ≡ None }
+fn ends(action: &Action, arrival: &Arrival<'_>, verdict: &mut Verdict) -> bool
+    ensures ended { IsTrue result → ending_of_action action.now arrival.now.view.now arrival.now.kind ≡ Some verdict.new }
+    ensures open { result ≡ false → ending_of_action action.now arrival.now.view.now arrival.now.kind ≡ None }
     ensures unwritten { result ≡ false → verdict.new ≡ verdict.old }
 {
     match action {
@@ -44,12 +54,12 @@ fn ends(action: &Action, view: &QueryView, kind: Kind, verdict: &mut Verdict) ->
         Action::Drop => *verdict = Verdict::Drop,
         Action::Rcode(rcode) => *verdict = Verdict::Rcode(*rcode),
         Action::Pool(pool) => *verdict = Verdict::Pool(*pool),
-        Action::Tc => match kind {
+        Action::Tc => match arrival.kind {
             Kind::Datagram => *verdict = Verdict::Tc,
             Kind::Stream => return false,
         },
         Action::Spoof(addrs) => {
-            if !answers(view, addrs.as_slice()) {
+            if !answers(arrival.view, addrs.as_slice()) {
                 return false;
             }
             *verdict = Verdict::Spoof(*addrs);
@@ -102,20 +112,26 @@ fn is_set(term: &CheckedTerm) -> bool
     }
 }
 
-/// Whether a rule holds of a query, where it may hold by what it asks first. Those of its limiters that count the query go
-/// behind the passes.
-fn test_rule(n: &Numbered, view: &QueryView, addr: &Addr, now: u64, passes: &mut PassedList) -> bool
-    requires may { may_hold n.now.rule.term view.now addr.now ≡ true }
+/// Whether a rule holds of a query, if it may hold by what it asks first. Those of its limiters
+/// that count the query are added to the passes.
+fn test_rule(n: &Numbered, arrival: &Arrival<'_>, passes: &mut PassedList) -> bool
+    requires may { may_hold n.now.rule.term arrival.now.view.now arrival.now.addr.now ≡ true }
     requires limiters { length n.now.limits ≡ limiters_of n.now.rule.term }
-    requires moments { All (λ l. l.moment ≤ now) n.now.limits }
+    requires moments { All (λ l. l.moment ≤ arrival.now.moment) n.now.limits }
     requires room { length passes.old + length n.now.limits ≤ 16 }
-    ensures truth { result ≡ truth_of n.now view.now addr.now now }
-    ensures passes { passes.new ≡ passes.old ++ passes_of n.now view.now addr.now now }
+    ensures truth { result ≡ truth_of n.now arrival.now.view.now arrival.now.addr.now arrival.now.moment }
+    ensures passes { passes.new ≡ passes.old ++ passes_of n.now arrival.now.view.now arrival.now.addr.now arrival.now.moment }
 {
     if is_set(&n.rule.term) {
         return true;
     }
-    let tested = holds(&n.rule.term, view, addr, n.limits.as_slice(), now);
+    let tested = holds(
+        &n.rule.term,
+        arrival.view,
+        arrival.addr,
+        n.limits.as_slice(),
+        arrival.moment,
+    );
     add_passes(passes, n.id, tested.passes.as_slice());
     tested.truth
 }
@@ -125,25 +141,22 @@ fn test_rule(n: &Numbered, view: &QueryView, addr: &Addr, now: u64, passes: &mut
 pub(crate) fn walk_rules(
     rules: &[Numbered],
     offers: &Offers,
-    view: &QueryView,
-    addr: &Addr,
-    kind: Kind,
-    now: u64,
+    arrival: &Arrival<'_>,
     walked: &mut Walked,
 )
     requires begun { walked.old ≡ no_rule }
     requires limiters { All (λ n. length n.limits ≡ limiters_of n.rule.term) rules.now }
     requires few { limiters_in rules.now ≤ 16 }
-    requires moments { All (λ n. All (λ l. l.moment ≤ now) n.limits) rules.now }
+    requires moments { All (λ n. All (λ l. l.moment ≤ arrival.now.moment) n.limits) rules.now }
     requires offers { AreOffers offers.now (terms_of rules.now) }
-    ensures { walked.new ≡ walk_of rules.now view.now addr.now kind now }
+    ensures { walked.new ≡ walk_of rules.now arrival.now.view.now arrival.now.addr.now arrival.now.kind arrival.now.moment }
 {
     let mut ahead = offers.ahead();
-    'rules: while let Some(place) = offers.next(&mut ahead, view, addr) {
+    'rules: while let Some(place) = offers.next(&mut ahead, arrival.view, arrival.addr) {
         let n = &rules[place];
         walked.tests += 1;
-        if test_rule(n, view, addr, now, &mut walked.passes) {
-            if ends(&n.rule.action, view, kind, &mut walked.verdict) {
+        if test_rule(n, arrival, &mut walked.passes) {
+            if ends(&n.rule.action, arrival, &mut walked.verdict) {
                 walked.rule = Some(n.id);
                 return;
             }

@@ -10,8 +10,8 @@ use Rattle.lb_clock.specs.World.{World}
 use Rattle.lb_clock.specs.declared.turn.End.{End}
 use Rattle.lb_clock.specs.declared.turn.End.TheVariants as ends
 use Rattle.lb_clock.proofs.Acting.{device_on, stops_on, tries_on, turns_none, turns_on}
-use Rattle.lb_core.specs.declared.event.Event.{Event}
-use Rattle.lb_core.specs.declared.event.Event.TheVariants.{HealthResult, Tick}
+use Rattle.lb_step.specs.declared.event.Event.{Event}
+use Rattle.lb_step.specs.declared.event.Event.TheVariants.{HealthResult, Tick}
 use Rattle.lb_lines.specs.Counts.{Fails, Grows}
 use Rattle.lb_lines.specs.Letter.{IsOutcome, outcome_letter}
 use Rattle.lb_lines.specs.Lines.{answered_as, events_in, is_by_device}

@@ -69,6 +69,10 @@ probes_at roster now i p q r before mid after sent more begins ends same le =
       timely (inl full) = inl full
       timely (inr here) = inr (λ _. here)
 
+-- the same of the server at this place
+pub probes_here : (roster : List Listed) (now i j : ℕ) (p q : List Watched) (before after sent more : ℕ) → j ≡ i → ProbesAt roster now j p q before after sent more → ProbesAt roster now i p q before after sent more
+probes_here roster now i j p q before after sent more same probes = subst (λ (k : ℕ). ProbesAt roster now k p q before after sent more) same probes
+
 -- none was sent to it
 pub passes_at : (roster : List Listed) (now i : ℕ) (p : List Watched) (n m : ℕ) → (64 ≤ m) ⊎ Here (IsAsked roster now) i p → ProbesAt roster now i p p n n m m
 passes_at roster now i p n m asked = (others_none p i, omega arith, omega arith, inr (λ here. here), asked)

@@ -5,7 +5,7 @@ use Rattle.lb_clock.specs.declared.turn.End.{End}
 use Rattle.lb_clock.specs.declared.turn.End.TheVariants as ends
 use Rattle.lb_clock.specs.declared.turn.Step.{Step}
 use Rattle.lb_clock.specs.declared.turn.Step.TheVariants as steps
-use Rattle.lb_core.specs.declared.event.Event.TheVariants.{HealthResult, Tick}
+use Rattle.lb_step.specs.declared.event.Event.TheVariants.{HealthResult, Tick}
 use Rattle.lb_lines.specs.Lines.{is_by_device}
 use Rattle.lb_lines.specs.Roster.{Rostered}
 use Rattle.lb_lines.specs.Stamps.{Stamp}

@@ -1,6 +1,6 @@
 -- The lines of a turn of the clock.
 use Rattle.std.specs.Prelude.{◌≡◌, ℕ, Bool, true, false, List, [], ◌∷◌, Option, Some, None, flat_map, option_map, option_to_list, get_or, slice_get, if◌then◌else◌, ◌==◌}
-use Rattle.lb_core.specs.declared.answer.Answer.TheVariants as answers
+use Rattle.lb_step.specs.declared.answer.Answer.TheVariants as answers
 use Rattle.lb_health.specs.Probes.{probe_octets}
 use Rattle.lb_lines.specs.Letter.{IsOutcome, Letter, outcome_letter}
 use Rattle.lb_lines.specs.Roster.{end_of}

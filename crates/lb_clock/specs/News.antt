@@ -2,8 +2,8 @@
 use Rattle.std.specs.Prelude.{ℕ}
 use Rattle.lb_clock.specs.declared.news.News.{News}
 use Rattle.lb_clock.specs.declared.news.News.TheVariants as news
-use Rattle.lb_core.specs.declared.event.Event.{Event}
-use Rattle.lb_core.specs.declared.event.Event.TheVariants.{HealthResult, Tick}
+use Rattle.lb_step.specs.declared.event.Event.{Event}
+use Rattle.lb_step.specs.declared.event.Event.TheVariants.{HealthResult, Tick}
 use Rattle.lb_lines.specs.declared.report.Source.{Source}
 use Rattle.lb_lines.specs.declared.report.Source.TheVariants as sources
 

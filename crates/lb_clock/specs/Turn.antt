@@ -5,8 +5,8 @@ use Rattle.lb_clock.specs.Lines.{AreLines, Comes, datagrams, is_quiet, probes_in
 use Rattle.lb_clock.specs.World.{World}
 use Rattle.lb_clock.specs.declared.turn.End.{End}
 use Rattle.lb_clock.specs.declared.turn.End.TheVariants as ends
-use Rattle.lb_core.specs.declared.event.Event.{Event}
-use Rattle.lb_core.specs.declared.event.Event.TheVariants.{Tick}
+use Rattle.lb_step.specs.declared.event.Event.{Event}
+use Rattle.lb_step.specs.declared.event.Event.TheVariants.{Tick}
 use Rattle.lb_lines.specs.Counts.{Fails, Grows}
 use Rattle.lb_lines.specs.Letter.{IsOutcome, Letter, outcome_letter}
 use Rattle.lb_lines.specs.Lines.{answered_as, events_in, is_by_device, pairs}
@@ -19,7 +19,8 @@ use Rattle.lb_lines.specs.declared.report.Outcome.{Outcome}
 use Rattle.lb_lines.specs.declared.report.Sending.{Sending}
 use Rattle.lb_lines.specs.declared.report.Source.TheVariants as sources
 use Rattle.lb_lines.specs.declared.roster.Listed.{Listed}
-use Rattle.lb_probes.specs.Probes.{Each, Here, IsAsked, IsTimely, later, second}
+use Rattle.lb_probes.specs.Probes.{Each, Follows, Here, IsAsked, IsDue, IsTimely, later, second}
+use Rattle.lb_probes.specs.declared.probes.Due.{Due}
 use Rattle.lb_probes.specs.declared.watched.Watched.{Watched}
 
 -- a count of failures: one more or several where something failed, and the same else
@@ -77,6 +78,11 @@ pub record Goes (on : Setting) (reads : ℕ) (old new : World) (before after : L
   pub stops : Stops acts end
   pub few : tries_in acts ≤ reads
 
+-- steps without a read, for a server whose next probe is due at the moment at which the turn began,
+-- by whatever roster
+abbrev pub GoesWhenDue : ℕ → Due → World → World → List Line → List Line → Option DeviceFault → Option DeviceFault → Option End → Type 0
+GoesWhenDue start due old new before after device later end = (roster : Rostered) → IsDue roster.listed start due.watched due.place → Goes (setting roster start) 0 old new before after device later end
+
 -- nothing more was due at the end, or as many events were told as may be
 abbrev pub Rests : List Line → Type 0
 Rests told = (length (events_in told) ≡ 64) ⊎ ((more : List Line) × (now : ℕ) × (outcome : Outcome) × (sending : Sending) × (told ≡ more ++ lines.Event sources.Clock (Tick now) outcome sending ∷ []) × (is_quiet outcome ≡ true))
@@ -85,6 +91,11 @@ Rests told = (length (events_in told) ≡ 64) ⊎ ((more : List Line) × (now : 
 abbrev pub held_by : Option End → Bool
 held_by (Some ends.Held) = true
 held_by _ = false
+
+-- a turn begins at this moment, which was said with a word, and the servers that are probed become
+-- those of the roster
+abbrev pub BeginsTurn : Rostered → ℕ → World → World → Type 0
+BeginsTurn roster now old new = (word : ℕ) × (new ≡ record old { probes = new.probes; said = old.said ++ (now, word) ∷ [] }) × Follows roster now old.probes new.probes
 
 -- how a turn begins: with a moment, at which the servers that are probed become those of the roster, or there is none to be had
 abbrev pub Begins : ℕ → List Act → Type 0
@@ -107,6 +118,10 @@ BeginsAt now i p q = Others i p q × ((w : Watched) × (slice_get q i ≡ Some w
 abbrev pub ProbesAt : List Listed → ℕ → ℕ → List Watched → List Watched → ℕ → ℕ → ℕ → ℕ → Type 0
 ProbesAt roster now i p q before after sent more =
     Others i p q × (before ≤ after) × (sent ≤ more) × ((64 ≤ after) ⊎ (Here (IsTimely now) i p → Here (IsTimely now) i q)) × ((64 ≤ more) ⊎ Here (IsAsked roster now) i q)
+
+-- the same for a server whose next probe is due, by whatever roster
+abbrev pub ProbesDueAt : ℕ → ℕ → List Watched → List Watched → ℕ → ℕ → ℕ → ℕ → Type 0
+ProbesDueAt now i p q before after sent more = (roster : List Listed) → ProbesAt roster now i p q before after sent more
 
 -- Steps that are a whole turn. It ends before it rests only where the gate held an event, and where there was no moment to be had; at rest,
 -- unless as many events or probes were told as may be, no probe is over and none is due at the moment at which it began.

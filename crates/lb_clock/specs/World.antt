@@ -1,8 +1,8 @@
 -- What the loop of the clock holds.
 use Rattle.std.specs.Prelude.{◌≡◌, ◌++◌, ◌∷◌, [], ℕ, Bool, List, Option, Some, None, map}
 use Rattle.std.specs.List.{range_with_len}
-use Rattle.lb_core.specs.declared.answer.Answer.{Answer}
-use Rattle.lb_core.specs.declared.event.Event.{Event}
+use Rattle.lb_step.specs.declared.answer.Answer.{Answer}
+use Rattle.lb_step.specs.declared.event.Event.{Event}
 use Rattle.lb_lines.specs.Stamps.{Stamp}
 use Rattle.lb_lines.specs.declared.traffic.Datagram.{Datagram}
 use Rattle.lb_lines.specs.declared.traffic.Front.{Front}

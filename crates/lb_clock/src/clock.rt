@@ -6,8 +6,10 @@ ghost use Rattle.lb_clock.specs.World.{SentAgain, listened};
 ghost use Rattle.lb_probes.specs.Probes.{Each, IsQuietFor};
 
 use crate::sending::{job_again, unsent};
-use crate::tally::MOST;
-use lb_lines::{Datagrams, Front, Line, Outside, Posts, Roster, Taker, WaitFailed};
+use lb_lines::{
+    Answering, Datagrams, Front, Line, MAX_EVENTS_OF_TURN, Outside, Posts, Roster, Taker,
+    WaitFailed,
+};
 use lb_outbox::{Job, Sender};
 use lb_probes::Probes;
 use std::alloc::Global;
@@ -44,26 +46,46 @@ impl<S: Datagrams, P: Posts, T: Taker, O: Outside> Model for ClockLoop<S, P, T, 
 
     ghost coded = { Prim.hlevel (codes, contract.the_row.coded) };
 
-    ghost view = { λ c. record { probes = c.probes; given = S.given c.sockets; taken = S.taken c.sockets; there = listened (S.listens c.sockets); failures = S.failures c.sockets; outbox = c.sender; fronts = c.fronts.items; handed = P.handed c.posts; answered = T.answered c.taker; pairs = T.pairs c.taker; said = O.said c.outside; outside = O.failures c.outside; reads = S.reads c.sockets } };
+    ghost view = { λ c. record {
+      probes = c.probes;
+      given = S.given c.sockets;
+      taken = S.taken c.sockets;
+      there = listened (S.listens c.sockets);
+      failures = S.failures c.sockets;
+      outbox = c.sender;
+      fronts = c.fronts.items;
+      handed = P.handed c.posts;
+      answered = T.answered c.taker;
+      pairs = T.pairs c.taker;
+      said = O.said c.outside;
+      outside = O.failures c.outside;
+      reads = S.reads c.sockets;
+    } };
 }
 
 impl<S: Datagrams, P: Posts, T: Taker, O: Outside> ClockLoop<S, P, T, O> {
-    /// A loop that had no turn, with sockets and the servers that it probes. It takes no memory.
+    /// A loop that had no turn, with sockets and the servers that it probes, its sender, and what it
+    /// answers clients with. It takes no memory.
     pub fn made(
         alloc: Global,
         probing: (S, Probes),
         sender: Sender,
-        fronts: Vec<Front>,
-        posts: P,
-        taker: T,
-        outside: O,
+        answering: Answering<P, T, O>,
     ) -> ClockLoop<S, P, T, O>
-        ensures sockets { (result.given ≡ S.given probing.0) × (result.taken ≡ S.taken probing.0) × (result.there ≡ listened (S.listens probing.0)) × (result.failures ≡ S.failures probing.0) × (result.reads ≡ S.reads probing.0) }
+        ensures sockets { (result.given ≡ S.given probing.0) × (result.taken ≡ S.taken probing.0) × (result.there ≡ listened (S.listens probing.0)) }
+        ensures counts { (result.failures ≡ S.failures probing.0) × (result.reads ≡ S.reads probing.0) }
         ensures probes { result.probes ≡ probing.1 }
-        ensures parts { (result.outbox ≡ sender) × (result.fronts ≡ fronts.items) × (result.handed ≡ P.handed posts) }
-        ensures others { (result.answered ≡ T.answered taker) × (result.pairs ≡ T.pairs taker) × (result.said ≡ O.said outside) × (result.outside ≡ O.failures outside) }
+        ensures parts { (result.outbox ≡ sender) × (result.fronts ≡ answering.fronts.items) × (result.handed ≡ P.handed answering.posts) }
+        ensures taker { (result.answered ≡ T.answered answering.taker) × (result.pairs ≡ T.pairs answering.taker) }
+        ensures outside { (result.said ≡ O.said answering.outside) × (result.outside ≡ O.failures answering.outside) }
     {
         let (sockets, probes) = probing;
+        let Answering {
+            fronts,
+            posts,
+            taker,
+            outside,
+        } = answering;
         ClockLoop {
             alloc,
             probes,
@@ -112,7 +134,7 @@ impl<S: Datagrams, P: Posts, T: Taker, O: Outside> ClockLoop<S, P, T, O> {
     pub fn has_room<R: Wait>(&mut self, rt: &R) -> bool
         ensures same { self.new ≡ self.old }
     {
-        self.sender.has_room(rt, MOST)
+        self.sender.has_room(rt, MAX_EVENTS_OF_TURN)
     }
 
     /// Waits until a socket has a datagram, or somebody wakes it, or so many milliseconds have

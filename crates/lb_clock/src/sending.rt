@@ -94,7 +94,8 @@ fn send_job<R: Wait>(
 ) -> Sending
     ensures comes { (there : Bool) → ComesBy (Some ways.Outbox) there result }
     ensures sent { outbox.new ≡ record outbox.old { sent = outbox.old.sent ++ job_in (Some (Client origin, bytes.now)) result } }
-    ensures apart { ((roster : List Listed) → packet_in roster (Some (Client origin, bytes.now)) result ≡ []) × (post_in (Some (Client origin, bytes.now)) result ≡ []) × (is_by_device result ≡ false) }
+    ensures apart { ((roster : List Listed) → packet_in roster (Some (Client origin, bytes.now)) result ≡ []) × (post_in (Some (Client origin, bytes.now)) result ≡ []) }
+    ensures device { is_by_device result ≡ false }
 {
     let copy = match bytes.copy(alloc) {
         Ok(copy) => copy,
@@ -147,7 +148,8 @@ pub(crate) fn job_again(fronts: &[Front], unsent: Option<(Origin, Octets)>) -> O
 fn hand<P: Posts>(posts: &mut P, origin: Origin, bytes: &Octets) -> Sending
     ensures comes { (there : Bool) → ComesBy (Some ways.Post) there result }
     ensures handed { P.handed posts.new ≡ P.handed posts.old ++ post_in (Some (Client origin, bytes.now)) result }
-    ensures apart { ((roster : List Listed) → packet_in roster (Some (Client origin, bytes.now)) result ≡ []) × (job_in (Some (Client origin, bytes.now)) result ≡ []) × (is_by_device result ≡ false) }
+    ensures apart { ((roster : List Listed) → packet_in roster (Some (Client origin, bytes.now)) result ≡ []) × (job_in (Some (Client origin, bytes.now)) result ≡ []) }
+    ensures device { is_by_device result ≡ false }
 {
     match posts.hand(origin, bytes) {
         Ok(()) => Sending::Done(Way::Post),

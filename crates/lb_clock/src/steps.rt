@@ -9,16 +9,16 @@ ghost use Rattle.lb_lines.specs.Lines.{is_by_device};
 ghost use Rattle.lb_lines.specs.Moves.{Gave};
 ghost use Rattle.std.specs.declared.alloc.AllocError.{AllocError};
 ghost use Rattle.lb_lines.specs.declared.report.Line.TheVariants as lines;
-ghost use Rattle.lb_probes.specs.Probes.{Answers, Follows, Here, IsAsked, IsDue, IsOver, IsTimely, Unheard, begun, ended, place_of};
+ghost use Rattle.lb_probes.specs.Probes.{AnswersProbe, Follows, Here, IsAsked, IsDue, IsOver, IsTimely, Unheard, begun, ended};
 
 use crate::clock::ClockLoop;
 use crate::news::News;
 use crate::sending::send_probe;
 use lb_lines::{
-    Datagram, Datagrams, Gate, Line, Outcome, Outside, Place, Posts, Received, Rooms, Roster,
-    Sending, Taker, outcome_of,
+    Datagram, Datagrams, Gate, Line, Outcome, Outside, Posts, Received, Rooms, Roster, Sending,
+    Taker, outcome_of,
 };
-use lb_probes::{Answered, Waits, Watched};
+use lb_probes::{Answered, Due, Waits, Watched};
 use std::sync::Wait;
 
 /// An event that was handed to the desk: what came of it, and of its send.
@@ -58,7 +58,7 @@ impl<S: Datagrams, P: Posts, T: Taker, O: Outside> ClockLoop<S, P, T, O> {
 
     /// The server whose probe a datagram answers at this moment.
     pub(crate) fn hear(&self, datagram: &Datagram, now: u64) -> Option<Answered>
-        ensures some { IfSome result (λ a. (place_of datagram.now.socket self.now.probes.watched ≡ Some a.index) × (slice_get self.now.probes.watched a.index ≡ Some a.watched) × (a.watched.waits ≡ Some a.waits) × Answers now datagram.now a.watched) }
+        ensures some { IfSome result (AnswersProbe now datagram.now self.now.probes.watched) }
         ensures none { IfNone result (Unheard now datagram.now self.now.probes.watched) }
     {
         self.probes.answered(datagram, now)
@@ -72,9 +72,10 @@ impl<S: Datagrams, P: Posts, T: Taker, O: Outside> ClockLoop<S, P, T, O> {
         self.probes.over_at(index, now)
     }
 
-    /// The server at a place, and where it is, when its next probe is due at this moment.
-    pub(crate) fn due_at(&self, roster: &Roster, index: usize, now: u64) -> Option<(Watched, Place)>
-        ensures some { IfSome result (λ r. (slice_get self.now.probes.watched index ≡ Some r.0) × IsDue roster.now.listed now r.0 r.1) }
+    /// The server at a place, and where it is, if its next probe is due at this moment.
+    pub(crate) fn due_at(&self, roster: &Roster, index: usize, now: u64) -> Option<Due>
+        ensures some { IfSome result (λ due. (slice_get self.now.probes.watched due.index ≡ Some due.watched) × IsDue roster.now.listed now due.watched due.place) }
+        ensures at { IfSome result (λ due. due.index ≡ index) }
         ensures none { IfNone result (Here (IsAsked roster.now.listed now) index self.now.probes.watched) }
     {
         self.probes.due_at(roster, index, now)
@@ -88,32 +89,24 @@ impl<S: Datagrams, P: Posts, T: Taker, O: Outside> ClockLoop<S, P, T, O> {
         self.probes.end(index, watched);
     }
 
-    /// Sends a probe to a server, which has this moment, and its word as ID, in a turn that began
-    /// at that moment.
-    pub(crate) fn send_probe(
-        &mut self,
-        index: usize,
-        watched: Watched,
-        place: Place,
-        turn: u64,
-        stamp: (u64, u16),
-    ) -> Sending
-        requires there { slice_get self.old.probes.watched index ≡ Some watched }
+    /// Sends a probe to a server that was due, in a turn that began at the first moment. The probe
+    /// has the second moment, and its word as ID.
+    pub(crate) fn send_probe(&mut self, due: Due, turn: u64, stamp: (u64, u16)) -> Sending
+        requires there { slice_get self.old.probes.watched due.index ≡ Some due.watched }
         ensures comes { ProbeComes result }
-        ensures taken { self.new.taken ≡ self.old.taken ++ (if is_done result then probe_to watched.server stamp.1 place.at ∷ [] else []) }
+        ensures taken { self.new.taken ≡ self.old.taken ++ (if is_done result then probe_to due.watched.server stamp.1 due.place.at ∷ [] else []) }
         ensures failed { FailsBy (is_by_device result) self.old.failures self.new.failures }
-        ensures begun { self.new.probes ≡ begun self.old.probes index watched place turn (stamp.0, stamp.1) (is_done result) }
+        ensures begun { self.new.probes ≡ begun self.old.probes due.index due.watched due.place turn (stamp.0, stamp.1) (is_done result) }
         ensures same { self.new ≡ record self.old { probes = self.new.probes; taken = self.new.taken; failures = self.new.failures } }
     {
         let sending = send_probe(
             self.alloc,
             &mut self.sockets,
-            watched.server,
+            due.watched.server,
             stamp.1,
-            place.at,
+            due.place.at,
         );
-        self.probes
-            .begin(index, watched, place, turn, stamp, is_done(sending));
+        self.probes.begin(due, turn, stamp, is_done(sending));
         sending
     }
 

@@ -9,11 +9,8 @@ ghost use Rattle.lb_lines.specs.Ways.{sending_of};
 ghost use Rattle.lb_lines.specs.declared.report.DeviceFault.TheVariants as devices;
 
 use crate::turn::End;
-use lb_lines::{DeviceFault, Line, Report, fault_in};
+use lb_lines::{DeviceFault, Line, MAX_EVENTS_OF_TURN, Report, fault_in};
 use std::alloc::AllocError;
-
-/// The most events of a turn, the most probes, and the most reads.
-pub(crate) const MOST: usize = 64;
 
 /// The lines of a turn, how many of them are events and probes, and the first device fault.
 #[derive(Drop)]
@@ -34,7 +31,7 @@ impl Tally {
         requires blank { (lines.items ≡ []) × (vec_len lines ≡ 0) }
         ensures { IfOk result (λ t. (t.lines.items ≡ []) × (t.device ≡ None)) }
     {
-        lines.reserve(2 * MOST)?;
+        lines.reserve(2 * MAX_EVENTS_OF_TURN)?;
         Ok(Tally {
             lines,
             device: None,
@@ -49,7 +46,7 @@ impl Tally {
         ensures all { result ≡ true → self.now.events ≡ 64 }
         ensures room { result ≡ false → self.now.events < 64 }
     {
-        self.events == MOST
+        self.events == MAX_EVENTS_OF_TURN
     }
 
     /// Puts the line of an event behind the others.

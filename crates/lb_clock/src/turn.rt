@@ -1,24 +1,24 @@
 //! The turn of the clock.
 
-ghost use Rattle.std.specs.Prelude.{[], IfNone, IfOk, IfSome, None, OnErr, Some, slice_get, ◌++◌, ◌+◌, ◌<◌, ◌∷◌, ◌≡◌, ◌≤◌, ◌⊎◌, ℕ};
+ghost use Rattle.std.specs.Prelude.{[], IfNone, IfOk, IfSome, None, OnErr, Some, slice_get, ◌+◌, ◌<◌, ◌≡◌, ◌≤◌, ◌⊎◌};
 ghost use Rattle.lb_clock.specs.Acts.{Setting, end_of, setting};
 ghost use Rattle.lb_clock.specs.Lines.{is_quiet};
-ghost use Rattle.lb_clock.specs.Turn.{BeginsAt, EndsAt, Goes, ProbesAt, Rests, Steps, Turned};
+ghost use Rattle.lb_clock.specs.Turn.{BeginsAt, BeginsTurn, EndsAt, Goes, GoesWhenDue, ProbesDueAt, Rests, Steps, Turned};
 ghost use Rattle.lb_clock.specs.declared.turn.Step.TheVariants as steps;
 ghost use Rattle.lb_lines.specs.Counts.{Fails};
 ghost use Rattle.lb_lines.specs.Roster.{Rostered};
-ghost use Rattle.lb_probes.specs.Probes.{Each, Follows, IsAsked, IsDue, IsTimely};
+ghost use Rattle.lb_probes.specs.Probes.{Each, IsAsked, IsTimely};
 
 use crate::clock::ClockLoop;
 use crate::news::News;
 use crate::steps::line_of;
-use crate::tally::{MOST, Tally};
+use crate::tally::Tally;
 use lb_core::Answer;
 use lb_lines::{
-    Datagrams, DeviceFault, Gate, Line, Outcome, Outside, Place, Posts, Received, Report, Roster,
-    Taker,
+    Datagrams, DeviceFault, Gate, Line, MAX_EVENTS_OF_TURN, Outcome, Outside, Posts, Received,
+    Report, Roster, Taker,
 };
-use lb_probes::Watched;
+use lb_probes::Due;
 use std::alloc::AllocError;
 use std::sync::Wait;
 
@@ -109,7 +109,7 @@ impl<S: Datagrams, P: Posts, T: Taker, O: Outside> ClockLoop<S, P, T, O> {
     /// The moment at which the turn begins, if there is one. The servers that are probed become
     /// those of the roster.
     fn begin(&mut self, roster: &Roster) -> Option<u64>
-        ensures begins { IfSome result (λ now. (word : ℕ) × (self.new ≡ record self.old { probes = self.new.probes; said = self.old.said ++ (now, word) ∷ [] }) × Follows roster.now now self.old.probes self.new.probes) }
+        ensures begins { IfSome result (λ now. BeginsTurn roster.now now self.old self.new) }
         ensures blind { IfNone result ((self.new ≡ record self.old { outside = self.new.outside }) × Fails self.old.outside self.new.outside) }
     {
         let (now, _word) = self.ask()?;
@@ -121,7 +121,7 @@ impl<S: Datagrams, P: Posts, T: Taker, O: Outside> ClockLoop<S, P, T, O> {
     fn read_all<R: Wait, G: Gate>(&mut self, rt: &R, gate: &G, tally: &mut Tally) -> Option<End>
         ensures goes { (on : Setting) → Goes on 64 self.old self.new tally.old.lines.items tally.new.lines.items tally.old.device tally.new.device result }
     {
-        for _ in 0..MOST {
+        for _ in 0..MAX_EVENTS_OF_TURN {
             match self.read_one(rt, gate, tally) {
                 Step::More => {}
                 Step::Last => return None,
@@ -225,60 +225,53 @@ impl<S: Datagrams, P: Posts, T: Taker, O: Outside> ClockLoop<S, P, T, O> {
         ensures asked { result ≡ None → (64 ≤ tally.new.probes) ⊎ Each (IsAsked roster.now.listed begun) self.new.probes.watched }
     {
         for index in 0..self.probes.len() {
-            if let Some(end) = self.probe_one(rt, roster, gate, tally, begun, index) {
+            let Some(due) = self.due_at(roster, index, begun) else {
+                continue;
+            };
+            if let Some(end) = self.probe_one(rt, gate, tally, begun, due) {
                 return Some(end);
             }
         }
         None
     }
 
-    /// Sends the server at a place a probe, if one is due. If it could not be sent, the probe ends
-    /// at once.
+    /// Sends a server a probe, which is due, unless as many were sent as may be. If it could not be
+    /// sent, the probe ends at once.
     fn probe_one<R: Wait, G: Gate>(
         &mut self,
         rt: &R,
-        roster: &Roster,
         gate: &G,
         tally: &mut Tally,
         begun: u64,
-        index: usize,
+        due: Due,
     ) -> Option<End>
-        ensures goes { Goes (setting roster.now begun) 0 self.old self.new tally.old.lines.items tally.new.lines.items tally.old.device tally.new.device result }
-        ensures probed { result ≡ None → ProbesAt roster.now.listed begun index self.old.probes.watched self.new.probes.watched tally.old.events tally.new.events tally.old.probes tally.new.probes }
+        requires there { slice_get self.old.probes.watched due.index ≡ Some due.watched }
+        ensures goes { GoesWhenDue begun due self.old self.new tally.old.lines.items tally.new.lines.items tally.old.device tally.new.device result }
+        ensures probed { result ≡ None → ProbesDueAt begun due.index self.old.probes.watched self.new.probes.watched tally.old.events tally.new.events tally.old.probes tally.new.probes }
     {
-        let (watched, place) = self.due_at(roster, index, begun)?;
-        if tally.probes == MOST {
+        if tally.probes == MAX_EVENTS_OF_TURN {
             return None;
         }
-        if let Some(end) = self.begin_one(roster, tally, begun, index, watched, place) {
+        if let Some(end) = self.begin_one(tally, begun, due) {
             return Some(end);
         }
-        self.end_one(rt, gate, tally, begun, index)
+        self.end_one(rt, gate, tally, begun, due.index)
     }
 
-    /// Sends the server at a place a probe, which is due.
-    fn begin_one(
-        &mut self,
-        roster: &Roster,
-        tally: &mut Tally,
-        begun: u64,
-        index: usize,
-        watched: Watched,
-        place: Place,
-    ) -> Option<End>
-        requires there { slice_get self.old.probes.watched index ≡ Some watched }
-        requires due { IsDue roster.now.listed begun watched place }
+    /// Sends a server a probe, which is due.
+    fn begin_one(&mut self, tally: &mut Tally, begun: u64, due: Due) -> Option<End>
+        requires there { slice_get self.old.probes.watched due.index ≡ Some due.watched }
         requires room { tally.old.probes < 64 }
-        ensures goes { Goes (setting roster.now begun) 0 self.old self.new tally.old.lines.items tally.new.lines.items tally.old.device tally.new.device result }
-        ensures begun { result ≡ None → BeginsAt begun index self.old.probes.watched self.new.probes.watched }
+        ensures goes { GoesWhenDue begun due self.old self.new tally.old.lines.items tally.new.lines.items tally.old.device tally.new.device result }
+        ensures begun { result ≡ None → BeginsAt begun due.index self.old.probes.watched self.new.probes.watched }
         ensures counts { (tally.new.events ≡ tally.old.events) × (tally.old.probes ≤ tally.new.probes) }
     {
         let Some(stamp) = self.ask() else {
             tally.note(Some(DeviceFault::Outside));
             return Some(End::Blind);
         };
-        let sending = self.send_probe(index, watched, place, begun, stamp);
-        tally.add_probe(Line::Probe(watched.server, stamp.1, sending));
+        let sending = self.send_probe(due, begun, stamp);
+        tally.add_probe(Line::Probe(due.watched.server, stamp.1, sending));
         None
     }
 
@@ -288,7 +281,7 @@ impl<S: Datagrams, P: Posts, T: Taker, O: Outside> ClockLoop<S, P, T, O> {
         ensures same { (self.new.probes ≡ self.old.probes) × (tally.old.events ≤ tally.new.events) × (tally.new.probes ≡ tally.old.probes) }
         ensures rests { result ≡ None → Rests tally.new.lines.items }
     {
-        for _ in 0..MOST {
+        for _ in 0..MAX_EVENTS_OF_TURN {
             match self.tick_one(rt, gate, tally) {
                 Step::More => {}
                 Step::Last => return None,

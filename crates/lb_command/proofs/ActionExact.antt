@@ -4,8 +4,8 @@ use Rattle.std.specs.Prelude.{codes, nat_le}
 use Rattle.lb_wire.specs.declared.addr.Addr.{Addr}
 use Rattle.lb_wire.specs.declared.rcode.Rcode.{Rcode}
 use Rattle.lb_servers.specs.declared.pool.PoolName.{PoolName}
-use Rattle.lb_core.specs.declared.command.StatedAction.{StatedAction}
-use Rattle.lb_core.specs.declared.command.StatedAction.TheVariants as actions
+use Rattle.lb_step.specs.declared.command.StatedAction.{StatedAction}
+use Rattle.lb_step.specs.declared.command.StatedAction.TheVariants as actions
 use Rattle.lb_command.specs.Line.{Left}
 use Rattle.lb_command.specs.Reading.{due, listed, taken}
 use Rattle.lb_command.specs.Values.{addr_of, pool_of, rcode_of}

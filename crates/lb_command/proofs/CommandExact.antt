@@ -13,10 +13,10 @@ use Rattle.lb_servers.specs.declared.server.Mode.{Mode}
 use Rattle.lb_servers.specs.declared.spec.ServerSpec.{ServerSpec}
 use Rattle.lb_cache.specs.declared.cached.Covered.{Covered}
 use Rattle.lb_cache.specs.declared.cached.Covered.TheVariants as covereds
-use Rattle.lb_core.specs.declared.check.CheckSpec.{CheckSpec}
-use Rattle.lb_core.specs.declared.command.Command.{Command}
-use Rattle.lb_core.specs.declared.command.Command.TheVariants.{RuleAdd, RuleRemove, RuleMove, ServerAdd, ServerRemove, ServerMode, PoolAdd, PoolPolicy, CacheAttach, CacheDetach, Expunge, SetTimeout, Show}
-use Rattle.lb_core.specs.declared.command.StatedRule.{StatedRule}
+use Rattle.lb_step.specs.declared.check.CheckSpec.{CheckSpec}
+use Rattle.lb_step.specs.declared.command.Command.{Command}
+use Rattle.lb_step.specs.declared.command.Command.TheVariants.{RuleAdd, RuleRemove, RuleMove, ServerAdd, ServerRemove, ServerMode, PoolAdd, PoolPolicy, CacheAttach, CacheDetach, Expunge, SetTimeout, Show}
+use Rattle.lb_step.specs.declared.command.StatedRule.{StatedRule}
 use Rattle.lb_command.specs.Line.{Left, behind_first, first_of}
 use Rattle.lb_command.specs.Reading.{◌>>=◌, due, optional, or_left_out, taken}
 use Rattle.lb_command.specs.Values.{addr_of, ident_of, in_range, looked_up, mode_of, name_of, number_of, policy_of, pool_of, port_of, type_of}

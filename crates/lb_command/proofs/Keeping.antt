@@ -8,13 +8,13 @@ use Rattle.lb_wire.specs.declared.record_type.RecordType.{RecordType}
 use Rattle.lb_servers.specs.declared.spec.ServerSpec.{ServerSpec}
 use Rattle.lb_cache.specs.declared.cached.Covered.{Covered}
 use Rattle.lb_cache.specs.declared.cached.Covered.TheVariants as covereds
-use Rattle.lb_core.specs.declared.check.CheckSpec.{CheckSpec}
-use Rattle.lb_core.specs.declared.command.Command.{Command}
-use Rattle.lb_core.specs.declared.command.Command.TheVariants.{RuleAdd, RuleRemove, RuleMove, ServerAdd, ServerRemove, ServerMode, PoolAdd, PoolPolicy, CacheAttach, CacheDetach, Expunge, SetTimeout, Show}
-use Rattle.lb_core.specs.declared.command.StatedAction.{StatedAction}
-use Rattle.lb_core.specs.declared.command.StatedAction.TheVariants as actions
-use Rattle.lb_core.specs.declared.event.Event.{Event}
-use Rattle.lb_core.specs.declared.event.Event.TheVariants.{Query, Reply, Tick, HealthResult, Edit}
+use Rattle.lb_step.specs.declared.check.CheckSpec.{CheckSpec}
+use Rattle.lb_step.specs.declared.command.Command.{Command}
+use Rattle.lb_step.specs.declared.command.Command.TheVariants.{RuleAdd, RuleRemove, RuleMove, ServerAdd, ServerRemove, ServerMode, PoolAdd, PoolPolicy, CacheAttach, CacheDetach, Expunge, SetTimeout, Show}
+use Rattle.lb_step.specs.declared.command.StatedAction.{StatedAction}
+use Rattle.lb_step.specs.declared.command.StatedAction.TheVariants as actions
+use Rattle.lb_step.specs.declared.event.Event.{Event}
+use Rattle.lb_step.specs.declared.event.Event.TheVariants.{Query, Reply, Tick, HealthResult, Edit}
 use Rattle.lb_command.specs.Line.{Left, Seen, begins_word, in_front, is_word_byte, seen, whole, words_of}
 use Rattle.lb_command.specs.Grammar.{Choice, Part, ◌▷◌, action, bracketed, choice, code_skips, comma_list, command, covered, event, in_front_of, lengths, optional_type, options, order, pool, fall, lanes, rise, resolve, other_terms, others, place, says, server, setup, skips, term, terms, word}
 use Rattle.lb_masks.specs.Number.{number_up_to}

@@ -3,8 +3,8 @@ use Rattle.std.proofs.Common.{◌≡◌, ℕ, ◌≤◌, Result, Ok, Err, List, 
 use Rattle.std.proofs.lemmas.Bool.{cases_Bool}
 use Rattle.std.proofs.lemmas.Slice.Eq.{bytes_eq-Decides}
 use Rattle.std.specs.Prelude.{IfOk, bytes_eq, nat_lt}
-use Rattle.lb_core.specs.declared.command.Command.{Command}
-use Rattle.lb_core.specs.declared.event.Event.{Event}
+use Rattle.lb_step.specs.declared.command.Command.{Command}
+use Rattle.lb_step.specs.declared.event.Event.{Event}
 use Rattle.lb_command.specs.Line.{Left, Seen, whole}
 use Rattle.lb_command.specs.Reading.{◌>>=◌, Answers, ReadsAs, ended, max_line, within}
 use Rattle.lb_command.specs.Commands.{command_at, command_of, command_whole}

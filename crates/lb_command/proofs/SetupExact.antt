@@ -3,8 +3,8 @@ use Rattle.std.proofs.Common.{◌≡◌, ℕ, ◌≤◌, false, Ok, [], length, 
 use Rattle.std.proofs.lemmas.Bool.{cases_Bool}
 use Rattle.std.specs.Prelude.{codes}
 use Rattle.lb_masks.specs.Number.{number_up_to}
-use Rattle.lb_core.specs.declared.command.Command.{Command}
-use Rattle.lb_core.specs.declared.command.Command.TheVariants.{RuleAdd, RuleRemove, RuleMove, ServerAdd, ServerRemove, ServerMode, PoolAdd, PoolPolicy, CacheAttach, CacheDetach, Expunge, SetTimeout, Show}
+use Rattle.lb_step.specs.declared.command.Command.{Command}
+use Rattle.lb_step.specs.declared.command.Command.TheVariants.{RuleAdd, RuleRemove, RuleMove, ServerAdd, ServerRemove, ServerMode, PoolAdd, PoolPolicy, CacheAttach, CacheDetach, Expunge, SetTimeout, Show}
 use Rattle.lb_command.specs.Line.{Left}
 use Rattle.lb_command.specs.Reading.{taken}
 use Rattle.lb_command.specs.Values.{addr_of, port_of, protocol_of}

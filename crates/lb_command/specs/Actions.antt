@@ -1,7 +1,7 @@
 -- Reading actions.
 use Rattle.std.specs.Prelude.{if◌then◌else◌, ℕ, nat_le, ◌&&◌, Option, Result, Ok, List, [], ◌∷◌, length, codes}
-use Rattle.lb_core.specs.declared.command.StatedAction.{StatedAction}
-use Rattle.lb_core.specs.declared.command.StatedAction.TheVariants as actions
+use Rattle.lb_step.specs.declared.command.StatedAction.{StatedAction}
+use Rattle.lb_step.specs.declared.command.StatedAction.TheVariants as actions
 use Rattle.lb_command.specs.Line.{Left}
 use Rattle.lb_command.specs.Reading.{◌>>=◌, due, listed, named, taken, too_many}
 use Rattle.lb_command.specs.Values.{addr_of, looked_up, pool_of, rcode_of}

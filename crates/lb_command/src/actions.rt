@@ -10,13 +10,10 @@ use crate::fault::{FaultKind, Unread};
 use crate::parts::{addr, pool, rcode};
 use crate::values::look_up;
 use crate::words::Words;
-use lb_chain::Addrs;
+use lb_chain::{Addrs, MAX_ADDRS};
 use lb_core::StatedAction;
 use lb_wire::Addr;
 use std::alloc::Global;
-
-/// The most addresses of an answer.
-const MAX_ADDRS: usize = 8;
 
 /// The word that begins an action.
 #[derive(Clone, Copy, Debug, PartialEq, Eq)]

@@ -4,7 +4,7 @@ ghost use Rattle.std.specs.Prelude.{◌≡◌, IfOk};
 ghost use Rattle.lb_command.specs.Commands.{behind_extent, by_name_at, by_suffix_at, cache_at, cache_attach_at, cache_detach_at, cache_verb_words, command_at, command_of, command_whole, expunge_at, extent_words, place_at, pool_add_at, pool_at, pool_policy_at, pool_verb_words, rule_add_at, rule_at, rule_move_at, rule_remove_at, rule_verb_words, server_add_at, server_at, server_mode_at, server_remove_at, server_verb_words, timeout_at, verb_words};
 ghost use Rattle.lb_command.specs.Reading.{Answers, Gives, Reads, ReadsAs};
 ghost use Rattle.lb_command.specs.Grammar.{IsCommand};
-ghost use Rattle.lb_core.specs.declared.command.Command.{Command};
+ghost use Rattle.lb_step.specs.declared.command.Command.{Command};
 ghost use Rattle.lb_command.specs.Values.{looked_up};
 
 use crate::actions::action;

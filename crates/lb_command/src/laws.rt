@@ -2,7 +2,7 @@
 //! call does nothing but bring it to the caller's proof.
 
 ghost use Rattle.hex.specs.Hex.{IsBytes};
-ghost use Rattle.lb_core.specs.declared.answer.Note.TheVariants.{Shown};
+ghost use Rattle.lb_step.specs.declared.answer.Note.TheVariants.{Shown};
 ghost use Rattle.lb_command.specs.Laws.{AnswerFits, EqualLinesMeanEqualAnswers, IsNumber, IsPoolName, LanesAreReadBack, NoteFits, OneCommand, OneEvent, OneSetup};
 
 use lb_core::{Answer, Note, Totals};

@@ -9,13 +9,10 @@ use crate::fault::{FaultKind, Unread};
 use crate::parts::{count, lane_count, pool};
 use crate::values::look_up;
 use crate::words::Words;
-use lb_servers::{LaneCount, PoolName};
+use lb_servers::{LaneCount, MAX_POOLS_OF_SERVER, PoolName};
 use std::alloc::Global;
 use std::marker::Model;
 use std::num::NonZeroU8;
-
-/// The most pools of a server, a repeated one counted.
-const MAX_POOLS: usize = 8;
 
 /// The most words of a line.
 const MAX_WORDS: usize = 300_000;
@@ -102,7 +99,7 @@ impl Options {
         let token = words.peek();
         let pool = pool(words)?;
         let mut pools = self.pools;
-        if pools.len() >= MAX_POOLS {
+        if pools.len() >= MAX_POOLS_OF_SERVER {
             return Err(token.is_too_many());
         }
         pools.push(pool)?;

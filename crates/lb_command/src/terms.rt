@@ -12,20 +12,8 @@ use crate::parts::{mask, name, number_in, record_type};
 use crate::values::look_up;
 use crate::words::Words;
 use lb_masks::{Group, Mask};
-use lb_terms::{CheckedTerm, Names, Term};
+use lb_terms::{CheckedTerm, MAX_DEPTH, MAX_NODES, MAX_QPS, MAX_SET, Names, Term};
 use std::alloc::Global;
-
-/// The most names or masks of a set.
-const MAX_SET: usize = 1024;
-
-/// The greatest depth of a term.
-const MAX_DEPTH: usize = 16;
-
-/// The most terms in a term.
-const MAX_NODES: usize = 64;
-
-/// The most queries a second that a rate may have.
-const MAX_QPS: u32 = 1000;
 
 /// The bits of an IPv4 address: all of them count where no number is given.
 const V4_BITS: u8 = 32;
@@ -153,7 +141,7 @@ fn read_maxqps(words: &mut Words<'_>) -> Result<Term, Unread>
     ensures { Reads selector_of result words.new (maxqps_at words.old) }
 {
     words.word(b"(")?;
-    let qps = number_in(words, 1, MAX_QPS)? as u16;
+    let qps = number_in(words, 1, u32::from(MAX_QPS))? as u16;
     let (v4, v6) = read_lengths(words)?;
     words.word(b")")?;
     Ok(Term::MaxQps(qps, v4, v6))

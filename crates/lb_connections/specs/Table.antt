@@ -177,6 +177,15 @@ followed listed now x = followed_by x.peer listed now x.until
 abbrev pub follows_until : Connection → ℕ
 follows_until x = if is_client x.peer then 2 ^ 64 - 1 else closes_at x
 
+-- a connection is the same to its peer: its number, its peer, what came of it, what is to be written
+-- to it, and whether its peer has closed its side are unchanged
+abbrev pub SameToPeer : Connection → Connection → Type 0
+SameToPeer x y = (y.number ≡ x.number) × (y.peer ≡ x.peer) × (y.incoming ≡ x.incoming) × (y.outgoing ≡ x.outgoing) × (y.is_ended ≡ x.is_ended)
+
+-- the same, but for what came of it
+abbrev pub SameButIncoming : Connection → Connection → Type 0
+SameButIncoming x y = (y.number ≡ x.number) × (y.peer ≡ x.peer) × (y.outgoing ≡ x.outgoing) × (y.is_ended ≡ x.is_ended)
+
 -- The number of a connection is noted after these, once; if it was noted before, or there is no memory for
 -- it, nothing changes.
 abbrev pub Touches : Connection → Connection → List ℕ → List ℕ → Type 0

@@ -1,12 +1,13 @@
 //! One connection.
 
 ghost use Rattle.std.specs.Prelude.{[], IfSome, IsTrue, List, None, OnErr, OnOk, Some, drop, false, length, true, ℕ, ◌++◌, ◌+◌, ◌<◌, ◌^◌, ◌≡◌, ◌≤◌};
-ghost use Rattle.lb_connections.specs.Table.{IsDone, IsIdle, IsOverdue, MayEnd, Queues, Touches, closes_at, followed, follows_until, is_client, is_left, owed_with, owed_without};
+ghost use Rattle.lb_connections.specs.Table.{IsDone, IsIdle, IsOverdue, MayEnd, Queues, SameToPeer, Touches, closes_at, followed, follows_until, is_client, is_left, owed_with, owed_without};
 ghost use Rattle.lb_frames.specs.Frames.{NoneWhole, framed};
 ghost use Rattle.lb_wire.specs.Octets.{max_message};
 
-use lb_frames::{Incoming, Outgoing};
-use lb_lines::{Peer, Roster};
+use lb_core::MAX_TIMEOUT;
+use lb_frames::{Incoming, LENGTH, Outgoing};
+use lb_lines::{KEPT_AFTER_QUERY, Peer, Roster};
 use lb_wire::Octets;
 use std::alloc::{AllocError, Global};
 use std::collections::VecDeque;
@@ -17,16 +18,9 @@ const MOST_WAITING: usize = 1_048_576;
 /// If more octets than these wait, they are written at once, and nothing more is read of a client.
 const MANY_WAITING: usize = 65_536;
 
-/// How many octets tell a message's length.
-const LENGTH: usize = 2;
-
-/// How long a client that has closed its side is kept for its answers, in milliseconds: as long as
-/// a query may wait for its reply, and a second.
-const KEPT: u64 = 61_000;
-
 /// How long the connection to a server is read on when the server has left the roster, or its end
 /// there, in milliseconds: as long as a query may wait for its reply.
-const READ_ON: u64 = 60_000;
+const READ_ON: u64 = MAX_TIMEOUT as u64;
 
 /// One connection: what came and was not taken yet, and what is to be written.
 #[derive(Drop)]
@@ -209,15 +203,15 @@ impl Connection {
         Ok(())
     }
 
-    /// Its peer has closed its side, at this moment. Tells the moment at which it is closed at the
-    /// latest.
+    /// Its peer has closed its side, at this moment. Returns the moment at which it is closed at the
+    /// latest: a client is kept for its answers so long.
     pub fn end(&mut self, now: u64) -> u64
         ensures ended { self.new.is_ended ≡ true }
         ensures until { (self.new.until ≡ Some result) × (now ≤ result) }
         ensures all { self.new ≡ record self.old { is_ended = true; until = Some result } }
         ensures rest { (self.new.number ≡ self.old.number) × (self.new.peer ≡ self.old.peer) × (self.new.incoming ≡ self.old.incoming) × (self.new.outgoing ≡ self.old.outgoing) }
     {
-        let until = now.saturating_add(KEPT);
+        let until = now.saturating_add(KEPT_AFTER_QUERY);
         self.is_ended = true;
         self.until = Some(until);
         until
@@ -229,7 +223,7 @@ impl Connection {
     pub fn follow(&mut self, roster: &Roster, now: u64) -> u64
         ensures until { self.new ≡ record self.old { until = followed roster.now.listed now self.old } }
         ensures when { result ≡ follows_until self.new }
-        ensures rest { (self.new.number ≡ self.old.number) × (self.new.peer ≡ self.old.peer) × (self.new.incoming ≡ self.old.incoming) × (self.new.outgoing ≡ self.old.outgoing) × (self.new.is_ended ≡ self.old.is_ended) }
+        ensures rest { SameToPeer self.old self.new }
     {
         let Peer::Server(server, _, end) = self.peer else {
             return u64::MAX;

@@ -7,5 +7,5 @@ mod taking;
 mod writing;
 
 pub use connection::Connection;
-pub use table::{Connections, PLACES, Route};
+pub use table::{Connections, Route};
 pub use taking::First;

@@ -7,21 +7,15 @@ ghost use Rattle.lb_connections.specs.Table.{IsGiven, IsNew, IsTo, IsToSee, Narr
 
 use crate::connection::Connection;
 use http_server::Log;
-use lb_lines::{Endpoint, Peer, Roster};
+use lb_lines::{Endpoint, MAX_CLIENTS, MAX_CONNECTIONS, Peer, Roster, SECOND};
 use lb_wire::{Octets, ServerId};
 use std::alloc::{AllocError, Global};
 use std::collections::VecDeque;
 use std::marker::Model;
 use std::mem;
 
-/// How many connections a table has places for.
-pub const PLACES: usize = 4096;
-
-/// How many clients may be connected.
-const MOST_CLIENTS: usize = 1024;
-
 /// Idle clients are looked for at most once in so many milliseconds.
-const SECOND: u64 = 1_000;
+const IDLE_STEP: u64 = SECOND;
 
 /// The connection that was last begun to a server, by one of its upstream sockets.
 #[derive(Clone, Copy, Debug)]
@@ -74,7 +68,7 @@ impl Model for Connections {
 pub(crate) fn place_of(number: u64) -> usize
     ensures { (result ≡ number % 4096) × (result < 4096) }
 {
-    (number % 4096) as usize
+    (number % MAX_CONNECTIONS as u64) as usize
 }
 
 /// Whether the connection with this number stands at its place.
@@ -112,8 +106,8 @@ impl Connections {
     pub fn made(alloc: Global) -> Result<Connections, AllocError>
         ensures { IfOk result IsNew }
     {
-        let mut slots = Vec::with_capacity(alloc, PLACES)?;
-        for _ in 0..PLACES {
+        let mut slots = Vec::with_capacity(alloc, MAX_CONNECTIONS)?;
+        for _ in 0..MAX_CONNECTIONS {
             slots.push_reserved(None);
         }
         Ok(Connections {
@@ -178,7 +172,7 @@ impl Connections {
         ensures none { IfNone result ((self.old.next + 4096 ≤ self.new.next) ⊎ (2 ^ 64 ≤ self.new.next)) }
         ensures narrows { Narrows self.old self.new }
     {
-        for _ in 0..PLACES {
+        for _ in 0..MAX_CONNECTIONS {
             if self.last == u64::MAX {
                 return None;
             }
@@ -221,7 +215,7 @@ impl Connections {
     /// rounded up to a second.
     pub fn idle_after(&self, now: u64) -> Option<u64> {
         let until = now.saturating_add(self.idle?);
-        Some(until.saturating_add(SECOND - 1) / SECOND * SECOND)
+        Some(until.saturating_add(IDLE_STEP - 1) / IDLE_STEP * IDLE_STEP)
     }
 
     /// Notes that memory was refused for a connection, of which the refusal is in hand.
@@ -277,7 +271,7 @@ impl Connections {
         ensures full { IsTrue result → 1024 ≤ clients self.now }
         ensures room { result ≡ false → clients self.now < 1024 }
     {
-        self.clients >= MOST_CLIENTS
+        self.clients >= MAX_CLIENTS
     }
 
     /// The open connection of a number.
@@ -361,7 +355,7 @@ impl Connections {
     {
         let moment = connection.closes_at();
         if moment <= now {
-            self.look_by(now.saturating_add(SECOND));
+            self.look_by(now.saturating_add(IDLE_STEP));
         } else {
             self.look_by(moment);
         }

@@ -1,7 +1,7 @@
 //! Messages that are taken of what came.
 
 ghost use Rattle.std.specs.Prelude.{IfNone, IfOk, IfSome, List, OnOk, ℕ, ◌++◌, ◌≡◌};
-ghost use Rattle.lb_connections.specs.Table.{HasNone, IsFirst};
+ghost use Rattle.lb_connections.specs.Table.{HasNone, IsFirst, SameButIncoming};
 ghost use Rattle.lb_connections.specs.Taking.{Takes};
 
 use crate::connection::Connection;
@@ -78,7 +78,7 @@ impl Connections {
         now: u64,
     ) -> Result<(), AllocError>
         ensures heard { OnOk result (connection.new.incoming ≡ connection.old.incoming ++ octets.now) }
-        ensures rest { (connection.new.number ≡ connection.old.number) × (connection.new.peer ≡ connection.old.peer) × (connection.new.outgoing ≡ connection.old.outgoing) × (connection.new.is_ended ≡ connection.old.is_ended) }
+        ensures rest { SameButIncoming connection.old connection.new }
         ensures same { self.new ≡ self.old }
     {
         connection.incoming.push(octets.as_slice())?;

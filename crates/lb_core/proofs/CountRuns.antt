@@ -1,24 +1,20 @@
 -- Runs that are counted.
-use Rattle.std.proofs.Common.{◌≡◌, ◌≤◌, ◌==◌, ℕ, zero, suc, ◌+◌, ◌-◌, ◌^◌, Bool, true, false, cond, get_or, max, min, replicate, List, [], ◌∷◌, ◌++◌, Option, Some, None, refl, sym, ◌∙◌, ap, subst, arith}
+use Rattle.std.proofs.Common.{◌≡◌, ◌≤◌, ◌==◌, ℕ, ◌+◌, ◌-◌, ◌^◌, Bool, true, false, cond, max, min, List, [], ◌∷◌, ◌++◌, Option, Some, None, refl, sym, ◌∙◌, ap, subst, arith}
 use Rattle.std.proofs.lemmas.Bool.{eqb-true}
 use Rattle.std.proofs.lemmas.List.{append-nil, append_assoc}
 use Rattle.lb_tallies.specs.Tallies.{one_more, raised as raised_at, shut}
-use Rattle.lb_core.specs.declared.answer.Answer.{Answer}
-use Rattle.lb_core.specs.declared.event.Event.{Event}
-use Rattle.lb_core.specs.declared.counts_by_number.CountsByNumber.{CountsByNumber}
-use Rattle.lb_core.specs.declared.noted.Noted.{Noted}
-use Rattle.lb_core.specs.declared.tally.Tally.{Tally}
-use Rattle.lb_core.specs.Counts.{AreRaised, IsNotedRun, count_at, one_if, raised, times, times_in}
-use Rattle.lb_core.specs.CountsByNumber.{AreCounted, AreCountedIn, AreExact, CountsAreNumbers, asked_of, by_note, cache_removed, ended_by, expired_at, hit_in, is_of, replied_by, rule_removed, sent_to, server_removed, tally_after, times_named}
-use Rattle.lb_core.specs.Noted.{IsNoted}
-use Rattle.lb_core.specs.Plain.{Plain}
-use Rattle.lb_core.specs.Step.{Answers}
-
--- each place of so many zeros, and each place after them
-pub all_zero : (n place : ℕ) → let none : ℕ = 0 in get_or (replicate n none) place none ≡ none
-all_zero zero place = refl
-all_zero (suc n) zero = refl
-all_zero (suc n) (suc place) = all_zero n place
+use Rattle.lb_step.specs.declared.answer.Answer.{Answer}
+use Rattle.lb_step.specs.declared.event.Event.{Event}
+use Rattle.lb_step.specs.declared.counts_by_number.CountsByNumber.{CountsByNumber}
+use Rattle.lb_step.specs.declared.noted.Noted.{Noted}
+use Rattle.lb_step.specs.declared.tally.Tally.{Tally}
+use Rattle.lb_step.specs.Counts.{AreRaised, count_at, one_if, raised, times}
+use Rattle.lb_step.specs.CountsByNumber.{AreCounted, asked_of, by_note, cache_removed, ended_by, expired_at, hit_in, replied_by, rule_removed, sent_to, server_removed}
+use Rattle.lb_step.specs.Noted.{IsNoted}
+use Rattle.lb_step.specs.Plain.{Plain}
+use Rattle.lb_step.specs.Step.{Answers}
+use Rattle.lb_core.specs.Counts.{IsNotedRun, times_in}
+use Rattle.lb_core.specs.CountsByNumber.{AreCountedIn, AreExact, CountsAreNumbers, is_of, tally_after, times_named}
 
 most_none : (n m : ℕ) → max n (min (n + 0) m) ≡ n
 most_none n m = omega arith

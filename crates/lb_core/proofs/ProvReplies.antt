@@ -25,18 +25,18 @@ use Rattle.lb_cache.specs.Caches.{cache_with, goes_before, has_id, is_dead_in, i
 use Rattle.lb_cache.specs.Reply.{lives}
 use Rattle.lb_cache.specs.declared.cached.AttachedCache.{AttachedCache}
 use Rattle.lb_cache.specs.declared.cached.KeptReply.{KeptReply}
-use Rattle.lb_core.specs.declared.answer.Answer.{Answer}
-use Rattle.lb_core.specs.declared.answer.Answer.TheVariants.{Ignored}
-use Rattle.lb_core.specs.declared.answer.IgnoreReason.{IgnoreReason}
-use Rattle.lb_core.specs.declared.answer.IgnoreReason.TheVariants as ignores
-use Rattle.lb_core.specs.declared.event.Event.{Event}
-use Rattle.lb_core.specs.declared.event.Event.TheVariants.{Reply}
-use Rattle.lb_core.specs.Plain.{Plain, at_plain, upstreams_of, with_upstreams}
+use Rattle.lb_step.specs.declared.answer.Answer.{Answer}
+use Rattle.lb_step.specs.declared.answer.Answer.TheVariants.{Ignored}
+use Rattle.lb_step.specs.declared.answer.IgnoreReason.{IgnoreReason}
+use Rattle.lb_step.specs.declared.answer.IgnoreReason.TheVariants as ignores
+use Rattle.lb_step.specs.declared.event.Event.{Event}
+use Rattle.lb_step.specs.declared.event.Event.TheVariants.{Reply}
+use Rattle.lb_step.specs.Plain.{Plain, at_plain, upstreams_of, with_upstreams}
+use Rattle.lb_step.specs.Reading.{OfReply}
+use Rattle.lb_step.specs.Reply.{BelongsOrNot, HeldAgainst, IsLeft, Keeps, KeepsAt, ReplySteps, kept_for}
+use Rattle.lb_step.specs.Routes.{routes_of}
+use Rattle.lb_step.specs.Upstream.{Upstreams}
 use Rattle.lb_core.specs.Provenance.{LivesIn}
-use Rattle.lb_core.specs.Reading.{OfReply}
-use Rattle.lb_core.specs.Reply.{BelongsOrNot, HeldAgainst, IsLeft, Keeps, KeepsAt, ReplySteps, kept_for}
-use Rattle.lb_core.specs.Routes.{routes_of}
-use Rattle.lb_core.specs.Upstream.{Upstreams}
 use Rattle.lb_core.proofs.ProvAsks.{ask_for, same_ask, same_places}
 use Rattle.lb_core.proofs.ProvLists.{Puts, Sifts, all_removed, find_cases, none_pass, puts_between, sifts_filter, sifts_none}
 use Rattle.lb_core.proofs.ProvStanding.{stood_by}

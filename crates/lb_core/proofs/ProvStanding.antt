@@ -12,13 +12,13 @@ use Rattle.lb_table.specs.declared.place.Place.{Place}
 use Rattle.lb_table.specs.Place.{at_place}
 use Rattle.lb_cache.specs.Caches.{cache_with}
 use Rattle.lb_cache.specs.declared.cached.AttachedCache.{AttachedCache}
-use Rattle.lb_core.specs.declared.event.Event.{Event}
-use Rattle.lb_core.specs.declared.event.Event.TheVariants.{Reply}
-use Rattle.lb_core.specs.declared.answer.Answer.{Answer}
-use Rattle.lb_core.specs.declared.answer.Answer.TheVariants.{Deliver}
+use Rattle.lb_step.specs.declared.event.Event.{Event}
+use Rattle.lb_step.specs.declared.event.Event.TheVariants.{Reply}
+use Rattle.lb_step.specs.declared.answer.Answer.{Answer}
+use Rattle.lb_step.specs.declared.answer.Answer.TheVariants.{Deliver}
+use Rattle.lb_step.specs.Reading.{Reading, moment_of}
+use Rattle.lb_step.specs.Routes.{Routes}
 use Rattle.lb_core.specs.Provenance.{Told, KeptFor, IsKeptFor, LastSent, Untouched, asks, ends, is_sent, routes_in}
-use Rattle.lb_core.specs.Reading.{Reading, moment_of}
-use Rattle.lb_core.specs.Routes.{Routes}
 use Rattle.lb_core.proofs.ProvAsks.{ask_itself, same_ask, same_asks}
 
 -- what the query asked that was last sent to a place

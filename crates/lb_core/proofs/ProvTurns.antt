@@ -14,16 +14,16 @@ use Rattle.lb_table.specs.Table.{is_at}
 use Rattle.lb_cache.specs.Caches.{looked_in}
 use Rattle.lb_cache.specs.Reply.{lives}
 use Rattle.lb_cache.specs.declared.cached.KeptReply.{KeptReply}
-use Rattle.lb_core.specs.declared.event.Event.{Event}
-use Rattle.lb_core.specs.declared.event.Event.TheVariants.{Reply, Edit}
-use Rattle.lb_core.specs.declared.answer.Answer.{Answer}
-use Rattle.lb_core.specs.declared.answer.Answer.TheVariants.{Deliver, Edited, Forward, Local}
-use Rattle.lb_core.specs.declared.answer.LocalReason.TheVariants as locals
-use Rattle.lb_core.specs.Answer.{marked}
-use Rattle.lb_core.specs.Plain.{Plain}
+use Rattle.lb_step.specs.declared.event.Event.{Event}
+use Rattle.lb_step.specs.declared.event.Event.TheVariants.{Reply, Edit}
+use Rattle.lb_step.specs.declared.answer.Answer.{Answer}
+use Rattle.lb_step.specs.declared.answer.Answer.TheVariants.{Deliver, Edited, Forward, Local}
+use Rattle.lb_step.specs.declared.answer.LocalReason.TheVariants as locals
+use Rattle.lb_step.specs.Answer.{marked}
+use Rattle.lb_step.specs.Plain.{Plain}
+use Rattle.lb_step.specs.Reading.{Reading, moment_of}
+use Rattle.lb_step.specs.Routes.{routes_of}
 use Rattle.lb_core.specs.Provenance.{Told, HitsFor, LivesIn, asks, ended_by, is_hit, octets_of}
-use Rattle.lb_core.specs.Reading.{Reading, moment_of}
-use Rattle.lb_core.specs.Routes.{routes_of}
 use Rattle.lb_core.proofs.ProvAsks.{ask_for, same_ask}
 use Rattle.lb_core.proofs.ProvLists.{Puts, Sifts}
 use Rattle.lb_core.proofs.ProvStanding.{Stood, stood_by}

@@ -10,18 +10,18 @@ use Rattle.lb_chain.specs.declared.numbered.Numbered.{Numbered}
 use Rattle.lb_chain.specs.Seen.{seen_rules, SeenTwice}
 use Rattle.lb_table.specs.declared.entry.Waiting.{Waiting}
 use Rattle.lb_table.specs.Table.{due, is_due, taken_at, without_due}
-use Rattle.lb_core.specs.declared.event.Event.TheVariants.{Tick}
-use Rattle.lb_core.specs.declared.answer.Answer.{Answer}
-use Rattle.lb_core.specs.declared.answer.Answer.TheVariants.{Expired, Quiet}
-use Rattle.lb_core.specs.Expiry.{Ends, Expires}
-use Rattle.lb_core.specs.Forward.{failure_of}
-use Rattle.lb_core.specs.Plain.{Plain, at_plain, upstreams_of, with_upstreams}
-use Rattle.lb_core.specs.Reading.{Reading, OfNone, OfQuery, OfReply}
+use Rattle.lb_step.specs.declared.event.Event.TheVariants.{Tick}
+use Rattle.lb_step.specs.declared.answer.Answer.{Answer}
+use Rattle.lb_step.specs.declared.answer.Answer.TheVariants.{Expired, Quiet}
+use Rattle.lb_step.specs.Expiry.{Ends, Expires}
+use Rattle.lb_step.specs.Forward.{failure_of}
+use Rattle.lb_step.specs.Plain.{Plain, at_plain, upstreams_of, with_upstreams}
+use Rattle.lb_step.specs.Reading.{Reading, OfNone, OfQuery, OfReply}
+use Rattle.lb_step.specs.Step.{StepsAt}
+use Rattle.lb_step.specs.Upstream.{Upstreams}
 use Rattle.lb_core.specs.Runs.{GivesUp, GiveUp, IsRun}
-use Rattle.lb_core.specs.Step.{StepsAt}
-use Rattle.lb_core.specs.Upstream.{Upstreams}
-use Rattle.lb_core.proofs.Refusals.{left_of, told_of}
-use Rattle.lb_core.proofs.Tied.{none_some, some_same}
+use Rattle.lb_step.proofs.Refusals.{left_of, told_of}
+use Rattle.lb_step.proofs.Tied.{none_some, some_same}
 
 -- a list without the first element that passes
 abbrev gone : {X : Type 0} → (X → Bool) → List X → List X

@@ -1,29 +1,25 @@
--- What the lists of a plain state keep true; and the health of a server over a run, which follows from the results given since the
--- server was added.
+-- The health of a server over a run: it follows from the results given since the server was added.
 use Rattle.std.specs.Prelude.{◌≡◌, ◌+◌, ◌<◌, Bool, true, false, ◌==◌, if◌then◌else◌, List, [], ◌∷◌, ◌++◌, ◌⊎◌, Option, None, Some, option_map}
 use Rattle.std.specs.Int.NonZero.{non_zero_u8_get}
-use Rattle.std.specs.List.{All, AllByRecursion, find, flat_map}
+use Rattle.std.specs.List.{find, flat_map}
 use Rattle.lb_wire.specs.declared.ids.ServerId.{ServerId}
-use Rattle.lb_chain.specs.Chain.{AreRules}
 use Rattle.lb_servers.specs.declared.server.Server.{Server}
-use Rattle.lb_servers.specs.Park.{AreBackends}
-use Rattle.lb_table.specs.Table.{AreWaiting}
-use Rattle.lb_cache.specs.Caches.{AreKept}
 use Rattle.lb_health.specs.Health.{IsStanding, Standing, AtTheLast, after, new_standing, row_against, since}
 use Rattle.lb_health.specs.declared.health.Changed.TheVariants as changes
-use Rattle.lb_core.specs.declared.check.Check.{Check}
-use Rattle.lb_core.specs.declared.check.CheckSpec.{CheckSpec}
-use Rattle.lb_core.specs.declared.command.Command.TheVariants.{ServerAdd, ServerRemove}
-use Rattle.lb_core.specs.declared.event.Event.{Event}
-use Rattle.lb_core.specs.declared.event.Event.TheVariants.{Edit, HealthResult}
-use Rattle.lb_core.specs.declared.answer.Answer.{Answer}
-use Rattle.lb_core.specs.declared.answer.Answer.TheVariants.{Edited, Ignored}
-use Rattle.lb_core.specs.declared.answer.IgnoreReason.TheVariants as ignores
-use Rattle.lb_core.specs.declared.answer.Note.TheVariants as notes
-use Rattle.lb_core.specs.Answer.{change_told}
-use Rattle.lb_core.specs.Plain.{Plain, chain_of, upstreams_of}
+use Rattle.lb_step.specs.declared.check.Check.{Check}
+use Rattle.lb_step.specs.declared.check.CheckSpec.{CheckSpec}
+use Rattle.lb_step.specs.declared.command.Command.TheVariants.{ServerAdd, ServerRemove}
+use Rattle.lb_step.specs.declared.event.Event.{Event}
+use Rattle.lb_step.specs.declared.event.Event.TheVariants.{Edit, HealthResult}
+use Rattle.lb_step.specs.declared.answer.Answer.{Answer}
+use Rattle.lb_step.specs.declared.answer.Answer.TheVariants.{Edited, Ignored}
+use Rattle.lb_step.specs.declared.answer.IgnoreReason.TheVariants as ignores
+use Rattle.lb_step.specs.declared.answer.Note.TheVariants as notes
+use Rattle.lb_step.specs.Answer.{change_told}
+use Rattle.lb_step.specs.Plain.{Plain}
+use Rattle.lb_step.specs.Upstream.{is_check}
+use Rattle.lb_step.specs.Laws.{AreMarked}
 use Rattle.lb_core.specs.Runs.{IsRun}
-use Rattle.lb_core.specs.Upstream.{AreNumbered, ByNumber, IsChecked, backends_of, caches_of, is_check}
 
 -- what is told of a server's health: where it stood at first, and the results given since then, in order
 pub record Results : Type 0 where
@@ -73,29 +69,6 @@ has_number id server = server.id.0 == id.0
 
 abbrev pub mark_of : ServerId → List Server → Option Bool
 mark_of server servers = option_map (λ s. s.marked_up) (find (has_number server) servers)
-
--- what each balancer keeps true: its servers stand by number, each number once and below the next; each has one health check,
--- and its mark is what its health says
-pub record AreMarked (plain : Plain) : Type 0 where
-  pub numbers : ByNumber plain.servers
-  pub below : AllByRecursion (λ s. s.id.0 < plain.next_server) plain.servers
-  pub checks : IsChecked plain.servers plain.checks
-
--- what the lists of each balancer keep true: the rules have numbers from 1 on and below the next, no number twice, and there are at
--- most 4,096 with at most 16 limiters; the passes of each limiter are by source, IPv4 first and then by octets, and then by moment, no
--- source has more of them than the rate, and each is later than 1,000 milliseconds before the moment; servers and health checks
--- are as above; no two servers have one name, there are at most 256, each in 1 to 8 pools that are there, in each once; the first
--- pool is the default pool, no two have one name or one cache, there are at most 64; each attached cache has a number below the next; the outstanding queries are by deadline, those of one deadline in the
--- order in which they were sent, no two at one server, lane and ID; and the caches are by number, the kept replies by cache and
--- key, no two of one cache and key, no more than the cache keeps at most, each of an attached cache
-pub record AreLists (plain : Plain) : Type 0 where
-  pub rules : AreRules (chain_of plain)
-  pub passes : All (λ n. All (λ l. All (λ pass. plain.moment < pass.moment + 1000) l.passes) n.limits) plain.rules
-  pub servers : AreMarked plain
-  pub backends : AreBackends (backends_of (upstreams_of plain))
-  pub numbered : AreNumbered plain.next_cache plain.caches
-  pub outstanding : AreWaiting plain.outstanding
-  pub kept : AreKept (caches_of (upstreams_of plain))
 
 -- an answer to a result of a server: that it came up or went down is told exactly where the result is the last of so many in a
 -- row that go against what it is, all given since it last changed; the result of a server that is not there is ignored

@@ -5,16 +5,16 @@ use Rattle.lb_wire.specs.Query.{Reads}
 use Rattle.lb_wire.specs.declared.query.QueryView.{QueryView}
 use Rattle.lb_table.specs.declared.entry.Waiting.{Waiting}
 use Rattle.lb_table.specs.Table.{is_due}
-use Rattle.lb_core.specs.declared.event.Event.{Event}
-use Rattle.lb_core.specs.declared.event.Event.TheVariants.{Tick}
-use Rattle.lb_core.specs.declared.answer.Answer.{Answer}
-use Rattle.lb_core.specs.declared.answer.Answer.TheVariants.{Expired, Quiet}
-use Rattle.lb_core.specs.Plain.{Plain, at_plain}
-use Rattle.lb_core.specs.Answer.{marked}
-use Rattle.lb_core.specs.Forward.{failure_of}
+use Rattle.lb_step.specs.declared.event.Event.{Event}
+use Rattle.lb_step.specs.declared.event.Event.TheVariants.{Tick}
+use Rattle.lb_step.specs.declared.answer.Answer.{Answer}
+use Rattle.lb_step.specs.declared.answer.Answer.TheVariants.{Expired, Quiet}
+use Rattle.lb_step.specs.Plain.{Plain, at_plain}
+use Rattle.lb_step.specs.Answer.{marked}
+use Rattle.lb_step.specs.Forward.{failure_of}
+use Rattle.lb_step.specs.Routes.{routes_of}
+use Rattle.lb_step.specs.Step.{Answers}
 use Rattle.lb_core.specs.Provenance.{MeetsHits, MeetsProvenance}
-use Rattle.lb_core.specs.Routes.{routes_of}
-use Rattle.lb_core.specs.Step.{Answers}
 
 -- a run: the events are given these answers, one after the other
 abbrev pub IsRun : Plain → List Event → List Answer → Plain → Type 0

@@ -1,19 +1,15 @@
 //! Runs over lists of events.
 
-ghost use Rattle.std.specs.Prelude.{◌≡◌, [], IfOk, IfErr, List, OnErr, false};
-ghost use Rattle.lb_core.specs.declared.noted.Noted.{Noted as NotedValue};
-ghost use Rattle.lb_core.specs.Counts.{times_in, AreRaised, IsNotedRun};
-ghost use Rattle.lb_core.specs.CountsByNumber.{AreExact};
+ghost use Rattle.std.specs.Prelude.{◌≡◌, [], IfOk, IfErr, OnErr};
+ghost use Rattle.lb_step.specs.Counts.{AreRaised};
+ghost use Rattle.lb_step.specs.Routes.{routes_of};
+ghost use Rattle.lb_core.specs.Counts.{times_in};
+ghost use Rattle.lb_core.specs.CountsByNumber.{IsCountedRun};
 ghost use Rattle.lb_core.specs.Provenance.{MeetsHits, MeetsProvenance};
-ghost use Rattle.lb_core.specs.Routes.{routes_of};
 ghost use Rattle.lb_core.specs.Runs.{IsRun};
 
-use crate::answer::Answer;
-use crate::balancer::Balancer;
-use crate::event::Event;
 use crate::laws::{cached_answers_are_kept_replies, hits_come_from_replies};
-use crate::noted::Noted;
-use crate::tally::Tally;
+use lb_step::{Answer, Balancer, Event, Noted, Tally};
 use std::alloc::{AllocError, Global};
 
 /// Answers the events in order. Room for the answers is taken first: where it is refused, the events come back and
@@ -53,7 +49,7 @@ pub fn run_counted(
     tally: &mut Tally,
     events: Vec<Event>,
 ) -> Result<Vec<Answer>, (AllocError, Vec<Event>)>
-    ensures run { IfOk result (λ answers. (notes : List NotedValue) × IsNotedRun balancer.old events.items answers.items notes balancer.new × (tally.new.by_number.lacked ≡ false → AreExact answers.items notes tally.old.by_number tally.new.by_number)) }
+    ensures run { IfOk result (λ answers. IsCountedRun balancer.old events.items answers.items balancer.new tally.old.by_number tally.new.by_number) }
     ensures counts { IfOk result (λ answers. AreRaised (times_in events.items answers.items) tally.old.counts.items tally.new.counts.items) }
     ensures back { IfErr result (λ e. e.1.items ≡ events.items) }
     ensures unchanged { OnErr result (balancer.new ≡ balancer.old) }

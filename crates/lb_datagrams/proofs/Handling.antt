@@ -1,9 +1,9 @@
 -- What an event led to is what its datagram led to.
 use Rattle.std.proofs.Common.{◌≡◌, ℕ, ◌+◌, Bool, false, if◌then◌else◌, inl, Option, Some, None, List, [], ◌∷◌, length, option_to_list, refl, sym, ap, ◌∙◌, subst, arith}
 use Rattle.std.proofs.lemmas.List.{append-nil}
-use Rattle.lb_core.specs.declared.answer.Answer.{Answer}
-use Rattle.lb_core.specs.declared.event.Event.{Event}
-use Rattle.lb_core.specs.declared.event.Event.TheVariants.{Query, Reply}
+use Rattle.lb_step.specs.declared.answer.Answer.{Answer}
+use Rattle.lb_step.specs.declared.event.Event.{Event}
+use Rattle.lb_step.specs.declared.event.Event.TheVariants.{Query, Reply}
 use Rattle.lb_datagrams.specs.Turn.{Handles, Leads, asked_line}
 use Rattle.lb_lines.specs.Counts.{Grows}
 use Rattle.lb_lines.specs.Events.{asker, event_at, event_of, is_strange, timeless}
@@ -23,7 +23,7 @@ grows_none p p' same = let count : length p' ≡ length p = ap (λ zs. length zs
 
 -- a datagram that makes no event
 pub handles_none : (d : Datagram) (stamp : Stamp) (before after : List Line) (a a' : ℕ) (p p' : List (Event × Answer))
-    → event_of d ≡ None → after ≡ before → a' ≡ a → p' ≡ p → Handles d stamp before after a a' p p' []
+    → event_of d ≡ None → after ≡ before → a' ≡ a → p' ≡ p → Handles d stamp before after a a' p p' None
 handles_none d stamp before after a a' p p' is same count told = record {
   more = [];
   put = same ∙ sym (append-nil before);
@@ -37,7 +37,7 @@ handles_none d stamp before after a a' p p' is same count told = record {
 
 -- a datagram that makes one
 pub handles : (d : Datagram) (event : Event) (stamp : Stamp) (held : Option Event) (before after : List Line) (a a' : ℕ) (p p' : List (Event × Answer))
-    → event_of d ≡ Some (timeless event) → Bears event stamp → Leads event held before after a a' p p' → Handles d stamp before after a a' p p' (option_to_list held)
+    → event_of d ≡ Some (timeless event) → Bears event stamp → Leads event held before after a a' p p' → Handles d stamp before after a a' p p' held
 handles d event stamp None before after a a' p p' is bears led =
     let pairs_none = append-nil (answered_as event led.outcome) in record {
       more = asked_line event led.outcome ∷ [];

@@ -3,7 +3,7 @@ use Rattle.std.proofs.Common.{◌≡◌, ◌≢◌, ℕ, ◌+◌, ◌≤◌, inl
 use Rattle.std.proofs.lemmas.Grind.{flat_map-append}
 use Rattle.std.proofs.lemmas.List.Elements.{filter_map-append}
 use Rattle.std.proofs.lemmas.List.{append-nil, length-append, map-append}
-use Rattle.lb_core.specs.declared.event.Event.{Event}
+use Rattle.lb_step.specs.declared.event.Event.{Event}
 use Rattle.lb_datagrams.specs.Lines.{AreAsked}
 use Rattle.lb_datagrams.specs.Turn.{Turns, World}
 use Rattle.lb_lines.specs.Counts.{Grows, Rose}

@@ -1,7 +1,7 @@
 -- What the loop of datagrams holds, and what rounds of its turn do before anything is sent.
 use Rattle.std.specs.Prelude.{◌≡◌, ℕ, ◌+◌, ◌≤◌, Bool, List, [], ◌∷◌, ◌++◌, Option, Some, None, length, map, option_to_list}
-use Rattle.lb_core.specs.declared.answer.Answer.{Answer}
-use Rattle.lb_core.specs.declared.event.Event.{Event}
+use Rattle.lb_step.specs.declared.answer.Answer.{Answer}
+use Rattle.lb_step.specs.declared.event.Event.{Event}
 use Rattle.lb_datagrams.specs.Lines.{AreAsked}
 use Rattle.lb_lines.specs.Counts.{Grows}
 use Rattle.lb_lines.specs.Events.{event_of, heard, timeless}
@@ -76,12 +76,12 @@ Leads event None before after answered answered' told told' = Asks event before 
 Leads event (Some held) before after answered answered' told told' = (held ≡ event) × (after ≡ before) × (answered' ≡ answered) × (told' ≡ told)
 
 -- what a datagram led to: its event, if it makes one, has this stamp, and is that of a line behind the others, or held
-pub record Handles (d : Datagram) (stamp : Stamp) (before after : List Line) (answered answered' : ℕ) (told told' : List (Event × Answer)) (held : List Event) : Type 0 where
+pub record Handles (d : Datagram) (stamp : Stamp) (before after : List Line) (answered answered' : ℕ) (told told' : List (Event × Answer)) (held : Option Event) : Type 0 where
   pub more : List Line
   pub put : after ≡ before ++ more
-  pub events : map timeless (events_in more ++ held) ≡ option_to_list (event_of d)
-  pub stamped : Stamped (events_in more ++ held) (stamp ∷ [])
-  pub few : length more + length held ≤ 1
+  pub events : map timeless (events_in more ++ option_to_list held) ≡ option_to_list (event_of d)
+  pub stamped : Stamped (events_in more ++ option_to_list held) (stamp ∷ [])
+  pub few : length more + length (option_to_list held) ≤ 1
   pub asked : AreAsked more
   pub counted : answered' ≡ answered + length (pairs more)
   pub grows : Grows told told' (pairs more)

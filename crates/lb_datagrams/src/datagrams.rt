@@ -36,7 +36,18 @@ impl<S: Datagrams, T: Taker, O: Outside> Model for DatagramLoop<S, T, O> {
 
     ghost coded = { Prim.hlevel (codes, contract.the_row.coded) };
 
-    ghost view = { λ l. record { given = S.given l.sockets; taken = S.taken l.sockets; there = listened (S.listens l.sockets); failures = S.failures l.sockets; reads = S.reads l.sockets; answered = T.answered l.taker; pairs = T.pairs l.taker; said = O.said l.outside; outside = O.failures l.outside; room = vec_capacity l.spare.lines } };
+    ghost view = { λ l. record {
+      given = S.given l.sockets;
+      taken = S.taken l.sockets;
+      there = listened (S.listens l.sockets);
+      failures = S.failures l.sockets;
+      reads = S.reads l.sockets;
+      answered = T.answered l.taker;
+      pairs = T.pairs l.taker;
+      said = O.said l.outside;
+      outside = O.failures l.outside;
+      room = vec_capacity l.spare.lines;
+    } };
 }
 
 impl<S: Datagrams, T: Taker, O: Outside> DatagramLoop<S, T, O> {

@@ -1,7 +1,7 @@
 //! The turn of datagrams.
 
 ghost use Rattle.std.specs.Prelude.{[], IfOk, IsTrue, List, None, OnErr, Some, false, is_some, length, map, option_to_list, vec_capacity, vec_len, ◌++◌, ◌+◌, ◌<◌, ◌∷◌, ◌≡◌, ◌≢◌, ◌≤◌, ℕ};
-ghost use Rattle.lb_core.specs.declared.event.Event.TheVariants.{Query, Reply};
+ghost use Rattle.lb_step.specs.declared.event.Event.TheVariants.{Query, Reply};
 ghost use Rattle.lb_datagrams.specs.Lines.{AreLines, hears};
 ghost use Rattle.lb_datagrams.specs.Turn.{Asks, Handles, Leads, Round, Stamps, Turns, asked_line};
 ghost use Rattle.lb_lines.specs.Counts.{Grows, Rose};
@@ -14,14 +14,11 @@ ghost use Rattle.lb_wire.specs.declared.transport.Kind.TheVariants as kinds;
 use crate::datagrams::DatagramLoop;
 use lb_core::Event;
 use lb_lines::{
-    Datagram, Datagrams, DeviceFault, Endpoint, Gate, Line, Outcome, Outside, Received, Report,
-    Roster, Sending, Socket, Source, Taker, excuse, first_fault,
+    Datagram, Datagrams, DeviceFault, Endpoint, Gate, Line, MAX_EVENTS_OF_TURN, Outcome, Outside,
+    Received, Report, Roster, Sending, Socket, Source, Taker, excuse, first_fault,
 };
 use lb_wire::{Kind, Lane, Octets, Origin, ServerId};
 use std::alloc::AllocError;
-
-/// The most events of a turn, and the most reads.
-const MOST: usize = 64;
 
 /// Reads at most 64 datagrams and hands the event of each to the desk; then sends what it answered,
 /// in order. (Of several datagrams in a row their receiver is woken for the first alone, which
@@ -58,7 +55,7 @@ pub fn datagram_turn<S: Datagrams, T: Taker, O: Outside, G: Gate>(
     ensures there { IfOk result (λ _. part.new.there ≡ part.old.there) }
     ensures refused { OnErr result (part.new ≡ record part.old { room = part.new.room }) }
 {
-    let lines = part.room(MOST)?;
+    let lines = part.room(MAX_EVENTS_OF_TURN)?;
     let Report {
         mut lines,
         device,
@@ -83,7 +80,7 @@ impl<S: Datagrams, T: Taker, O: Outside> DatagramLoop<S, T, O> {
         ensures held { result.is_held ≡ is_some result.held }
     {
         let mut device = None;
-        for _ in 0..MOST {
+        for _ in 0..MAX_EVENTS_OF_TURN {
             let Step {
                 device: found,
                 held,
@@ -174,7 +171,7 @@ fn packet<T: Taker, G: Gate>(
     requires known { is_strange datagram.socket datagram.peer ≡ false }
     requires copy { copy ≡ datagram.bytes }
     requires place { vec_len lines.old < vec_capacity lines.old }
-    ensures handled { Handles datagram (stamp.0, stamp.1) lines.old.items lines.new.items (T.answered taker.old) (T.answered taker.new) (T.pairs taker.old) (T.pairs taker.new) (option_to_list result.held) }
+    ensures handled { Handles datagram (stamp.0, stamp.1) lines.old.items lines.new.items (T.answered taker.old) (T.answered taker.new) (T.pairs taker.old) (T.pairs taker.new) result.held }
     ensures device { result.device ≡ None }
     ensures last { result.is_last ≡ false → result.held ≡ None }
     ensures len { vec_len lines.new ≤ vec_len lines.old + 1 }

@@ -5,27 +5,27 @@ use Rattle.std.proofs.Crossing.{crosses}
 use Rattle.std.proofs.sync.ledger.Book.TheSendSync.{the_send as calls_send}
 use Rattle.std.proofs.sync.ledger.Share.TheSendSync.{the_send as share_send}
 use Rattle.std.specs.declared.sync.ledger.Ledger as Ledger
-use Rattle.lb_core.proofs.answer.Answer.TheSendSync.{the_field_send as answer_send}
-use Rattle.lb_core.proofs.tally.Tally.TheSendSync.{the_field_send as tally_send}
-use Rattle.lb_core.specs.contracts.balancer.Balancer as Balancer
-use Rattle.lb_core.specs.contracts.event.Event as Event
-use Rattle.lb_core.specs.contracts.plain.Plain as Plain
-use Rattle.lb_desk.proofs.spare.Room.TheSendSync.{the_send as room_send}
+use Rattle.lb_step.proofs.answer.Answer.TheSendSync.{the_field_send as answer_send}
+use Rattle.lb_step.proofs.tally.Tally.TheSendSync.{the_field_send as tally_send}
+use Rattle.lb_step.specs.contracts.balancer.Balancer as Balancer
+use Rattle.lb_step.specs.contracts.event.Event as Event
+use Rattle.lb_step.specs.contracts.plain.Plain as Plain
+use Rattle.lb_desk.proofs.spare.AnswerRoom.TheSendSync.{the_send as room_send}
 use Rattle.lb_desk.specs.contracts.book.Book as Book
 use Rattle.lb_desk.specs.contracts.desk.Desk as Desk
-use Rattle.lb_desk.specs.contracts.entry.Entry as Entry
+use Rattle.lb_desk.specs.contracts.entry.LogEntry as LogEntry
 use Rattle.lb_desk.specs.contracts.entry.Receipt as Receipt
 use Rattle.lb_desk.specs.contracts.seat.Seat as Seat
-use Rattle.lb_desk.specs.contracts.spare.Spare as Spare
+use Rattle.lb_desk.specs.contracts.spare.EntryRoom as EntryRoom
 use Rattle.lb_desk.specs.declared.naming.Naming as Naming
 
-entry_send : IsSend (Event.the_field).row → IsSend Entry.the_row
+entry_send : IsSend (Event.the_field).row → IsSend LogEntry.the_row
 entry_send event_send = search (answer_send, sendable, crosses) depth 40 fits 10000
 
 receipt_send : IsSend (Event.the_field).row → IsSend Receipt.the_row
 receipt_send event_send = search (answer_send, sendable, crosses) depth 40 fits 10000
 
-spare_send : IsSend (Event.the_field).row → IsSend Spare.the_row
+spare_send : IsSend (Event.the_field).row → IsSend EntryRoom.the_row
 spare_send event_send = search (sendable, crosses) depth 40 fits 10000
 
 module _ (T : RattleType) (n : Naming.Ghosts T.Denot) (l : Ledger.Ghosts T.Denot) where

@@ -3,7 +3,7 @@ use Rattle.std.proofs.Common.{Bool, List, Some, [], ap, append-nil, append_assoc
 use Rattle.std.proofs.Math.Seq.{get_or-append_seam, take-suc}
 use Rattle.std.proofs.lemmas.Bool.Decides.{nat_tests}
 use Rattle.std.proofs.lemmas.Option.{get_or_from_slice_get, slice_get_read}
-use Rattle.lb_desk.specs.declared.entry.Entry.{Entry}
+use Rattle.lb_desk.specs.declared.entry.LogEntry.{LogEntry}
 use Rattle.lb_desk.specs.declared.entry.Receipt.{Receipt}
 use Rattle.lb_desk.specs.declared.entry.SeatId.{SeatId}
 use Rattle.lb_desk.specs.Entry.{receipt, receipt_at, receipts_from, receipts_of}
@@ -13,8 +13,8 @@ head_case true r xs ys = refl
 head_case false r xs ys = refl
 
 -- the receipts of a log in two parts
-receipts-append : (seat : SeatId) (place : ℕ) (front back : List Entry) → receipts_from seat place (front ++ back) ≡ receipts_from seat place front ++ receipts_from seat (place + length front) back
-receipts-append seat place [] back = let is : place ≡ place + length {A = Entry} [] = omega arith in ap (λ k. receipts_from seat k back) is
+receipts-append : (seat : SeatId) (place : ℕ) (front back : List LogEntry) → receipts_from seat place (front ++ back) ≡ receipts_from seat place front ++ receipts_from seat (place + length front) back
+receipts-append seat place [] back = let is : place ≡ place + length {A = LogEntry} [] = omega arith in ap (λ k. receipts_from seat k back) is
 receipts-append seat place (x ∷ front) back =
     let is : (place + 1) + length front ≡ place + length (x ∷ front) = omega arith in
     ap (λ l. if x.seat.0 == seat.0 then receipt place x.event x.answer ∷ l else l) (receipts-append seat (place + 1) front back)
@@ -27,7 +27,7 @@ take_next {X} l k x within at =
     ap (λ n. take n l) is ∙ take-suc l k x within ∙ ap (λ y. take k l ++ y ∷ []) (get_or_from_slice_get l k x x at)
 
 -- the receipts of the first entries, with the next one
-pub receipts_next : (seat : SeatId) (place : ℕ) (log : List Entry) (e : Entry) → place < length log → slice_get log place ≡ Some e
+pub receipts_next : (seat : SeatId) (place : ℕ) (log : List LogEntry) (e : LogEntry) → place < length log → slice_get log place ≡ Some e
     → receipts_of seat (take (place + 1) log) ≡ receipts_of seat (take place log) ++ receipt_at seat place e
 receipts_next seat place log e within at =
     let more : take (place + 1) log ≡ take place log ++ e ∷ [] = take_next log place e within at in
@@ -35,7 +35,7 @@ receipts_next seat place log e within at =
     ap (receipts_of seat) more ∙ receipts-append seat 0 (take place log) (e ∷ []) ∙ ap (λ k. receipts_of seat (take place log) ++ receipt_at seat k e) is
 
 -- the next receipt is that of an entry
-pub found_one : (seat : SeatId) (place next : ℕ) (kept : List Receipt) (e : Entry) (r : Receipt) → next < length kept → slice_get kept next ≡ Some r → r ≡ receipt place e.event e.answer → e.seat ≡ seat
+pub found_one : (seat : SeatId) (place next : ℕ) (kept : List Receipt) (e : LogEntry) (r : Receipt) → next < length kept → slice_get kept next ≡ Some r → r ≡ receipt place e.event e.answer → e.seat ≡ seat
     → take (next + 1) kept ≡ take next kept ++ receipt_at seat place e
 found_one seat place next kept e r within at is mine =
     let more : take (next + 1) kept ≡ take next kept ++ r ∷ [] = take_next kept next r within at in
@@ -45,7 +45,7 @@ found_one seat place next kept e r within at is mine =
     more ∙ ap (λ x. take next kept ++ x ∷ []) is ∙ ap (λ l. take next kept ++ l) (sym one)
 
 -- an entry of another seat has none
-pub found_none : (seat : SeatId) (place next : ℕ) (kept : List Receipt) (e : Entry) → (e.seat.0 == seat.0) ≡ false → take next kept ≡ take next kept ++ receipt_at seat place e
+pub found_none : (seat : SeatId) (place next : ℕ) (kept : List Receipt) (e : LogEntry) → (e.seat.0 == seat.0) ≡ false → take next kept ≡ take next kept ++ receipt_at seat place e
 found_none seat place next kept e other =
     let none : receipt_at seat place e ≡ [] = rw other refl in
     sym (append-nil (take next kept)) ∙ ap (λ l. take next kept ++ l) (sym none)
@@ -62,7 +62,7 @@ next_is next kept rest r within is =
     (more, slice_get_read kept (length kept) next r refl more (sym read))
 
 -- where the receipts go on with those of an entry of this seat, the next one is its receipt
-pub next_found : (seat : SeatId) (place next : ℕ) (kept rest : List Receipt) (e : Entry) → next ≤ length kept → e.seat ≡ seat → kept ≡ take next kept ++ receipt_at seat place e ++ rest
+pub next_found : (seat : SeatId) (place next : ℕ) (kept rest : List Receipt) (e : LogEntry) → next ≤ length kept → e.seat ≡ seat → kept ≡ take next kept ++ receipt_at seat place e ++ rest
     → (next < length kept) × (slice_get kept next ≡ Some (receipt place e.event e.answer))
 next_found seat place next kept rest e within mine is =
     let numbers : e.seat.0 ≡ seat.0 = ap (λ (s : SeatId). s.0) mine in
@@ -72,7 +72,7 @@ next_found seat place next kept rest e within mine is =
     next_is next kept rest r within (is ∙ ap (λ l. take next kept ++ l ++ rest) one ∙ append_assoc (take next kept) (r ∷ []) rest)
 
 -- where the receipts do not go on with those of the next entry, they are not those of the log
-pub lost : (seat : SeatId) (place next : ℕ) (log : List Entry) (kept : List Receipt) (e : Entry) → place < length log → slice_get log place ≡ Some e → take next kept ≡ receipts_of seat (take place log)
+pub lost : (seat : SeatId) (place next : ℕ) (log : List LogEntry) (kept : List Receipt) (e : LogEntry) → place < length log → slice_get log place ≡ Some e → take next kept ≡ receipts_of seat (take place log)
     → ((rest : List Receipt) → kept ≢ take next kept ++ receipt_at seat place e ++ rest) → kept ≢ receipts_of seat log
 lost seat place next log kept e within at so_far other is =
     let front = take (place + 1) log in

@@ -3,19 +3,21 @@ use Rattle.std.proofs.Common.{All, ℕ, List, [], Option, false, length, ◌-◌
 use Rattle.std.proofs.lemmas.List.{length-append, map-append}
 use Rattle.std.proofs.lemmas.List.Elements.{All-append}
 use Rattle.lb_tallies.specs.Tallies.{raised as raised_at, shut, tally_of}
-use Rattle.lb_core.specs.declared.answer.Answer.{Answer}
-use Rattle.lb_core.specs.declared.event.Event.{Event}
-use Rattle.lb_core.specs.declared.counts_by_number.CountsByNumber.{CountsByNumber}
-use Rattle.lb_core.specs.declared.noted.Noted.{Noted}
-use Rattle.lb_core.specs.declared.tally.Tally.{Tally}
-use Rattle.lb_core.specs.Counts.{AreRaised, IsNotedRun, count_at, raised, times, times_in}
-use Rattle.lb_core.specs.CountsByNumber.{AreCounted, AreCountedIn, AreNone, asked_of, by_note, cache_removed, ended_by, expired_at, hit_in, replied_by, rule_removed, sent_to, server_removed, tally_after}
-use Rattle.lb_core.specs.Noted.{IsNoted}
-use Rattle.lb_core.specs.Plain.{Plain}
+use Rattle.lb_step.specs.declared.answer.Answer.{Answer}
+use Rattle.lb_step.specs.declared.event.Event.{Event}
+use Rattle.lb_step.specs.declared.counts_by_number.CountsByNumber.{CountsByNumber}
+use Rattle.lb_step.specs.declared.noted.Noted.{Noted}
+use Rattle.lb_step.specs.declared.tally.Tally.{Tally}
+use Rattle.lb_step.specs.Counts.{AreRaised, count_at, raised, times}
+use Rattle.lb_step.specs.CountsByNumber.{AreCounted, AreNone, asked_of, by_note, cache_removed, ended_by, expired_at, hit_in, replied_by, rule_removed, sent_to, server_removed}
+use Rattle.lb_step.specs.Noted.{IsNoted}
+use Rattle.lb_step.specs.Plain.{Plain}
+use Rattle.lb_step.specs.Snapshot.{IsShown, Snapshot, snapshot_of}
+use Rattle.lb_step.specs.Step.{Answers}
+use Rattle.lb_core.specs.Counts.{IsNotedRun, times_in}
+use Rattle.lb_core.specs.CountsByNumber.{AreCountedIn, tally_after}
 use Rattle.lb_core.specs.Runs.{CachedAnswersAreKeptReplies, HitsComeFromReplies, IsRun}
-use Rattle.lb_core.specs.Snapshot.{IsShown, Snapshot, snapshot_of}
-use Rattle.lb_core.specs.Step.{Answers}
-use Rattle.lb_desk.specs.declared.entry.Entry.{Entry}
+use Rattle.lb_desk.specs.declared.entry.LogEntry.{LogEntry}
 use Rattle.lb_desk.specs.declared.entry.SeatId.{SeatId}
 use Rattle.lb_desk.specs.declared.fault.CloseFault.{CloseFault}
 use Rattle.lb_desk.specs.declared.fault.CloseFault.TheVariants.{Differs, MissingSeat}
@@ -134,20 +136,20 @@ counted_new opening balancer tally shown opens zero none = ∣ record {
 } ∣₁
 
 -- a log with one entry more tells of the run with one event more
-tells_grown : (opening : Snapshot) (log : List Entry) (mid new : Plain) (seat : SeatId) (event : Event) (answer : Answer) → Tells opening log mid → Answers mid event answer new
+tells_grown : (opening : Snapshot) (log : List LogEntry) (mid new : Plain) (seat : SeatId) (event : Event) (answer : Answer) → Tells opening log mid → Answers mid event answer new
     → Tells opening (log ++ entry seat event answer ∷ []) new
 tells_grown opening log mid new seat event answer tells step = record {
   start = tells.start;
   shown = tells.shown;
   opens = tells.opens;
   run =
-      subst (λ es. IsRun tells.start es (answers_of (log ++ entry seat event answer ∷ [])) new) (sym (map-append (λ (e : Entry). e.event) log (entry seat event answer ∷ [])))
-      (subst (λ l. IsRun tells.start (events_of log ++ event ∷ []) l new) (sym (map-append (λ (e : Entry). e.answer) log (entry seat event answer ∷ [])))
+      subst (λ es. IsRun tells.start es (answers_of (log ++ entry seat event answer ∷ [])) new) (sym (map-append (λ (e : LogEntry). e.event) log (entry seat event answer ∷ [])))
+      (subst (λ l. IsRun tells.start (events_of log ++ event ∷ []) l new) (sym (map-append (λ (e : LogEntry). e.answer) log (entry seat event answer ∷ [])))
       (run_grown tells.start mid new (events_of log) (answers_of log) event answer tells.run step));
 }
 
 -- a call that the log has
-pub keeps_grown : (opening : Snapshot) (limit count : ℕ) (log : List Entry) (old new : Plain) (seat : SeatId) (event : Event) (answer : Answer) → count < limit → Answers old event answer new
+pub keeps_grown : (opening : Snapshot) (limit count : ℕ) (log : List LogEntry) (old new : Plain) (seat : SeatId) (event : Event) (answer : Answer) → count < limit → Answers old event answer new
     → Keeps opening limit count log old → Keeps opening limit (count + 1) (log ++ entry seat event answer ∷ []) new
 keeps_grown opening limit count log old new seat event answer within step keeps =
     let is : old ≡ keeps.end = keeps.current (omega arith) in record {
@@ -157,11 +159,11 @@ keeps_grown opening limit count log old new seat event answer within step keeps 
     }
 
 -- a call past the limit
-pub keeps_past : (opening : Snapshot) (limit count : ℕ) (log : List Entry) (old new : Plain) → limit ≤ count → Keeps opening limit count log old → Keeps opening limit (count + 1) log new
+pub keeps_past : (opening : Snapshot) (limit count : ℕ) (log : List LogEntry) (old new : Plain) → limit ≤ count → Keeps opening limit count log old → Keeps opening limit (count + 1) log new
 keeps_past opening limit count log old new past keeps = record { end = keeps.end; tells = keeps.tells; current = λ within. absurd (omega arith) }
 
 -- a book without calls
-pub keeps_new : (opening : Snapshot) (limit : ℕ) (log : List Entry) (balancer : Plain) → IsShown balancer → opening ≡ snapshot_of balancer → log ≡ [] → ∥ Keeps opening limit 0 log balancer ∥₁
+pub keeps_new : (opening : Snapshot) (limit : ℕ) (log : List LogEntry) (balancer : Plain) → IsShown balancer → opening ≡ snapshot_of balancer → log ≡ [] → ∥ Keeps opening limit 0 log balancer ∥₁
 keeps_new opening limit log balancer shown opens none =
     let keeps : Keeps opening limit 0 [] balancer = record {
       end = balancer;
@@ -171,11 +173,11 @@ keeps_new opening limit log balancer shown opens none =
     subst (λ l. ∥ Keeps opening limit 0 l balancer ∥₁) (sym none) ∣ keeps ∣₁
 
 -- the seats of a log with one entry more
-pub seated_grown : (seats : ℕ) (log new : List Entry) (e : Entry) → All (λ (x : Entry). x.seat.0 < seats) log → e.seat.0 < seats → new ≡ log ++ e ∷ [] → All (λ (x : Entry). x.seat.0 < seats) new
-seated_grown seats log new e each last is = subst (λ l. All (λ (x : Entry). x.seat.0 < seats) l) (sym is) (All-append (λ (x : Entry). x.seat.0 < seats) log (e ∷ []) each (search rules))
+pub seated_grown : (seats : ℕ) (log new : List LogEntry) (e : LogEntry) → All (λ (x : LogEntry). x.seat.0 < seats) log → e.seat.0 < seats → new ≡ log ++ e ∷ [] → All (λ (x : LogEntry). x.seat.0 < seats) new
+seated_grown seats log new e each last is = subst (λ l. All (λ (x : LogEntry). x.seat.0 < seats) l) (sym is) (All-append (λ (x : LogEntry). x.seat.0 < seats) log (e ∷ []) each (search rules))
 
 -- a log that tells of a run from a state without outstanding queries and kept replies tells where its cached answers come from
-pub caches_told : CachedAnswersAreKeptReplies → (opening : Snapshot) (limit count : ℕ) (log : List Entry) (balancer : Plain) → opening.outstanding ≡ [] → opening.kept ≡ []
+pub caches_told : CachedAnswersAreKeptReplies → (opening : Snapshot) (limit count : ℕ) (log : List LogEntry) (balancer : Plain) → opening.outstanding ≡ [] → opening.kept ≡ []
     → Keeps opening limit count log balancer → TellsCaches opening log
 caches_told law opening limit count log balancer none_outstanding none_kept keeps =
     let tells = keeps.tells in record {
@@ -188,7 +190,7 @@ caches_told law opening limit count log balancer none_outstanding none_kept keep
     }
 
 -- a log that tells of a run tells which replies its hits come from
-pub hits_told : HitsComeFromReplies → (opening : Snapshot) (limit count : ℕ) (log : List Entry) (balancer : Plain) → Keeps opening limit count log balancer → TellsHits opening log
+pub hits_told : HitsComeFromReplies → (opening : Snapshot) (limit count : ℕ) (log : List LogEntry) (balancer : Plain) → Keeps opening limit count log balancer → TellsHits opening log
 hits_told law opening limit count log balancer keeps =
     let tells = keeps.tells in record {
       start = tells.start;

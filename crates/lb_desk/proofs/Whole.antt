@@ -5,7 +5,7 @@ use Rattle.std.proofs.lemmas.Bool.Decides.{nat_tests}
 use Rattle.std.proofs.lemmas.List.Elements.{All-cons, All-head, All-tail}
 use Rattle.std.proofs.lemmas.List.Sums.{sum_by-cons}
 use Rattle.std.specs.List.{list_any}
-use Rattle.lb_desk.specs.declared.entry.Entry.{Entry}
+use Rattle.lb_desk.specs.declared.entry.LogEntry.{LogEntry}
 use Rattle.lb_desk.specs.declared.entry.Receipt.{Receipt}
 use Rattle.lb_desk.specs.Entry.{receipt, receipts_from, receipts_of}
 use Rattle.lb_desk.specs.Seat.{AreAll, Seated}
@@ -15,7 +15,7 @@ one true = 1
 one false = 0
 
 -- how many receipts the seats have of a log whose first entry has this place
-abbrev held : ℕ → List Entry → List Seated → ℕ
+abbrev held : ℕ → List LogEntry → List Seated → ℕ
 held place log seats = sum_by (λ (s : Seated). length (receipts_from s.number place log)) seats
 
 -- how many of the seats have this number
@@ -27,7 +27,7 @@ one_more true r rest = omega arith
 one_more false r rest = omega arith
 
 -- an entry more is a receipt more of each seat with its number
-held_more : (place : ℕ) (e : Entry) (log : List Entry) (seats : List Seated) → held place (e ∷ log) seats ≡ hits e.seat.0 seats + held (place + 1) log seats
+held_more : (place : ℕ) (e : LogEntry) (log : List LogEntry) (seats : List Seated) → held place (e ∷ log) seats ≡ hits e.seat.0 seats + held (place + 1) log seats
 held_more place e log [] = refl
 held_more place e log (s ∷ seats) =
     let here = one_more (e.seat.0 == s.number.0) (receipt place e.event e.answer) (receipts_from s.number (place + 1) log) in
@@ -102,11 +102,11 @@ pub as_many : (count : ℕ) (seats : List Seated) → AreAll count seats → cou
 as_many count seats all = omega (arith, each_hit count seats all, few_hits count seats)
 
 -- each entry has a receipt at least
-all_held : (count place : ℕ) (log : List Entry) (seats : List Seated) → AreAll count seats → All (λ (e : Entry). e.seat.0 < count) log → length log ≤ held place log seats
+all_held : (count place : ℕ) (log : List LogEntry) (seats : List Seated) → AreAll count seats → All (λ (e : LogEntry). e.seat.0 < count) log → length log ≤ held place log seats
 all_held count place [] seats all within = omega arith
 all_held count place (e ∷ log) seats all within =
-    let here = some_hit e.seat.0 seats (all e.seat.0 (All-head (λ (e : Entry). e.seat.0 < count) e log within)) in
-    let rest = all_held count (place + 1) log seats all (All-tail (λ (e : Entry). e.seat.0 < count) e log within) in
+    let here = some_hit e.seat.0 seats (all e.seat.0 (All-head (λ (e : LogEntry). e.seat.0 < count) e log within)) in
+    let rest = all_held count (place + 1) log seats all (All-tail (λ (e : LogEntry). e.seat.0 < count) e log within) in
     let more = held_more place e log seats in
     omega arith
 
@@ -128,7 +128,7 @@ all_same f g (x ∷ xs) each least =
     let least_later : sum_by g xs ≤ sum_by f xs = omega (arith, sum_by-cons f x xs, sum_by-cons g x xs) in
     All-cons (λ x. f x ≡ g x) x xs same (all_same f g xs later least_later)
 
-lengths_held : (log : List Entry) (seats : List Seated) → All (λ (s : Seated). s.receipts ≡ receipts_of s.number log) seats → sum_by (λ (s : Seated). length s.receipts) seats ≡ held 0 log seats
+lengths_held : (log : List LogEntry) (seats : List Seated) → All (λ (s : Seated). s.receipts ≡ receipts_of s.number log) seats → sum_by (λ (s : Seated). length s.receipts) seats ≡ held 0 log seats
 lengths_held log [] each = refl
 lengths_held log (s ∷ seats) each =
     let here = ap (λ (l : List Receipt). length l) (All-head (λ (s : Seated). s.receipts ≡ receipts_of s.number log) s seats each) in
@@ -136,7 +136,7 @@ lengths_held log (s ∷ seats) each =
     omega (arith, sum_by-cons (λ (s : Seated). length s.receipts) s seats, sum_by-cons (λ (s : Seated). length (receipts_from s.number 0 log)) s seats)
 
 -- where the log has as many entries as there were calls, each seat has a receipt of each of its calls
-pub whole : (count : ℕ) (log : List Entry) (seats : List Seated) → AreAll count seats → All (λ (e : Entry). e.seat.0 < count) log
+pub whole : (count : ℕ) (log : List LogEntry) (seats : List Seated) → AreAll count seats → All (λ (e : LogEntry). e.seat.0 < count) log
     → All (λ (s : Seated). s.receipts ≡ receipts_of s.number log) seats → All (λ (s : Seated). length s.receipts ≤ s.calls) seats → sum_by (λ (s : Seated). s.calls) seats ≡ length log
     → All (λ (s : Seated). length s.receipts ≡ s.calls) seats
 whole count log seats all within kept few calls =

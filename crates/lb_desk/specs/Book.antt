@@ -1,18 +1,22 @@
 -- What lies under the lock of a desk.
-use Rattle.std.specs.Prelude.{◌≡◌, ℕ, ◌-◌, ◌^◌, ◌≤◌, ◌<◌, false, List, length, Option, Some}
-use Rattle.lb_core.specs.declared.answer.Answer.{Answer}
-use Rattle.lb_core.specs.declared.counts_by_number.CountsByNumber.{CountsByNumber}
-use Rattle.lb_core.specs.declared.event.Event.{Event}
-use Rattle.lb_core.specs.declared.noted.Noted.{Noted}
-use Rattle.lb_core.specs.declared.tally.Tally.{Tally}
-use Rattle.lb_core.specs.Counts.{count_at, raised, times, times_in, AreRaised, IsNotedRun}
-use Rattle.lb_core.specs.CountsByNumber.{AreCounted, AreCountedIn, AreNone}
-use Rattle.lb_core.specs.Noted.{IsNoted}
-use Rattle.lb_core.specs.Plain.{Plain}
-use Rattle.lb_core.specs.Snapshot.{IsShown, Snapshot, snapshot_of}
-use Rattle.lb_desk.specs.Entry.{Tells}
+use Rattle.std.specs.Prelude.{◌≡◌, ℕ, ◌++◌, ◌-◌, ◌^◌, ◌≤◌, ◌<◌, ◌∷◌, [], false, List, length, None, Option, Some}
+use Rattle.lb_step.specs.declared.answer.Answer.{Answer}
+use Rattle.lb_step.specs.declared.counts_by_number.CountsByNumber.{CountsByNumber}
+use Rattle.lb_step.specs.declared.event.Event.{Event}
+use Rattle.lb_step.specs.declared.noted.Noted.{Noted}
+use Rattle.lb_step.specs.declared.tally.Tally.{Tally}
+use Rattle.lb_step.specs.Counts.{count_at, raised, times, AreRaised}
+use Rattle.lb_step.specs.CountsByNumber.{AreCounted, AreNone}
+use Rattle.lb_step.specs.Noted.{IsNoted}
+use Rattle.lb_step.specs.Plain.{Plain}
+use Rattle.lb_step.specs.Snapshot.{IsShown, Snapshot, snapshot_of}
+use Rattle.lb_core.specs.Counts.{times_in, IsNotedRun}
+use Rattle.lb_core.specs.CountsByNumber.{AreCountedIn}
+use Rattle.lb_desk.specs.Entry.{Tells, entry}
+use Rattle.lb_desk.specs.declared.book.ticket.Answered.{Answered}
 use Rattle.lb_desk.specs.declared.book.ticket.Ticket.{Ticket}
-use Rattle.lb_desk.specs.declared.entry.Entry.{Entry}
+use Rattle.lb_desk.specs.declared.entry.LogEntry.{LogEntry}
+use Rattle.lb_desk.specs.declared.entry.SeatId.{SeatId}
 
 -- the balancer; what was counted of it; how many calls it has answered; how many the log has at most; the log; and the event for
 -- whose entry room is taken
@@ -21,11 +25,11 @@ pub record Booked : Type 0 where
   pub tally : Tally
   pub count : ℕ
   pub limit : ℕ
-  pub log : List Entry
+  pub log : List LogEntry
   pub ready : Option Event
 
 -- a log tells of a run from a snapshot; while it has all calls the balancer stands at the run's end
-pub record Keeps (opening : Snapshot) (limit count : ℕ) (log : List Entry) (balancer : Plain) : Type 0 where
+pub record Keeps (opening : Snapshot) (limit count : ℕ) (log : List LogEntry) (balancer : Plain) : Type 0 where
   pub end : Plain
   pub tells : Tells opening log end
   pub current : count ≤ limit → balancer ≡ end
@@ -59,3 +63,9 @@ IsReadyFor event book = (book.count < 2 ^ 64 - 1) × (book.count < book.limit �
 -- the ticket of a call at a place of the log, with its event
 abbrev pub ticket_of : ℕ → Event → Ticket
 ticket_of place event = record { place = place; event = event }
+
+-- a call is logged: its ticket has the next place of the log, the log has its entry there under the
+-- seat's number, and the room that was taken for it is spent
+abbrev pub Logs : SeatId → Event → Answered → Booked → Booked → Type 0
+Logs seat event answered old new =
+    (answered.ticket ≡ Some (ticket_of old.count event)) × (new.log ≡ old.log ++ entry seat event answered.answer ∷ []) × (new.ready ≡ None)

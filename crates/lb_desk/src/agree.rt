@@ -4,12 +4,12 @@ ghost use Rattle.std.specs.Prelude.{All, IfSome, IsNone, IsTrue, List, length, t
 ghost use Rattle.lb_desk.specs.declared.entry.Receipt.{Receipt};
 ghost use Rattle.lb_desk.specs.Entry.{receipt, receipt_at, receipts_of};
 
-use crate::entry::{Entry, Receipt, SeatId};
+use crate::entry::{LogEntry, Receipt, SeatId};
 use crate::naming::Naming;
 use crate::seat::Seat;
 
 /// Whether the receipts of each seat are its entries of the log.
-pub(crate) fn all_agree<J: Naming>(log: &[Entry], seats: &[Seat<J>]) -> bool
+pub(crate) fn all_agree<J: Naming>(log: &[LogEntry], seats: &[Seat<J>]) -> bool
     requires { length log.now < 2 ^ 63 }
     ensures equal { IsTrue result → All (λ s. s.receipts ≡ receipts_of s.number log.now) seats.now }
     ensures found { All (λ s. s.receipts ≡ receipts_of s.number log.now) seats.now → IsTrue result }
@@ -23,7 +23,7 @@ pub(crate) fn all_agree<J: Naming>(log: &[Entry], seats: &[Seat<J>]) -> bool
 }
 
 /// Whether the receipts are the entries of a seat, in order.
-fn agrees(log: &[Entry], seat: SeatId, receipts: &[Receipt]) -> bool
+fn agrees(log: &[LogEntry], seat: SeatId, receipts: &[Receipt]) -> bool
     requires { length log.now < 2 ^ 63 }
     ensures equal { IsTrue result → receipts.now ≡ receipts_of seat log.now }
     ensures found { receipts.now ≡ receipts_of seat log.now → IsTrue result }
@@ -40,7 +40,13 @@ fn agrees(log: &[Entry], seat: SeatId, receipts: &[Receipt]) -> bool
 
 /// The place behind the receipt of an entry; the same place where the entry is of another seat. None where the receipts do not
 /// have it next.
-fn past(entry: &Entry, place: u64, seat: SeatId, receipts: &[Receipt], next: usize) -> Option<usize>
+fn past(
+    entry: &LogEntry,
+    place: u64,
+    seat: SeatId,
+    receipts: &[Receipt],
+    next: usize,
+) -> Option<usize>
     requires { next ≤ length receipts.now }
     ensures within { IfSome result (λ after. after ≤ length receipts.now) }
     ensures found { IfSome result (λ after. take after receipts.now ≡ take next receipts.now ++ receipt_at seat place entry.now) }
@@ -56,7 +62,7 @@ fn past(entry: &Entry, place: u64, seat: SeatId, receipts: &[Receipt], next: usi
 }
 
 /// Whether a receipt is that of the entry at a place.
-fn is_receipt(kept: &Receipt, place: u64, entry: &Entry) -> bool
+fn is_receipt(kept: &Receipt, place: u64, entry: &LogEntry) -> bool
     ensures equal { IsTrue result → kept.now ≡ receipt place entry.now.event entry.now.answer }
     ensures found { kept.now ≡ receipt place entry.now.event entry.now.answer → IsTrue result }
 {

@@ -1,6 +1,6 @@
 //! What a closed desk leaves.
 
-use crate::entry::Entry;
+use crate::entry::LogEntry;
 use lb_core::Balancer;
 
 /// What a closed desk leaves.
@@ -9,6 +9,6 @@ pub struct Audit {
     /// How many calls were answered.
     pub count: u64,
     /// The first of them, as many as the desk's limit allowed.
-    pub log: Vec<Entry>,
+    pub log: Vec<LogEntry>,
     pub balancer: Balancer,
 }

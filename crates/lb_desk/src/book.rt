@@ -3,22 +3,24 @@
 
 ghost use Rattle.std.specs.Prelude.{All, IfErr, IfOk, IsErrAnd, IsOk, IsSome, IsTrue, None, OnErr, OnOk, Some, min, vec_capacity, vec_len, ◌++◌, ◌+◌, ◌-◌, ◌<◌, ◌^◌, ◌↔◌, ◌∷◌, ◌≡◌, ◌≢◌, ◌≤◌, ℕ, []};
 ghost use Rattle.std.specs.Option.{ForSome};
-ghost use Rattle.lb_core.specs.Counts.{count_at};
-ghost use Rattle.lb_core.specs.CountsByNumber.{AreNone};
-ghost use Rattle.lb_core.specs.Noted.{IsNoted};
-ghost use Rattle.lb_core.specs.Snapshot.{IsShown, snapshot_of};
-ghost use Rattle.lb_core.specs.Step.{Answers};
-ghost use Rattle.lb_desk.specs.Book.{Booked, Counted, Counts, IsReadyFor, Keeps, ticket_of};
+ghost use Rattle.lb_step.specs.Counts.{count_at};
+ghost use Rattle.lb_step.specs.CountsByNumber.{AreNone};
+ghost use Rattle.lb_step.specs.Noted.{IsNoted};
+ghost use Rattle.lb_step.specs.Snapshot.{IsShown, snapshot_of};
+ghost use Rattle.lb_step.specs.Step.{Answers};
+ghost use Rattle.lb_desk.specs.Book.{Booked, Counted, Counts, IsReadyFor, Keeps, Logs};
+ghost use Rattle.lb_desk.specs.Desk.{SameReceipts};
 ghost use Rattle.lb_desk.specs.Entry.{entry};
 ghost use Rattle.lb_desk.specs.declared.fault.DeskFault.TheVariants.{CountFull, NoMemory};
 
 mod ticket;
 
 use crate::audit::Audit;
-use crate::entry::{Entry, SeatId};
+use crate::entry::{LogEntry, SeatId};
 use crate::fault::DeskFault;
 use crate::naming::Naming;
-use crate::spare::{Room, Spare};
+use crate::seat::Account;
+use crate::spare::{AnswerRoom, EntryRoom};
 use lb_cache::Swept;
 use lb_core::{Answer, Balancer, Event, Noted, Tally};
 use std::alloc::{AllocError, Global};
@@ -37,8 +39,8 @@ pub struct Book<J: Naming> {
     tally: Tally,
     limit: u64,
     count: u64,
-    log: Vec<Entry>,
-    spare: Option<Spare>,
+    log: Vec<LogEntry>,
+    spare: Option<EntryRoom>,
     calls: ledger::Book<J>,
     ghost counted: { count ≡ calls.total },
     ghost limited: { limit ≡ J.limit },
@@ -96,39 +98,43 @@ impl<J: Naming> Book<J> {
 
 impl<J: Naming> Book<J> {
     /// Answers an event: the whole of what a call does under the lock. One step of the balancer,
-    /// which the book and the caller's share count; while the log has room for it by its limit, the
-    /// log has it under the seat's number, and the answer comes with a ticket for its receipt.
-    /// `receipts` are the caller's, which take room for one more where they have none, and `room`
-    /// says whether that was refused before. What the step leaves beside the plain state is noted.
-    /// A refused event comes back, and nothing has changed.
+    /// which the book and the caller's share count. While the log has room for it by its limit, the
+    /// log has it under the seat's number, and the answer comes with a ticket for its receipt. The
+    /// caller's receipts take room for one more if they have none, and `room` says whether that was
+    /// refused before. What the step leaves beside the plain state is noted. A refused event comes
+    /// back, and nothing has changed.
     #[inline(always)]
     pub fn answer(
         &mut self,
-        share: &mut Share<J>,
-        seat: SeatId,
+        account: &mut Account<J>,
         event: Event,
-        receipts: &mut Receipts,
         room: Result<(), AllocError>,
         noted: &mut Noted,
     ) -> Result<Answered, (DeskFault, Event)>
-        requires part { 0 < share.old.parts }
-        requires seat { seat.0 < J.seats }
+        requires part { 0 < account.old.share.parts }
+        requires seat { account.old.number.0 < J.seats }
         ensures step { IfOk result (λ r. Answers self.old.balancer event r.answer self.new.balancer) }
         ensures noted { IfOk result (λ r. IsNoted self.old.balancer event r.answer noted.new) }
         ensures counts { IfOk result (λ r. Counts self.old.balancer event r.answer self.old.tally self.new.tally) }
-        ensures logged { IfOk result (λ r. self.old.count < self.old.limit → (r.ticket ≡ Some (ticket_of self.old.count event)) × (self.new.log ≡ self.old.log ++ entry seat event r.answer ∷ []) × (self.new.ready ≡ None)) }
+        ensures logged { IfOk result (λ r. self.old.count < self.old.limit → Logs account.old.number event r self.old self.new) }
         ensures unlogged { IfOk result (λ r. self.old.limit ≤ self.old.count → (r.ticket ≡ None) × (self.new.log ≡ self.old.log) × (self.new.ready ≡ self.old.ready)) }
         ensures count { OnOk result (self.new.count ≡ self.old.count + 1) }
         ensures limit { self.new.limit ≡ self.old.limit }
-        ensures share { OnOk result (share.new.amount ≡ share.old.amount + 1) }
-        ensures parts { share.new.parts ≡ share.old.parts }
-        ensures room { IfOk result (λ r. IsSome r.ticket → IsSome receipts.new.room) }
-        ensures kept { (receipts.new.kept.items ≡ receipts.old.kept.items) × (vec_len receipts.new.kept ≡ vec_len receipts.old.kept) }
+        ensures share { OnOk result (account.new.share.amount ≡ account.old.share.amount + 1) }
+        ensures parts { account.new.share.parts ≡ account.old.share.parts }
+        ensures number { account.new.number ≡ account.old.number }
+        ensures room { IfOk result (λ r. IsSome r.ticket → IsSome account.new.receipts.room) }
+        ensures kept { SameReceipts account.old.receipts account.new.receipts }
         ensures full { IsErrAnd result (λ fault. fault.0 ≡ CountFull) ↔ (self.old.count ≡ 2 ^ 64 - 1) }
         ensures past { self.old.limit ≤ self.old.count → self.old.count < 2 ^ 64 - 1 → IsOk result }
         ensures refused { IfErr result (λ fault. (fault.1 ≡ event) × (self.new ≡ self.old)) }
-        ensures lent { OnErr result (share.new ≡ share.old) }
+        ensures lent { OnErr result (account.new.share ≡ account.old.share) }
     {
+        let Account {
+            number,
+            share,
+            receipts,
+        } = account;
         let copy = match self.noted(receipts, &event, room) {
             Ok(copy) => copy,
             Err(refused) => return Err((DeskFault::from(refused), event)),
@@ -136,7 +142,7 @@ impl<J: Naming> Book<J> {
         if let Err(fault) = self.ready(&event) {
             return Err((fault, event));
         }
-        let (answer, place) = self.take(share, seat, event, noted);
+        let (answer, place) = self.take(share, *number, event, noted);
         Ok(Answered::new(answer, place, copy))
     }
 
@@ -209,7 +215,7 @@ impl<J: Naming> Book<J> {
         ensures logged { IfOk result (λ copy. self.now.count < self.now.limit → (copy ≡ Some event.now) × IsSome receipts.new.room) }
         ensures past { self.now.limit ≤ self.now.count → result ≡ Ok None }
         ensures refused { OnErr result (self.now.count ≢ 2 ^ 64 - 1) }
-        ensures kept { (receipts.new.kept.items ≡ receipts.old.kept.items) × (vec_len receipts.new.kept ≡ vec_len receipts.old.kept) }
+        ensures kept { SameReceipts receipts.old receipts.new }
     {
         if self.is_full() {
             return Ok(None);
@@ -249,12 +255,12 @@ impl<J: Naming> Book<J> {
             calls,
             ..
         } = self;
-        let Some(Spare { event: copy, room }) = spare.take() else {
+        let Some(EntryRoom { event: copy, room }) = spare.take() else {
             unreachable!()
         };
         let answer = balancer.step_counted(event, tally, noted);
         count_call(count, calls, share);
-        log.push_reserved(Entry {
+        log.push_reserved(LogEntry {
             seat,
             event: copy,
             answer: room.copied(*alloc, &answer),
@@ -306,7 +312,7 @@ impl<J: Naming> Book<J> {
 
 impl<J: Naming> Book<J> {
     /// The log.
-    pub(crate) fn log(&self) -> &[Entry]
+    pub(crate) fn log(&self) -> &[LogEntry]
         ensures { result.now ≡ self.now.log }
     {
         self.log.as_slice()
@@ -392,8 +398,8 @@ fn count_call<J: Naming>(count: &mut u64, calls: &mut ledger::Book<J>, share: &m
     *count += 1;
 }
 
-/// Room for one more entry of a log.
-fn room_for(alloc: Global, log: &mut Vec<Entry>, event: &Event) -> Result<Spare, AllocError>
+/// AnswerRoom for one more entry of a log.
+fn room_for(alloc: Global, log: &mut Vec<LogEntry>, event: &Event) -> Result<EntryRoom, AllocError>
     ensures spare { IfOk result (λ spare. spare.event ≡ event.now) }
     ensures room { OnOk result (vec_len log.new < vec_capacity log.new) }
     ensures items { log.new.items ≡ log.old.items }
@@ -401,5 +407,5 @@ fn room_for(alloc: Global, log: &mut Vec<Entry>, event: &Event) -> Result<Spare,
     ensures capacity { vec_capacity log.old ≤ vec_capacity log.new }
 {
     log.reserve(1)?;
-    Spare::take(alloc, event)
+    EntryRoom::take(alloc, event)
 }

@@ -1,13 +1,13 @@
 //! The desk: one balancer that many threads call.
 
-ghost use Rattle.std.specs.Prelude.{All, IfErr, IfOk, IfSome, IsErrAnd, IsSome, IsTrue, OnErr, OnOk, length, map, min, sum_by, vec_len, ◌++◌, ◌+◌, ◌-◌, ◌<◌, ◌==◌, ◌^◌, ◌⊎◌, ◌∷◌, ◌≡◌, ◌↔◌, ◌≤◌, ℕ, []};
+ghost use Rattle.std.specs.Prelude.{All, IfErr, IfOk, IfSome, IsErrAnd, IsSome, IsTrue, OnErr, OnOk, length, map, min, sum_by, vec_len, ◌+◌, ◌-◌, ◌<◌, ◌==◌, ◌^◌, ◌≡◌, ◌↔◌, ◌≤◌, []};
 ghost use Rattle.std.specs.List.{list_any, range_with_len};
-ghost use Rattle.lb_core.specs.Plain.{Plain as State};
-ghost use Rattle.lb_core.specs.Snapshot.{snapshot_of};
-ghost use Rattle.lb_core.specs.Step.{Answers};
+ghost use Rattle.lb_step.specs.Plain.{Plain as State};
+ghost use Rattle.lb_step.specs.Snapshot.{snapshot_of};
+ghost use Rattle.lb_step.specs.Step.{Answers};
 ghost use Rattle.lb_desk.specs.Book.{Booked, Counted, Keeps};
-ghost use Rattle.lb_desk.specs.Entry.{TellsCaches, TellsHits, receipt, receipts_of};
-ghost use Rattle.lb_desk.specs.Desk.{IsStep, OnceReturnsAtBoth};
+ghost use Rattle.lb_desk.specs.Entry.{TellsCaches, TellsHits, receipts_of};
+ghost use Rattle.lb_desk.specs.Desk.{IsStep, OnceReturnsAtBoth, ReceiptsAfter, SameReceipts};
 ghost use Rattle.lb_desk.specs.Seat.{AreAll};
 ghost use Rattle.lb_desk.specs.declared.fault.CloseFault.TheVariants.{MissingSeat};
 ghost use Rattle.lb_desk.specs.declared.fault.DeskFault.TheVariants.{CountFull};
@@ -18,7 +18,7 @@ use crate::book::{Answered, Book, Receipts};
 use crate::entry::SeatId;
 use crate::fault::{CloseFault, DeskFault};
 use crate::naming::{Naming, Parted};
-use crate::seat::Seat;
+use crate::seat::{Account, Seat};
 use lb_cache::Swept;
 use lb_core::{
     Answer, Balancer, Event, Noted, Plain, Tally, cached_answers_are_kept_replies,
@@ -38,6 +38,15 @@ const PAUSES: u32 = 4;
 
 /// Of so many replies a sweep gives the memory back: it holds the lock for some 0.3 ms.
 const MOST_SWEPT: usize = 64;
+
+/// What a call knows before the lock.
+#[derive(Drop)]
+struct BeforeLock<'a, R> {
+    /// What the caller's thread waits by.
+    rt: &'a R,
+    /// Whether the log is said to be full: a hint, on which no answer depends.
+    is_full: bool,
+}
 
 /// A balancer that many threads call, each by a seat of its own. Each call is one step of the
 /// balancer, one after the other.
@@ -114,7 +123,7 @@ impl<J: Naming> Desk<J> {
     ) -> Result<Answer, (DeskFault, Event)>
         ensures number { seat.new.number ≡ seat.old.number }
         ensures calls { OnOk result (seat.new.calls ≡ seat.old.calls + 1) }
-        ensures receipts { IfOk result (λ answer. (seat.new.receipts ≡ seat.old.receipts) ⊎ ((place : ℕ) × (place < J.limit) × (seat.new.receipts ≡ seat.old.receipts ++ receipt place event answer ∷ []))) }
+        ensures receipts { IfOk result (λ answer. ReceiptsAfter J.limit event answer seat.old.receipts seat.new.receipts) }
         ensures full { seat.old.calls ≡ 2 ^ 64 - 1 → IsErrAnd result (λ fault. fault.0 ≡ CountFull) }
         ensures back { IfErr result (λ fault. fault.1 ≡ event) }
         ensures same { OnErr result (seat.new ≡ seat.old) }
@@ -134,7 +143,7 @@ impl<J: Naming> Desk<J> {
     ) -> Result<Answer, (DeskFault, Event)>
         ensures number { seat.new.number ≡ seat.old.number }
         ensures calls { OnOk result (seat.new.calls ≡ seat.old.calls + 1) }
-        ensures receipts { IfOk result (λ answer. (seat.new.receipts ≡ seat.old.receipts) ⊎ ((place : ℕ) × (place < J.limit) × (seat.new.receipts ≡ seat.old.receipts ++ receipt place event answer ∷ []))) }
+        ensures receipts { IfOk result (λ answer. ReceiptsAfter J.limit event answer seat.old.receipts seat.new.receipts) }
         ensures noted { IfOk result (λ answer. IsStep event answer noted.new) }
         ensures full { seat.old.calls ≡ 2 ^ 64 - 1 → IsErrAnd result (λ fault. fault.0 ≡ CountFull) }
         ensures back { IfErr result (λ fault. fault.1 ≡ event) }
@@ -156,7 +165,7 @@ impl<J: Naming> Desk<J> {
         requires { F.IsAlwaysCallable reader }
         ensures number { seat.new.number ≡ seat.old.number }
         ensures calls { OnOk result (seat.new.calls ≡ seat.old.calls + 1) }
-        ensures receipts { IfOk result (λ r. (seat.new.receipts ≡ seat.old.receipts) ⊎ ((place : ℕ) × (place < J.limit) × (seat.new.receipts ≡ seat.old.receipts ++ receipt place event r.0 ∷ []))) }
+        ensures receipts { IfOk result (λ r. ReceiptsAfter J.limit event r.0 seat.old.receipts seat.new.receipts) }
         ensures noted { IfOk result (λ r. IsStep event r.0 noted.new) }
         ensures read { IfOk result (λ r. (old new : State) × Answers old event r.0 new × OnceReturnsAtBoth F.FnOnce reader new r.0 r.1) }
         ensures full { seat.old.calls ≡ 2 ^ 64 - 1 → IsErrAnd result (λ fault. fault.0 ≡ CountFull) }
@@ -164,7 +173,7 @@ impl<J: Naming> Desk<J> {
         ensures same { OnErr result (seat.new ≡ seat.old) }
     {
         let is_full = self.is_full.load(Ordering::SeqCst);
-        self.called_with_room(rt, seat, event, is_full, noted, reader)
+        self.called_with_room(BeforeLock { rt, is_full }, seat, event, noted, reader)
     }
 
     /// The same call, by the caller's own hint whether the log is full. No answer depends on it: it
@@ -180,7 +189,7 @@ impl<J: Naming> Desk<J> {
     ) -> Result<Answer, (DeskFault, Event)>
         ensures number { seat.new.number ≡ seat.old.number }
         ensures calls { OnOk result (seat.new.calls ≡ seat.old.calls + 1) }
-        ensures receipts { IfOk result (λ answer. (seat.new.receipts ≡ seat.old.receipts) ⊎ ((place : ℕ) × (place < J.limit) × (seat.new.receipts ≡ seat.old.receipts ++ receipt place event answer ∷ []))) }
+        ensures receipts { IfOk result (λ answer. ReceiptsAfter J.limit event answer seat.old.receipts seat.new.receipts) }
         ensures full { seat.old.calls ≡ 2 ^ 64 - 1 → IsErrAnd result (λ fault. fault.0 ≡ CountFull) }
         ensures back { IfErr result (λ fault. fault.1 ≡ event) }
         ensures same { OnErr result (seat.new ≡ seat.old) }
@@ -203,21 +212,22 @@ impl<J: Naming> Desk<J> {
     ) -> Result<Answer, (DeskFault, Event)>
         ensures number { seat.new.number ≡ seat.old.number }
         ensures calls { OnOk result (seat.new.calls ≡ seat.old.calls + 1) }
-        ensures receipts { IfOk result (λ answer. (seat.new.receipts ≡ seat.old.receipts) ⊎ ((place : ℕ) × (place < J.limit) × (seat.new.receipts ≡ seat.old.receipts ++ receipt place event answer ∷ []))) }
+        ensures receipts { IfOk result (λ answer. ReceiptsAfter J.limit event answer seat.old.receipts seat.new.receipts) }
         ensures noted { IfOk result (λ answer. IsStep event answer noted.new) }
         ensures full { seat.old.calls ≡ 2 ^ 64 - 1 → IsErrAnd result (λ fault. fault.0 ≡ CountFull) }
         ensures back { IfErr result (λ fault. fault.1 ≡ event) }
         ensures same { OnErr result (seat.new ≡ seat.old) }
     {
-        if is_full && seat.calls < u64::MAX && !seat.receipts.has_room() {
+        if is_full && seat.calls < u64::MAX && !seat.account.receipts.has_room() {
             let mut guard = self.entered(rt);
             let book = &mut *guard;
             if book.is_past() {
                 seat.calls += 1;
-                return Ok(book.take_past(&mut seat.share, event, noted));
+                return Ok(book.take_past(&mut seat.account.share, event, noted));
             }
         }
-        match self.called_with_room(rt, seat, event, is_full, noted, |_balancer, _answer| ()) {
+        let before = BeforeLock { rt, is_full };
+        match self.called_with_room(before, seat, event, noted, |_balancer, _answer| ()) {
             Ok((answer, ())) => Ok(answer),
             Err(back) => Err(back),
         }
@@ -228,69 +238,60 @@ impl<J: Naming> Desk<J> {
     #[inline(never)]
     fn called_with_room<R: Wait, T, F: FnOnce(&Balancer, &Answer) -> T>(
         &self,
-        rt: &R,
+        before: BeforeLock<'_, R>,
         seat: &mut Seat<J>,
         event: Event,
-        is_full: bool,
         noted: &mut Noted,
         reader: F,
     ) -> Result<(Answer, T), (DeskFault, Event)>
         requires { F.IsAlwaysCallable reader }
         ensures number { seat.new.number ≡ seat.old.number }
         ensures calls { OnOk result (seat.new.calls ≡ seat.old.calls + 1) }
-        ensures receipts { IfOk result (λ r. (seat.new.receipts ≡ seat.old.receipts) ⊎ ((place : ℕ) × (place < J.limit) × (seat.new.receipts ≡ seat.old.receipts ++ receipt place event r.0 ∷ []))) }
+        ensures receipts { IfOk result (λ r. ReceiptsAfter J.limit event r.0 seat.old.receipts seat.new.receipts) }
         ensures noted { IfOk result (λ r. IsStep event r.0 noted.new) }
         ensures read { IfOk result (λ r. (old new : State) × Answers old event r.0 new × OnceReturnsAtBoth F.FnOnce reader new r.0 r.1) }
         ensures full { seat.old.calls ≡ 2 ^ 64 - 1 → IsErrAnd result (λ fault. fault.0 ≡ CountFull) }
         ensures back { IfErr result (λ fault. fault.1 ≡ event) }
         ensures same { OnErr result (seat.new ≡ seat.old) }
     {
-        let Seat {
-            number,
-            share,
-            calls,
-            receipts,
-        } = seat;
+        let Seat { account, calls, .. } = seat;
         if *calls == u64::MAX {
             return Err((DeskFault::CountFull, event));
         }
-        let room = prepared(receipts, self.alloc, is_full);
-        let (answered, made) = self.answered(
-            rt, share, *number, event, receipts, room, noted, reader,
-        )?;
+        let (answered, made) = self.answered(before, account, event, noted, reader)?;
         *calls += 1;
-        Ok((receipts.keep(self.alloc, answered), made))
+        Ok((account.receipts.keep(self.alloc, answered), made))
     }
 
-    /// What a call does under the lock. The call that fills the log says so to those that follow.
+    /// What a call does at the book: room for its receipt is taken, and the rest is done under the
+    /// lock. The call that fills the log says so to those that follow.
     #[inline(always)]
     fn answered<R: Wait, T, F: FnOnce(&Balancer, &Answer) -> T>(
         &self,
-        rt: &R,
-        share: &mut Share<J>,
-        number: SeatId,
+        before: BeforeLock<'_, R>,
+        account: &mut Account<J>,
         event: Event,
-        receipts: &mut Receipts,
-        room: Result<(), AllocError>,
         noted: &mut Noted,
         reader: F,
     ) -> Result<(Answered, T), (DeskFault, Event)>
         requires reader { F.IsAlwaysCallable reader }
-        requires part { 0 < share.old.parts }
-        requires seat { number.0 < J.seats }
+        requires part { 0 < account.old.share.parts }
+        requires seat { account.old.number.0 < J.seats }
         ensures noted { IfOk result (λ r. IsStep event r.0.answer noted.new) }
         ensures read { IfOk result (λ r. (old new : State) × Answers old event r.0.answer new × OnceReturnsAtBoth F.FnOnce reader new r.0.answer r.1) }
-        ensures share { OnOk result (share.new.amount ≡ share.old.amount + 1) }
-        ensures parts { share.new.parts ≡ share.old.parts }
+        ensures share { OnOk result (account.new.share.amount ≡ account.old.share.amount + 1) }
+        ensures parts { account.new.share.parts ≡ account.old.share.parts }
+        ensures number { account.new.number ≡ account.old.number }
         ensures ticket { IfOk result (λ r. IfSome r.0.ticket (λ ticket. (ticket.place < J.limit) × (ticket.event ≡ event))) }
-        ensures room { IfOk result (λ r. IsSome r.0.ticket → IsSome receipts.new.room) }
-        ensures kept { (receipts.new.kept.items ≡ receipts.old.kept.items) × (vec_len receipts.new.kept ≡ vec_len receipts.old.kept) }
+        ensures room { IfOk result (λ r. IsSome r.0.ticket → IsSome account.new.receipts.room) }
+        ensures kept { SameReceipts account.old.receipts account.new.receipts }
         ensures back { IfErr result (λ fault. fault.1 ≡ event) }
-        ensures same { OnErr result (share.new ≡ share.old) }
+        ensures same { OnErr result (account.new.share ≡ account.old.share) }
     {
-        let mut guard = self.entered(rt);
+        let room = prepared(&mut account.receipts, self.alloc, before.is_full);
+        let mut guard = self.entered(before.rt);
         let book = &mut *guard;
-        let answered = book.answer(share, number, event, receipts, room, noted)?;
+        let answered = book.answer(account, event, room, noted)?;
         if book.is_full() && answered.is_logged() {
             self.is_full.store(true, Ordering::SeqCst);
         }
@@ -359,7 +360,7 @@ impl<J: Naming> Desk<J> {
 /// Takes room for a receipt before the lock, unless the log is said to be full.
 #[inline(always)]
 fn prepared(receipts: &mut Receipts, alloc: Global, is_full: bool) -> Result<(), AllocError>
-    ensures { (receipts.new.kept.items ≡ receipts.old.kept.items) × (vec_len receipts.new.kept ≡ vec_len receipts.old.kept) }
+    ensures { SameReceipts receipts.old receipts.new }
 {
     if is_full {
         return Ok(());
@@ -444,10 +445,12 @@ fn gathered<J: Naming>(mut seats: Vec<Seat<J>>) -> Share<J>
     ensures apart { vec_len seats ≤ J.parts }
     ensures amount { result.amount ≡ sum_by (λ s. s.calls) seats.items }
 {
-    let Some(Seat { share: mut all, .. }) = seats.pop() else {
+    let Some(Seat { account, .. }) = seats.pop() else {
         unreachable!()
     };
-    while let Some(Seat { share, .. }) = seats.pop() {
+    let Account { share: mut all, .. } = account;
+    while let Some(Seat { account, .. }) = seats.pop() {
+        let Account { share, .. } = account;
         all.merge(share);
     }
     all

@@ -8,7 +8,7 @@ pub struct SeatId(pub u8);
 
 /// A call that was answered, as the log has it.
 #[derive(Debug, Drop)]
-pub struct Entry {
+pub struct LogEntry {
     pub seat: SeatId,
     pub event: Event,
     pub answer: Answer,

@@ -1,8 +1,8 @@
 //! Which desk a book, a seat or a desk is of.
 
 ghost use Rattle.std.specs.Prelude.{ℕ, ◌<◌, ◌≡◌};
-ghost use Rattle.lb_core.specs.Plain.{empty};
-ghost use Rattle.lb_core.specs.Snapshot.{Snapshot, snapshot_of};
+ghost use Rattle.lb_step.specs.Plain.{empty};
+ghost use Rattle.lb_step.specs.Snapshot.{Snapshot, snapshot_of};
 
 use std::marker::{Brand, PhantomData};
 use std::sync::ledger::Ledger;

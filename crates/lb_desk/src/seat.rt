@@ -9,18 +9,25 @@ use std::alloc::Global;
 use std::marker::Model;
 use std::sync::ledger::Share;
 
-/// The right of one caller to call a desk. A contract sees its number at the desk, how many of its calls were answered, and its
-/// receipts: those of its calls that the log has, in order.
+/// A caller's account at the book: all that a call changes there for its caller. It is the number
+/// of the caller's seat, its share in the count of calls, and its receipts.
 #[derive(Drop)]
-pub struct Seat<J: Naming> {
+pub struct Account<J: Naming> {
     pub(crate) number: SeatId,
     pub(crate) share: Share<J>,
-    pub(crate) calls: u64,
     pub(crate) receipts: Receipts,
-    ghost part: { share.parts ≡ 1 },
-    ghost counted: { share.amount ≡ calls },
-    ghost seated: { number.0 < J.seats },
-    ghost fewer: { vec_len receipts.kept ≤ calls },
+}
+
+/// The right of one caller to call a desk. A contract sees its number at the desk, how many of its
+/// calls were answered, and its receipts: those of its calls that the log has, in order.
+#[derive(Drop)]
+pub struct Seat<J: Naming> {
+    pub(crate) account: Account<J>,
+    pub(crate) calls: u64,
+    ghost part: { account.share.parts ≡ 1 },
+    ghost counted: { account.share.amount ≡ calls },
+    ghost seated: { account.number.0 < J.seats },
+    ghost fewer: { vec_len account.receipts.kept ≤ calls },
 }
 
 impl<J: Naming> Model for Seat<J> {
@@ -33,7 +40,7 @@ impl<J: Naming> Model for Seat<J> {
 
     ghost coded = { Prim.hlevel (codes, contract.the_row.coded) };
 
-    ghost view = { λ s. record { number = s.number; calls = s.calls; receipts = s.receipts.kept.items } };
+    ghost view = { λ s. record { number = s.account.number; calls = s.calls; receipts = s.account.receipts.kept.items } };
 }
 
 impl<J: Naming> Seat<J> {
@@ -43,12 +50,12 @@ impl<J: Naming> Seat<J> {
         requires seat { number.0 < J.seats }
         ensures { result ≡ record { number = number; calls = 0; receipts = [] } }
     {
-        Seat {
+        let account = Account {
             number,
             share,
-            calls: 0,
             receipts: Receipts::new(alloc),
-        }
+        };
+        Seat { account, calls: 0 }
     }
 
     /// A law: it has no more receipts than calls. It does nothing.
@@ -56,14 +63,14 @@ impl<J: Naming> Seat<J> {
         ensures { length self.now.receipts ≤ self.now.calls }
     {
         // Read, so that what the seat keeps true is at hand.
-        let _ = self.receipts.kept.len();
+        let _ = self.account.receipts.kept.len();
     }
 
     /// Its number at the desk.
     pub fn number(&self) -> SeatId
         ensures { result ≡ self.now.number }
     {
-        self.number
+        self.account.number
     }
 
     /// How many of its calls were answered.
@@ -77,6 +84,6 @@ impl<J: Naming> Seat<J> {
     pub fn receipts(&self) -> &[Receipt]
         ensures { result.now ≡ self.now.receipts }
     {
-        self.receipts.kept.as_slice()
+        self.account.receipts.kept.as_slice()
     }
 }

@@ -1,4 +1,4 @@
-//! Room for the copies of a call, taken before it.
+//! AnswerRoom for the copies of a call, taken before it.
 
 ghost use Rattle.std.specs.Prelude.{IfOk, vec_capacity, vec_len, ◌≡◌, ◌≤◌};
 ghost use Rattle.lb_wire.specs.Octets.{max_message};
@@ -7,18 +7,18 @@ use lb_core::{Answer, Event};
 use lb_wire::MAX_MESSAGE;
 use std::alloc::{AllocError, Global};
 
-/// Room for the octets of any answer.
+/// AnswerRoom for the octets of any answer.
 #[derive(Debug, Drop)]
-pub(crate) struct Room {
+pub(crate) struct AnswerRoom {
     octets: Vec<u8>,
     ghost empty: { vec_len octets ≡ 0 },
     ghost enough: { max_message ≤ vec_capacity octets },
 }
 
-impl Room {
+impl AnswerRoom {
     /// Takes the room. The one error is want of memory.
-    pub(crate) fn take(alloc: Global) -> Result<Room, AllocError> {
-        Ok(Room {
+    pub(crate) fn take(alloc: Global) -> Result<AnswerRoom, AllocError> {
+        Ok(AnswerRoom {
             octets: Vec::with_capacity(alloc, MAX_MESSAGE)?,
         })
     }
@@ -28,7 +28,7 @@ impl Room {
     pub(crate) fn copied(self, alloc: Global, answer: &Answer) -> Answer
         ensures { result ≡ answer.now }
     {
-        let Room { octets } = self;
+        let AnswerRoom { octets } = self;
         match answer.copy(alloc) {
             Ok(copy) => copy,
             Err(refused) => answer.copy_into(octets, refused),
@@ -38,19 +38,19 @@ impl Room {
 
 /// A copy of an event, and room for a copy of its answer.
 #[derive(Debug, Drop)]
-pub(crate) struct Spare {
+pub(crate) struct EntryRoom {
     pub(crate) event: Event,
-    pub(crate) room: Room,
+    pub(crate) room: AnswerRoom,
 }
 
-impl Spare {
+impl EntryRoom {
     /// Takes the room of a call. The one error is want of memory.
-    pub(crate) fn take(alloc: Global, event: &Event) -> Result<Spare, AllocError>
+    pub(crate) fn take(alloc: Global, event: &Event) -> Result<EntryRoom, AllocError>
         ensures { IfOk result (λ spare. spare.event ≡ event.now) }
     {
-        Ok(Spare {
+        Ok(EntryRoom {
             event: event.copy(alloc)?,
-            room: Room::take(alloc)?,
+            room: AnswerRoom::take(alloc)?,
         })
     }
 }

@@ -1,9 +1,9 @@
 -- What the front's part of the desk tells, and what a request's question does to it.
 use Rattle.std.specs.Prelude.{◌≡◌, ℕ, ◌+◌, ◌-◌, ◌^◌, ◌⊎◌, min, List, [], ◌∷◌, ◌++◌, Option, None, Some}
 use Rattle.lb_wire.specs.declared.addr.Origin.{Origin}
-use Rattle.lb_core.specs.declared.answer.Answer.{Answer}
-use Rattle.lb_core.specs.declared.answer.Answer.TheVariants.{Forward}
-use Rattle.lb_core.specs.declared.event.Event.{Event}
+use Rattle.lb_step.specs.declared.answer.Answer.{Answer}
+use Rattle.lb_step.specs.declared.answer.Answer.TheVariants.{Forward}
+use Rattle.lb_step.specs.declared.event.Event.{Event}
 use Rattle.lb_http.specs.Response.{bare}
 use Rattle.lb_http.specs.declared.response.DohResponse.{DohResponse}
 use Rattle.lb_lines.specs.Counts.{Fails, Grows}

@@ -2,10 +2,10 @@
 use Rattle.std.specs.Prelude.{◌≡◌, ℕ, List}
 use Rattle.lb_wire.specs.declared.addr.Origin.{Origin}
 use Rattle.lb_wire.specs.declared.transport.Kind.TheVariants.{Stream}
-use Rattle.lb_core.specs.declared.answer.Answer.{Answer}
-use Rattle.lb_core.specs.declared.answer.Answer.TheVariants.{Dropped, Local, Forward, Deliver, Expired, Quiet, Ignored, Edited, Refused, NoMemory}
-use Rattle.lb_core.specs.declared.event.Event.{Event}
-use Rattle.lb_core.specs.declared.event.Event.TheVariants.{Query}
+use Rattle.lb_step.specs.declared.answer.Answer.{Answer}
+use Rattle.lb_step.specs.declared.answer.Answer.TheVariants.{Dropped, Local, Forward, Deliver, Expired, Quiet, Ignored, Edited, Refused, NoMemory}
+use Rattle.lb_step.specs.declared.event.Event.{Event}
+use Rattle.lb_step.specs.declared.event.Event.TheVariants.{Query}
 use Rattle.lb_http.specs.Response.{Responds, bare}
 use Rattle.lb_http.specs.declared.response.DohResponse.{DohResponse}
 use Rattle.lb_lines.specs.Stamps.{Stamp}

@@ -1,5 +1,5 @@
-//! DNS on HTTP at the desk: the requests that wait, the answers that are handed to them, and what comes of a request's query. It knows no
-//! library of HTTP.
+//! DNS on HTTP at the desk: the requests that wait, the answers that are handed to them, and what
+//! comes of a request's query. It knows no library of HTTP.
 #![tactic(auto)]
 
 mod asking;
@@ -14,8 +14,8 @@ pub use asking::Asker;
 pub use fault::EnterFault;
 pub use laws::posts_cross_threads;
 pub use lb_http::{
-    DohBody, DohFault, DohResponse, carrying, one_outcome, read_request, refused, response_of,
-    unavailable,
+    DohBody, DohFault, DohHead, DohResponse, carrying, one_outcome, read_body, read_head,
+    read_request, refused, response_of, unavailable,
 };
 pub use next::{Next, next_of, query_of};
 pub use posts::{Bringer, HttpPosts, Requests};

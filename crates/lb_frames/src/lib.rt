@@ -10,5 +10,5 @@ mod outgoing;
 pub use framer::{Framer, frame};
 pub use incoming::Incoming;
 pub use laws::{cuts_do_not_matter, one_division};
-pub use message::Message;
+pub use message::{LENGTH, Message};
 pub use outgoing::Outgoing;

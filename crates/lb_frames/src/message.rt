@@ -9,8 +9,8 @@ use lb_wire::Octets;
 /// A message of a stream, without its length.
 pub type Message = Octets;
 
-/// How many octets tell a message's length.
-pub(crate) const LENGTH: usize = 2;
+/// How many octets a message's length has (RFC 7766 section 8).
+pub const LENGTH: usize = 2;
 
 /// Where the whole message ends whose length begins at a place; None where no whole one is there.
 #[tactic(auto, using(crate::proofs::Parts::none_short, crate::proofs::Parts::none_cut, crate::proofs::Parts::whole_there, crate::proofs::Parts::length_between))]

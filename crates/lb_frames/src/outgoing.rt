@@ -4,12 +4,10 @@ ghost use Rattle.std.specs.Prelude.{[], OnErr, OnOk, drop, length, ◌++◌, ◌
 ghost use Rattle.lb_frames.specs.Frames.{framed};
 ghost use Rattle.lb_wire.specs.Octets.{max_message};
 
+use crate::message::LENGTH;
 use bytes::BytesMut;
 use std::alloc::{AllocError, Global};
 use std::marker::Model;
-
-/// How many octets tell a message's length.
-const LENGTH: usize = 2;
 
 /// How many octets of room are kept while nothing waits: a client that once took a megabyte does not hold
 /// it for as long as it is connected.

@@ -13,7 +13,8 @@ use Rattle.http_body_util.specs.declared.limited.LimitedError.{LimitedError}
 use Rattle.lb_wire.specs.Octets.{max_message}
 use Rattle.lb_http.specs.declared.fault.DohFault.{DohFault}
 use Rattle.lb_front.specs.Answering.{Comes, FromAnswer, FromMessage, HasAtLeast, IsAskedFor, IsBehindBody, IsSaidUnder, IsUnanswered, Outcome, ReadsOctets}
-use Rattle.lb_front.specs.Heads.{ReadsBody}
+use Rattle.lb_http.specs.Request.{ReadsBody}
+use Rattle.lb_http.specs.declared.request.DohBody.TheVariants.{Whole}
 use Rattle.lb_front.specs.declared.answering.Asked.{Asked}
 use Rattle.lb_front.specs.declared.answering.Asked.TheVariants as asked
 use Rattle.lb_front.specs.declared.cut.Cut.{Cut}
@@ -59,9 +60,9 @@ comes body collected octets (Ok read) is same reads cut = rw is (subst (λ o. Re
 comes body collected octets (Err cut) is same reads none = rw is none
 
 -- the octets of a body that is short enough, by a copy of them
-pub reads_short : (octets copy : List ℕ) (read : Result (List ℕ) DohFault) → length octets ≤ max_message → copy ≡ octets → ReadsBody copy read
+pub reads_short : (octets copy : List ℕ) (read : Result (List ℕ) DohFault) → length octets ≤ max_message → copy ≡ octets → ReadsBody (Whole copy) read
     → ReadsOctets octets read
-reads_short octets copy read short same reads = (λ long. absurd (omega arith), λ _. subst (λ o. ReadsBody o read) same reads)
+reads_short octets copy read short same reads = (λ long. absurd (omega arith), λ _. subst (λ o. ReadsBody (Whole o) read) same reads)
 
 module _ {R : Type 0} where
   -- what was said to a request that waits

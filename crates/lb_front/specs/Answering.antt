@@ -14,7 +14,8 @@ use Rattle.lb_http.specs.declared.fault.DohFault.{DohFault}
 use Rattle.lb_http.specs.declared.fault.DohFault.TheVariants as faults
 use Rattle.lb_http.specs.declared.response.DohResponse.{DohResponse}
 use Rattle.lb_doh.specs.Asking.{Asking, Asks}
-use Rattle.lb_front.specs.Heads.{ReadsBody}
+use Rattle.lb_http.specs.Request.{ReadsBody}
+use Rattle.lb_http.specs.declared.request.DohBody.TheVariants.{Whole}
 use Rattle.lb_front.specs.Response.{IsBuilt, IsUnbuilt}
 use Rattle.lb_front.specs.declared.answering.Asked.{Asked}
 use Rattle.lb_front.specs.declared.answering.Asked.TheVariants as asked
@@ -37,7 +38,7 @@ Responds response (Err cut) = IsUnbuilt cut
 
 -- what the octets of a body are read as: those of a POST, which has 65,535 at most
 abbrev pub ReadsOctets : List ℕ → Result (List ℕ) DohFault → Type 0
-ReadsOctets octets read = (max_message < length octets → read ≡ Err faults.TooLong) × (length octets ≤ max_message → ReadsBody octets read)
+ReadsOctets octets read = (max_message < length octets → read ≡ Err faults.TooLong) × (length octets ≤ max_message → ReadsBody (Whole octets) read)
 
 module _ {E : Type 0} where
   -- what comes of a body: what it is read as; where it did not come whole, the connection ends, as it may for want of memory

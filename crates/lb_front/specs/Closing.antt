@@ -1,12 +1,17 @@
 -- How a response says that its connection closes after it (RFC 9112 section 9.6).
-use Rattle.std.specs.Prelude.{◌≡◌, ℕ, ◌==◌, List, Bool, true, false, not, codes, Option, None, Some, Ok, Err}
+use Rattle.std.specs.Prelude.{◌≡◌, ℕ, ◌==◌, List, Bool, true, false, not, codes, Option, None, Some, Result, Ok, Err}
 use Rattle.http.specs.Response.{body_of, head_of}
+use Rattle.http.specs.declared.request.Request.{Request}
 use Rattle.http.specs.declared.response.Response.{Response}
 use Rattle.http_body_util.specs.declared.full.Full.{Full}
 use Rattle.http_header.specs.FieldValue.{plain_value}
 use Rattle.http_header.specs.HeaderMap.{append}
-use Rattle.lb_front.specs.Answering.{Outcome}
+use Rattle.lb_http.specs.declared.fault.DohFault.{DohFault}
+use Rattle.lb_http.specs.declared.request.DohHead.{DohHead}
+use Rattle.lb_front.specs.Answering.{HasAtLeast, Outcome, StandsAt}
+use Rattle.lb_front.specs.Heads.{Begins, ReadsHead}
 use Rattle.lb_front.specs.Response.{IsUnbuilt}
+use Rattle.lb_front.specs.declared.answering.Stage.{Stage}
 use Rattle.lb_front.specs.declared.heads.First.{First}
 use Rattle.lb_front.specs.declared.heads.First.TheVariants as firsts
 
@@ -35,3 +40,11 @@ ClosesBy false inner outcome = outcome ≡ inner
 ClosesBy true (Err cut) outcome = outcome ≡ Err cut
 ClosesBy true (Ok response) (Ok closing) = SaysClose response closing
 ClosesBy true (Ok response) (Err cut) = IsUnbuilt cut
+
+module _ {X R : Type 0} where
+  -- how the answering of a request begins, of whose body so many octets are left, if that is known: at the stage that its head and the least
+  -- size of its body give; and its connection closes after the response if the body is left unread
+  abbrev pub BeginsRequest : Request X → Option ℕ → Stage R → Bool → Type 0
+  BeginsRequest request left stage closes =
+      (least : ℕ) × HasAtLeast left least × (read : Result DohHead DohFault) × (first : First)
+      × ReadsHead request read × Begins read least first × StandsAt first stage × (closes ≡ leaves_body left first)

@@ -6,15 +6,13 @@ ghost use Rattle.futures.specs.Task.{Covers, Keeps};
 ghost use Rattle.http.specs.Request.{body_of};
 ghost use Rattle.hyper.specs.Incoming.{size_left};
 ghost use Rattle.lb_http.specs.declared.fault.DohFault.{DohFault};
-ghost use Rattle.lb_front.specs.Answering.{Comes, FromAnswer, FromBody, FromMessage, FromRead, Gives, GivesBody, HasAtLeast, IsAskedFor, IsBody, IsSaidUnder, IsUnasked, ReadsOctets, Says, StandsAt, lost_in, origin_of};
-ghost use Rattle.lb_front.specs.Closing.{leaves_body};
-ghost use Rattle.lb_front.specs.Heads.{Begins, ReadsHead};
+ghost use Rattle.lb_front.specs.Answering.{Comes, FromAnswer, FromBody, FromMessage, FromRead, Gives, GivesBody, IsAskedFor, IsBody, IsSaidUnder, IsUnasked, ReadsOctets, Says, StandsAt, lost_in, origin_of};
+ghost use Rattle.lb_front.specs.Closing.{BeginsRequest};
 ghost use Rattle.lb_front.specs.declared.cut.Cut.TheVariants as cuts;
-ghost use Rattle.lb_front.specs.declared.heads.First.{First};
 
 use crate::closing::{Closing, leaves_body};
 use crate::cut::Cut;
-use crate::heads::{Client, First, first_of, read_body};
+use crate::heads::{Client, First, first_of};
 use crate::late::{is_over, seconds_from_now};
 use crate::response::{HttpResponse, built};
 use crate::shared::Shared;
@@ -26,7 +24,10 @@ use http_body_util::combinators::Collect;
 use http_body_util::{BodyExt, Collected, Limited, LimitedError};
 use hyper::body::Incoming;
 use hyper::service::Service;
-use lb_doh::{Asker, Brought, DohFault, DohResponse, Ticket, carrying, refused, unavailable};
+use lb_doh::{
+    Asker, Brought, DohBody, DohFault, DohResponse, Ticket, carrying, read_body, refused,
+    unavailable,
+};
 use lb_lines::{Outside, Taker, Waker};
 use lb_wire::{MAX_MESSAGE, Octets};
 use std::alloc::Global;
@@ -98,8 +99,7 @@ where
 
     ghost calls = { λ front request closing.
         (closing.answering.client ≡ front.client)
-        × ((least : ℕ) × HasAtLeast (size_left (body_of request).kind) least × (read : Result (List ℕ) DohFault) × (first : First) × ReadsHead request read × Begins read least first × StandsAt first closing.answering.stage
-        × (closing.closes ≡ leaves_body (size_left (body_of request).kind) first)) };
+        × BeginsRequest request (size_left (body_of request).kind) closing.answering.stage closing.closes };
 
     fn call(&self, request: Request<Incoming<I>>) -> Self::Future {
         let size = request.body().size_hint();
@@ -173,7 +173,7 @@ impl<R: Wait + Clock + Copy + Drop, T: Taker, O: Outside, W: Waker, F> Answering
             return Ok(Err(DohFault::TooLong));
         }
         let octets = Octets::from_vec(Vec::from_slice(self.alloc, bytes)?);
-        Ok(read_body(self.alloc, octets))
+        Ok(read_body(DohBody::Whole(octets)))
     }
 
     /// Asks the desk. The request stands among those that wait before its message goes there.

@@ -3,11 +3,12 @@
 ghost use Rattle.std.specs.Prelude.{Result, List, ℕ, ◌≡◌};
 ghost use Rattle.std.specs.Net.Socket.{socket_port};
 ghost use Rattle.http.specs.Request.{head_of};
-ghost use Rattle.lb_front.specs.Heads.{Begins, IsMedia, ReadsBody, ReadsHead, source_of};
+ghost use Rattle.lb_front.specs.Heads.{Begins, IsMedia, ReadsHead, source_of};
 ghost use Rattle.lb_http.specs.declared.fault.DohFault.{DohFault};
+ghost use Rattle.lb_http.specs.declared.request.DohHead.{DohHead};
 
 use http::{Request, header};
-use lb_doh::{DohBody, DohFault, read_request};
+use lb_doh::{DohFault, DohHead, read_head};
 use lb_wire::{Addr, MAX_MESSAGE, Octets, Origin};
 use std::alloc::Global;
 use std::net::SocketAddr;
@@ -62,55 +63,37 @@ pub(crate) enum First {
 
 /// What there is to do first, for a request whose body has at least so many octets.
 pub(crate) fn first_of<B>(alloc: Global, request: &Request<B>, least: u64) -> First
-    ensures { (read : Result (List ℕ) DohFault) × ReadsHead request.now read × Begins read least result }
+    ensures { (read : Result DohHead DohFault) × ReadsHead request.now read × Begins read least result }
 {
-    begun(read_head(alloc, request), least)
+    begun(read_head_of(alloc, request), least)
 }
 
 /// What there is to do, by what the head is read as.
-fn begun(read: Result<Octets, DohFault>, least: u64) -> First
+fn begun(read: Result<DohHead, DohFault>, least: u64) -> First
     ensures { Begins read least result }
 {
     match read {
-        Ok(message) => First::Message(message),
-        // All that comes before the length of the body is in order.
-        Err(DohFault::TooLong) if least <= MAX_MESSAGE as u64 => First::Body,
+        Ok(DohHead::Message(message)) => First::Message(message),
+        Ok(DohHead::Body) if least <= MAX_MESSAGE as u64 => First::Body,
+        Ok(DohHead::Body) => First::Refused(DohFault::TooLong),
         Err(fault) => First::Refused(fault),
     }
 }
 
-/// What a request is read as by its head, as if its body were too long.
-fn read_head<B>(alloc: Global, request: &Request<B>) -> Result<Octets, DohFault>
+/// What the head of a request is read as.
+fn read_head_of<B>(alloc: Global, request: &Request<B>) -> Result<DohHead, DohFault>
     ensures { ReadsHead request.now result }
 {
-    let message = read_request(
+    read_head(
         alloc,
         request.method().as_str(),
         request.uri().path(),
         request.uri().query().unwrap_or(""),
         media_of(request),
-        DohBody::TooLong,
-    )?;
-    Ok(Octets::from_vec(message))
+    )
 }
 
-/// What a POST is read as whose head is in order and whose body has come.
-pub(crate) fn read_body(alloc: Global, octets: Octets) -> Result<Octets, DohFault>
-    ensures { ReadsBody octets result }
-{
-    let body = DohBody::Whole(octets);
-    let message = read_request(
-        alloc,
-        "POST",
-        "/dns-query",
-        "",
-        "application/dns-message",
-        body,
-    )?;
-    Ok(Octets::from_vec(message))
-}
-
-/// The media type of a request; the empty text where there is none, or it is not ASCII.
+/// The media type of a request; the empty text if there is none, or if it is not ASCII.
 fn media_of<B>(request: &Request<B>) -> &str
     ensures { IsMedia (head_of request.now).headers result.now }
 {

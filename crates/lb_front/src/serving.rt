@@ -35,8 +35,8 @@ const HEAD_SECONDS: u64 = 10;
 /// How many connections stand at most, whatever a front is made of.
 const CONNECTIONS: usize = 1_024;
 
-/// How long connections may go on once the front is to end, in milliseconds.
-const END: u64 = 300;
+/// How many milliseconds a runtime of HTTP, and so its connections, may go on once it is to end.
+pub const END_MILLISECONDS: u64 = 300;
 
 /// A socket that listens, with the place of its listen line.
 #[derive(Drop)]
@@ -147,7 +147,7 @@ fn runtime_of<R: Clock + Net + RandomSource + AllocGlobal>(
         Some(runtime) => runtime,
         None => LocalRuntime::new(rt)?,
     };
-    runtime.set_shutdown_timeout(Some(Duration::from_millis(END)));
+    runtime.set_shutdown_timeout(Some(Duration::from_millis(END_MILLISECONDS)));
     Ok(runtime)
 }
 

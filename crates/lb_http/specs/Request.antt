@@ -6,6 +6,8 @@ use Rattle.lb_http.specs.Variable.{IsOnlyValue}
 use Rattle.lb_http.specs.Message.{IsQueryLike, StandsFor}
 use Rattle.lb_http.specs.declared.request.DohBody.{DohBody}
 use Rattle.lb_http.specs.declared.request.DohBody.TheVariants.{Whole, TooLong}
+use Rattle.lb_http.specs.declared.request.DohHead.{DohHead}
+use Rattle.lb_http.specs.declared.request.DohHead.TheVariants as heads
 use Rattle.lb_http.specs.declared.fault.DohFault.{DohFault}
 use Rattle.lb_http.specs.declared.fault.DohFault.TheVariants as faults
 
@@ -53,3 +55,19 @@ Refuses method path query media body faults.NoMemory = (path ≡ the_path) × ((
 abbrev pub Reads : List ℕ → List ℕ → List ℕ → List ℕ → DohBody → Result (Vec ℕ Global) DohFault → Type 0
 Reads method path query media body (Ok message) = (path ≡ the_path) × Carries method query media body message.items
 Reads method path query media body (Err fault) = Refuses method path query media body fault
+
+-- the same, of a message as octets
+abbrev pub ReadsAs : List ℕ → List ℕ → List ℕ → List ℕ → DohBody → Result (List ℕ) DohFault → Type 0
+ReadsAs method path query media body (Ok message) = (path ≡ the_path) × Carries method query media body message
+ReadsAs method path query media body (Err fault) = Refuses method path query media body fault
+
+-- What the head of a request is read as, whatever its body is: the message of a GET, that the body of a POST is to be read, or the first
+-- fault that applies.
+abbrev pub ReadsHead : List ℕ → List ℕ → List ℕ → List ℕ → Result DohHead DohFault → Type 0
+ReadsHead method path query media (Ok (heads.Message message)) = (path ≡ the_path) × Gets method query message
+ReadsHead method path query media (Ok heads.Body) = (path ≡ the_path) × (method ≡ post) × IsDnsMedia media
+ReadsHead method path query media (Err fault) = (body : DohBody) → Refuses method path query media body fault
+
+-- what the body of a POST is read as whose head is in order, whatever its query is
+abbrev pub ReadsBody : DohBody → Result (List ℕ) DohFault → Type 0
+ReadsBody body read = (query media : List ℕ) → IsDnsMedia media → ReadsAs post the_path query media body read

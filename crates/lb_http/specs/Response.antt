@@ -2,10 +2,10 @@
 use Rattle.std.specs.Prelude.{◌≡◌, ℕ, List, Option, None, Some, unwrap_or}
 use Rattle.lb_wire.specs.Reply.{Surveys}
 use Rattle.lb_wire.specs.declared.tally.Survey.{Survey}
-use Rattle.lb_core.specs.declared.answer.Answer.{Answer}
-use Rattle.lb_core.specs.declared.answer.Answer.TheVariants.{Dropped, Local, Deliver, Expired, NoMemory}
-use Rattle.lb_core.specs.declared.answer.DropReason.{DropReason}
-use Rattle.lb_core.specs.declared.answer.DropReason.TheVariants as drops
+use Rattle.lb_step.specs.declared.answer.Answer.{Answer}
+use Rattle.lb_step.specs.declared.answer.Answer.TheVariants.{Dropped, Local, Deliver, Expired, NoMemory}
+use Rattle.lb_step.specs.declared.answer.DropReason.{DropReason}
+use Rattle.lb_step.specs.declared.answer.DropReason.TheVariants as drops
 use Rattle.lb_http.specs.declared.response.DohResponse.{DohResponse}
 
 -- the answers that a query of this front has

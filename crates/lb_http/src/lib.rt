@@ -1,4 +1,5 @@
-//! DNS on HTTP (RFC 8484): what a request asks, and what it is answered. It is all of values: no socket, no library of HTTP.
+//! DNS on HTTP (RFC 8484): what a request asks, and what it is answered. It is all of values, and
+//! has no socket and no library of HTTP.
 #![tactic(auto)]
 
 mod fault;
@@ -12,5 +13,5 @@ mod variable;
 
 pub use fault::DohFault;
 pub use laws::one_outcome;
-pub use request::{DohBody, read_request};
+pub use request::{DohBody, DohHead, read_body, read_head, read_request};
 pub use response::{DohResponse, carrying, refused, response_of, unavailable};

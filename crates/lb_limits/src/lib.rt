@@ -17,4 +17,5 @@ pub use laws::{
     passed_are_passes, put_is_there, recent_are_passes, recent_twice, reserving_keeps_matches,
 };
 pub use limiter::Limiter;
+pub use moments::WINDOW;
 pub use pass::Pass;

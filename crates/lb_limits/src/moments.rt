@@ -5,7 +5,7 @@ ghost use Rattle.std.specs.List.Sorted.{IsNonDecreasing};
 ghost use Rattle.lb_limits.specs.Moments.{is_recent, recent_of};
 
 /// How long a pass counts, in milliseconds.
-const WINDOW: u64 = 1000;
+pub const WINDOW: u64 = 1000;
 
 /// Whether a moment counts.
 pub(crate) fn is_recent(now: u64, moment: u64) -> bool

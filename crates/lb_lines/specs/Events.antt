@@ -2,8 +2,8 @@
 use Rattle.std.specs.Prelude.{◌≡◌, ℕ, Bool, true, false, List, Option, Some, None, if◌then◌else◌, filter_map}
 use Rattle.lb_wire.specs.declared.addr.Origin.{Origin}
 use Rattle.lb_wire.specs.declared.transport.Kind.TheVariants as kinds
-use Rattle.lb_core.specs.declared.event.Event.{Event}
-use Rattle.lb_core.specs.declared.event.Event.TheVariants.{Edit, HealthResult, Query, Reply, Tick}
+use Rattle.lb_step.specs.declared.event.Event.{Event}
+use Rattle.lb_step.specs.declared.event.Event.TheVariants.{Edit, HealthResult, Query, Reply, Tick}
 use Rattle.lb_lines.specs.Endpoint.{is_endpoint}
 use Rattle.lb_lines.specs.declared.endpoint.Endpoint.{Endpoint}
 use Rattle.lb_lines.specs.declared.traffic.Datagram.{Datagram}

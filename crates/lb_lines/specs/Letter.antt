@@ -6,10 +6,10 @@ use Rattle.lb_wire.specs.Numbers.{rcode_number}
 use Rattle.lb_wire.specs.declared.query.QueryFault.{QueryFault}
 use Rattle.lb_wire.specs.declared.query.QueryView.{QueryView}
 use Rattle.lb_wire.specs.declared.rcode.Rcode.TheVariants as rcodes
-use Rattle.lb_core.specs.declared.answer.Answer.{Answer}
-use Rattle.lb_core.specs.declared.answer.Answer.TheVariants as answers
-use Rattle.lb_core.specs.declared.event.Event.{Event}
-use Rattle.lb_core.specs.declared.event.Event.TheVariants.{Edit, HealthResult, Query, Reply, Tick}
+use Rattle.lb_step.specs.declared.answer.Answer.{Answer}
+use Rattle.lb_step.specs.declared.answer.Answer.TheVariants as answers
+use Rattle.lb_step.specs.declared.event.Event.{Event}
+use Rattle.lb_step.specs.declared.event.Event.TheVariants.{Edit, HealthResult, Query, Reply, Tick}
 use Rattle.lb_outbox.specs.declared.job.Job.{Job}
 use Rattle.lb_outbox.specs.declared.job.Job.TheVariants as jobs
 use Rattle.lb_lines.specs.declared.letter.End.{End}

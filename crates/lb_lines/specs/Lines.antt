@@ -1,7 +1,7 @@
 -- What the lines of a report say.
 use Rattle.std.specs.Prelude.{◌≡◌, ℕ, Bool, true, false, List, [], ◌∷◌, Option, Some, None, flat_map, ◌||◌}
-use Rattle.lb_core.specs.declared.answer.Answer.{Answer}
-use Rattle.lb_core.specs.declared.event.Event.{Event}
+use Rattle.lb_step.specs.declared.answer.Answer.{Answer}
+use Rattle.lb_step.specs.declared.event.Event.{Event}
 use Rattle.lb_outbox.specs.declared.job.Job.{Job}
 use Rattle.lb_lines.specs.Counts.{Fails}
 use Rattle.lb_lines.specs.Events.{timeless}

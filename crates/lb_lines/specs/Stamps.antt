@@ -1,7 +1,7 @@
 -- The moments and random words that events are made with.
 use Rattle.std.specs.Prelude.{◌≡◌, ℕ, ◌⊎◌, List, [], ◌∷◌}
-use Rattle.lb_core.specs.declared.event.Event.{Event}
-use Rattle.lb_core.specs.declared.event.Event.TheVariants.{Edit, HealthResult, Query, Reply, Tick}
+use Rattle.lb_step.specs.declared.event.Event.{Event}
+use Rattle.lb_step.specs.declared.event.Event.TheVariants.{Edit, HealthResult, Query, Reply, Tick}
 
 -- a moment and a random word, as they were told
 abbrev pub Stamp : Type 0

@@ -2,9 +2,11 @@
 //! what else is outside.
 #![tactic(auto)]
 
+mod answering;
 mod endpoint;
 mod laws;
 mod letter;
+mod limits;
 mod outcome;
 mod report;
 mod rooms;
@@ -12,9 +14,11 @@ mod roster;
 mod traffic;
 mod traits;
 
+pub use answering::Answering;
 pub use endpoint::Endpoint;
 pub use laws::one_send_a_line;
 pub use letter::{End, excuse, letter_of};
+pub use limits::{KEPT_AFTER_QUERY, MAX_CLIENTS, MAX_CONNECTIONS, MAX_EVENTS_OF_TURN, SECOND};
 pub use outcome::{add_line, fault_in, first_fault, outcome_of};
 pub use report::{DeviceFault, Line, Outcome, Report, Sending, Source, Way, Why};
 pub use rooms::Rooms;

@@ -6,14 +6,11 @@ ghost use Rattle.lb_lines.specs.declared.roster.Listed.{Listed};
 ghost use Rattle.lb_wire.specs.declared.ids.ServerId.{ServerId};
 
 use crate::endpoint::Endpoint;
-use lb_servers::Mode;
+use lb_servers::{MAX_SERVERS, Mode};
 use lb_wire::ServerId;
 use std::alloc::{AllocError, Global};
 use std::marker::Model;
 use thiserror::Error;
-
-/// How many servers a roster has room for.
-const ROOM: usize = 256;
 
 /// Where a server is, and what the loops have to know of it.
 #[derive(Clone, Copy, Debug, PartialEq, Eq)]
@@ -62,7 +59,7 @@ impl Roster {
     {
         Ok(Roster {
             version: 0,
-            listed: Vec::with_capacity(alloc, ROOM)?,
+            listed: Vec::with_capacity(alloc, MAX_SERVERS)?,
         })
     }
 
@@ -74,7 +71,7 @@ impl Roster {
         ensures same { OnErr result (self.new ≡ self.old) }
     {
         take_out(&mut self.listed, server);
-        if self.listed.len() == ROOM {
+        if self.listed.len() == MAX_SERVERS {
             return Err(RosterFull);
         }
         self.listed.push_reserved(Listed { server, place });

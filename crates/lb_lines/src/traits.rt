@@ -1,8 +1,8 @@
 //! What turns stand on: sockets, the desk, a gate, waiting requests, and what else is outside.
 
 ghost use Rattle.std.specs.Prelude.{[], Bool, IfErr, IfNone, IfOk, IfSome, List, OnErr, OnOk, ◌++◌, ◌+◌, ◌∷◌, ◌≡◌, ℕ};
-ghost use Rattle.lb_core.specs.declared.answer.Answer.{Answer};
-ghost use Rattle.lb_core.specs.declared.event.Event.{Event};
+ghost use Rattle.lb_step.specs.declared.answer.Answer.{Answer};
+ghost use Rattle.lb_step.specs.declared.event.Event.{Event};
 ghost use Rattle.lb_lines.specs.Counts.{Fails, Grows};
 ghost use Rattle.lb_lines.specs.Moves.{Came, Dialed, Gave, GavePiece, Sent, Took, Traffic, TurnedAway};
 ghost use Rattle.lb_lines.specs.Stamps.{Stamp};
@@ -42,7 +42,8 @@ pub trait Datagrams: Drop {
 
     /// Waits until a socket has a datagram, or somebody wakes it, or so many milliseconds have passed.
     fn wait(&mut self, at_most: u64) -> Result<(), WaitFailed>
-        ensures same { (given self.new ≡ given self.old) × (taken self.new ≡ taken self.old) × (failures self.new ≡ failures self.old) × (listens self.new ≡ listens self.old) × (reads self.new ≡ reads self.old) };
+        ensures same { (given self.new ≡ given self.old) × (taken self.new ≡ taken self.old) × (listens self.new ≡ listens self.old) }
+        ensures counts { (failures self.new ≡ failures self.old) × (reads self.new ≡ reads self.old) };
 
     /// Sends one datagram. Refused, no octet of it was sent: there is no such listener (Gone), a device failed, or memory was wanting.
     fn send(&mut self, socket: Socket, to: Endpoint, bytes: &Octets) -> Result<(), Why>

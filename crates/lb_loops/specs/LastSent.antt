@@ -1,7 +1,7 @@
 -- Whether a query may be outstanding.
 use Rattle.std.specs.Prelude.{ℕ, Bool, true, false, not, nat_lt, ◌==◌, ◌&&◌, ◌-◌}
-use Rattle.lb_core.specs.declared.answer.Answer.{Answer}
-use Rattle.lb_core.specs.declared.answer.Answer.TheVariants.{Deliver, Expired, Forward}
+use Rattle.lb_step.specs.declared.answer.Answer.{Answer}
+use Rattle.lb_step.specs.declared.answer.Answer.TheVariants.{Deliver, Expired, Forward}
 use Rattle.lb_lines.specs.declared.report.Line.{Line}
 use Rattle.lb_lines.specs.declared.report.Line.TheVariants as lines
 use Rattle.lb_lines.specs.declared.report.Outcome.{Outcome}

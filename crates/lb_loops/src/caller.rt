@@ -1,12 +1,11 @@
 //! The event handler of a loop: a seat at a desk.
 
-ghost use Rattle.std.specs.Prelude.{IfErr, IfOk, OnErr, OnOk, ◌++◌, ◌+◌, ◌<◌, ◌∷◌, ◌≡◌, ◌⊎◌, ℕ, []};
-ghost use Rattle.lb_core.specs.Plain.{Plain};
-ghost use Rattle.lb_core.specs.Step.{Answers};
+ghost use Rattle.std.specs.Prelude.{IfErr, IfOk, OnErr, OnOk, ◌+◌, ◌∷◌, ◌≡◌, []};
+ghost use Rattle.lb_step.specs.Plain.{Plain};
+ghost use Rattle.lb_step.specs.Step.{Answers};
 ghost use Rattle.lb_desk.specs.Desk.{OnceReturnsAtBoth};
-ghost use Rattle.lb_desk.specs.Entry.{receipt};
 ghost use Rattle.lb_lines.specs.Counts.{Grows};
-ghost use Rattle.lb_loops.specs.Caller.{pairs_of};
+ghost use Rattle.lb_loops.specs.Caller.{MayKeepReceipt, pairs_of};
 
 use lb_core::{Answer, Balancer, Event, Noted};
 use lb_desk::{Desk, DeskFault, Naming, Seat};
@@ -103,8 +102,8 @@ impl<'a, R: Wait, J: Naming> Caller<'a, R, J> {
 
 impl<R: Wait, J: Naming> Taker for Caller<'_, R, J> {
     ghost use Rattle.std.specs.Prelude.{List, map};
-    ghost use Rattle.lb_core.specs.declared.answer.Answer.{Answer};
-    ghost use Rattle.lb_core.specs.declared.event.Event.{Event};
+    ghost use Rattle.lb_step.specs.declared.answer.Answer.{Answer};
+    ghost use Rattle.lb_step.specs.declared.event.Event.{Event};
     ghost use Rattle.lb_loops.specs.Caller.{pairs_of};
 
     ghost answered = { λ c. c.seat.calls };
@@ -150,7 +149,7 @@ fn take_noting<R: Wait, J: Naming>(
     notes: (&Arc<Ring>, &Option<(Arc<Sends>, usize)>),
 ) -> Result<Answer, (DeskFault, Event)>
     ensures calls { OnOk result (seat.new.calls ≡ seat.old.calls + 1) }
-    ensures receipts { IfOk result (λ answer. (seat.new.receipts ≡ seat.old.receipts) ⊎ ((place : ℕ) × (place < J.limit) × (seat.new.receipts ≡ seat.old.receipts ++ receipt place event answer ∷ []))) }
+    ensures receipts { IfOk result (λ answer. MayKeepReceipt J.limit event answer seat.old.receipts seat.new.receipts) }
     ensures back { IfErr result (λ fault. fault.1 ≡ event) }
     ensures same { OnErr result (seat.new ≡ seat.old) }
 {

@@ -4,16 +4,13 @@ ghost use Rattle.std.specs.Prelude.{filter, length, ◌≡◌};
 ghost use Rattle.lb_loops.specs.LastSent.{is_over, is_sent_on, is_within};
 
 use lb_core::Answer;
-use lb_lines::{Line, Outcome};
+use lb_lines::{KEPT_AFTER_QUERY, Line, Outcome};
 use lb_outbox::Job;
 use std::sync::atomic::{AtomicBool, AtomicU64, Ordering};
 
 /// For how long after the last query that was sent on the clock looks for queries that are due, in
-/// milliseconds, where not each is known to be over: as long as one may wait, and a second.
-const WATCHED: u64 = 61_000;
-
-/// For how long it looks where each is over: a server that is asked ten times a second and more is
-/// not worth a rest between.
+/// milliseconds, if each is known to be over: a server that is asked ten times a second and more is
+/// not worth a rest between. If not, it looks for `KEPT_AFTER_QUERY`.
 const FRESH: u64 = 100;
 
 /// How many queries were sent on and how many are over, and when one was last sent on, so that the
@@ -69,7 +66,7 @@ impl LastSent {
         let span = if self.over.load(Ordering::SeqCst) >= sent {
             FRESH
         } else {
-            WATCHED
+            KEPT_AFTER_QUERY
         };
         let may_rest = !is_within(self.seen.load(Ordering::SeqCst), moment, span);
         if may_rest {

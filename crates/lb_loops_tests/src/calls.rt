@@ -3,7 +3,7 @@
 use crate::callers::{Caller, is_wanting};
 use crate::rounds::{Round, go_round};
 use lb_core::{Answer, DropReason, Event, Note};
-use lb_desk::{Audit, CloseFault, Entry, SeatId};
+use lb_desk::{Audit, CloseFault, LogEntry, SeatId};
 use lb_wire::RuleId;
 use std::alloc::{AllocError, Global};
 use std::test::Fail;
@@ -95,7 +95,7 @@ fn calls_of(audit: &Audit, seat: u8) -> usize {
 }
 
 /// Whether the events and answers of the log are equal to their copies.
-fn are_copied(alloc: Global, log: &[Entry]) -> Result<bool, AllocError> {
+fn are_copied(alloc: Global, log: &[LogEntry]) -> Result<bool, AllocError> {
     for entry in log {
         if !(is_event_copied(alloc, &entry.event)? && is_answer_copied(alloc, &entry.answer)?) {
             return Ok(false);

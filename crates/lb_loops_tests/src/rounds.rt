@@ -3,7 +3,7 @@
 //! them.
 
 ghost use Rattle.std.specs.Prelude.{◌≡◌, ◌≤◌};
-ghost use Rattle.lb_core.specs.Snapshot.{snapshot_of};
+ghost use Rattle.lb_step.specs.Snapshot.{snapshot_of};
 
 use crate::callers::{AtDesk, Caller, Flags, is_done};
 use crate::loops::are_loops_done;

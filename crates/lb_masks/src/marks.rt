@@ -3,10 +3,7 @@
 ghost use Rattle.std.specs.Prelude.{◌≡◌, ◌≤◌, ◌*◌, ◌/◌, length, take};
 ghost use Rattle.lb_masks.specs.Marks.{mark_at, weighed, weights};
 
-use crate::bits::kept_octet;
-
-/// The bits of an octet.
-const OCTET: u8 = 8;
+use crate::bits::{OCTET_BITS, kept_octet};
 
 /// What an octet of a network counts for, by its place: odd numbers as good as random.
 const WEIGHTS: [u64; 16] = [
@@ -49,9 +46,9 @@ pub(crate) fn mark_at(octets: &[u8], count: u8) -> u8
     requires few { length octets.now ≤ 16 }
     ensures { result ≡ mark_at count octets.now }
 {
-    let (whole, others) = octets.split_at(usize::from(count / OCTET));
+    let (whole, others) = octets.split_at(usize::from(count) / OCTET_BITS);
     let last = match others.first() {
-        Some(octet) => kept_octet(*octet, usize::from(count % OCTET)),
+        Some(octet) => kept_octet(*octet, usize::from(count) % OCTET_BITS),
         None => 0,
     };
     let sum = weigh(whole).wrapping_add(u64::from(last));

@@ -164,7 +164,19 @@ impl<R: Wait> Streams for MemoryStreams<'_, R> {
     ghost use Rattle.std.specs.Prelude.{length};
     ghost use Rattle.lb_memory.specs.Streams.{firsts};
 
-    ghost told = { λ m. record { given = m.given.items; taken = m.taken.items; came = m.came.items; dialed = m.dialed.items; ended = firsts m.ended.items; gone = firsts m.gone.items; turned = length m.turned.items; failures = m.failures; reads = length m.asked.items; failed = firsts m.failed.items; lacked = firsts m.lacked.items } };
+    ghost told = { λ m. record {
+      given = m.given.items;
+      taken = m.taken.items;
+      came = m.came.items;
+      dialed = m.dialed.items;
+      ended = firsts m.ended.items;
+      gone = firsts m.gone.items;
+      turned = length m.turned.items;
+      failures = m.failures;
+      reads = length m.asked.items;
+      failed = firsts m.failed.items;
+      lacked = firsts m.lacked.items;
+    } };
 
     fn ready(&mut self) -> Ready {
         self.wires.lock(self.rt).ready()

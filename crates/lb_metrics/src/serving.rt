@@ -7,7 +7,9 @@ use futures::channel::oneshot;
 use http_body_util::Full;
 use hyper::rt::TokioTimer;
 use hyper::server::conn::http1::{Builder, Connection};
-use lb_front::{Client, FrontFault, Make, Paced, Served, serve_connections, settings};
+use lb_front::{
+    Client, END_MILLISECONDS, FrontFault, Make, Paced, Served, serve_connections, settings,
+};
 use std::alloc::{AllocGlobal, Global};
 use std::net::Net;
 use std::random::RandomSource;
@@ -24,9 +26,6 @@ const CONNECTIONS: usize = 8;
 
 /// How many seconds a head may take to come, and a connection may be idle.
 const HEAD_SECONDS: u64 = 1;
-
-/// How long the runtime may take to end, in milliseconds.
-const END: u64 = 300;
 
 /// What the service of metrics is made of.
 #[derive(Drop)]
@@ -62,7 +61,7 @@ pub fn run_metrics<R: Wait + Clock + Net + RandomSource + AllocGlobal + Copy + D
         page,
         end,
     } = parts;
-    runtime.set_shutdown_timeout(Some(Duration::from_millis(END)));
+    runtime.set_shutdown_timeout(Some(Duration::from_millis(END_MILLISECONDS)));
     let maker = maker_of(rt, alloc, runtime.handle().time(), page)?;
     let mut listeners = Vec::with_capacity(alloc, 1)?;
     listeners.push((

@@ -10,6 +10,7 @@ use Rattle.lb_lines.specs.declared.roster.Place.{Place}
 use Rattle.lb_lines.specs.declared.traffic.Datagram.{Datagram}
 use Rattle.lb_lines.specs.declared.traffic.Socket.{Socket}
 use Rattle.lb_lines.specs.declared.traffic.Socket.TheVariants.{Listener, Server}
+use Rattle.lb_probes.specs.declared.probes.Answered.{Answered}
 use Rattle.lb_probes.specs.declared.watched.Waits.{Waits}
 use Rattle.lb_probes.specs.declared.watched.Watched.{Watched}
 use Rattle.lb_servers.specs.declared.server.Mode.TheVariants as modes
@@ -77,6 +78,11 @@ is_of server w = w.server.0 == server.0
 abbrev pub place_of : Socket → List Watched → Option ℕ
 place_of (Listener front) p = None
 place_of (Server server upstream at) p = position (is_of server) p
+
+-- a datagram answers, at this moment, the probe of the server to whose socket it came: the place of
+-- that server among those that are probed, the server, and its probe that is under way
+abbrev pub AnswersProbe : ℕ → Datagram → List Watched → Answered → Type 0
+AnswersProbe now d p a = (place_of d.socket p ≡ Some a.index) × (slice_get p a.index ≡ Some a.watched) × (a.watched.waits ≡ Some a.waits) × Answers now d a.watched
 
 -- a datagram is of no server that is probed, or does not answer that one's probe
 abbrev pub Unheard : ℕ → Datagram → List Watched → Type 0

@@ -4,5 +4,5 @@
 mod probes;
 mod watched;
 
-pub use probes::{Answered, Probes};
+pub use probes::{Answered, Due, Probes};
 pub use watched::{Waits, Watched};

@@ -3,17 +3,15 @@
 ghost use Rattle.std.specs.Prelude.{[], IfNone, IfOk, IfSome, List, None, Some, filter, length, slice_get, true, vec_capacity, ◌++◌, ◌∷◌, ◌≡◌, ◌≤◌, ◌⊎◌};
 ghost use Rattle.std.specs.List.{list_any, position};
 ghost use Rattle.lb_lines.specs.declared.roster.Listed.{Listed};
-ghost use Rattle.lb_probes.specs.Probes.{Answers, AreFresh, AreProbed, Each, Follows, Here, IsAsked, IsDue, IsOver, IsQuietFor, IsTimely, Unheard, begun, ended, is_of, most_probed, place_of, stands};
+ghost use Rattle.lb_probes.specs.Probes.{AnswersProbe, AreFresh, AreProbed, Each, Follows, Here, IsAsked, IsDue, IsOver, IsQuietFor, IsTimely, Unheard, begun, ended, is_of, most_probed, place_of, stands};
 ghost use Rattle.lb_probes.specs.declared.watched.Watched.{Watched};
 
-use crate::watched::{SECOND, Waits, Watched};
+use crate::watched::{PROBE_PERIOD, Waits, Watched};
 use lb_lines::{Datagram, Place, Roster, Socket};
+use lb_servers::MAX_SERVERS;
 use lb_wire::ServerId;
 use std::alloc::{AllocError, Global};
 use std::marker::Model;
-
-/// How many servers there is room for.
-const ROOM: usize = 256;
 
 /// Servers that are probed: of each where it is, when its next probe is due, and the probe that is under way. Room for 256.
 #[derive(Drop)]
@@ -40,13 +38,22 @@ pub struct Answered {
     pub waits: Waits,
 }
 
+/// A server whose next probe is due: its place among the servers that are probed, that server, and
+/// where the roster has it.
+#[derive(Clone, Copy, Debug)]
+pub struct Due {
+    pub index: usize,
+    pub watched: Watched,
+    pub place: Place,
+}
+
 impl Probes {
     /// No server is probed. It has room for 256; the one error is want of memory.
     pub fn made(alloc: Global) -> Result<Probes, AllocError>
         ensures { IfOk result (λ probes. probes ≡ record { version = None; watched = [] }) }
     {
         Ok(Probes {
-            watched: Vec::with_capacity(alloc, ROOM)?,
+            watched: Vec::with_capacity(alloc, MAX_SERVERS)?,
             version: None,
         })
     }
@@ -68,14 +75,19 @@ impl Probes {
         Some((*watched, waits))
     }
 
-    /// The server at a place, and where it is, when its next probe is due at this moment.
-    pub fn due_at(&self, roster: &Roster, index: usize, now: u64) -> Option<(Watched, Place)>
-        ensures some { IfSome result (λ r. (slice_get self.now.watched index ≡ Some r.0) × IsDue roster.now.listed now r.0 r.1) }
+    /// The server at a place, and where it is, if its next probe is due at this moment.
+    pub fn due_at(&self, roster: &Roster, index: usize, now: u64) -> Option<Due>
+        ensures some { IfSome result (λ due. (slice_get self.now.watched due.index ≡ Some due.watched) × IsDue roster.now.listed now due.watched due.place) }
+        ensures at { IfSome result (λ due. due.index ≡ index) }
         ensures none { IfNone result (Here (IsAsked roster.now.listed now) index self.now.watched) }
     {
         let watched = self.watched.get(index)?;
         let place = watched.due(roster, now)?;
-        Some((*watched, place))
+        Some(Due {
+            index,
+            watched: *watched,
+            place,
+        })
     }
 
     /// For how long from this moment on no probe is over and none is due, at most so many milliseconds.
@@ -115,7 +127,7 @@ impl Probes {
 
     /// The server whose probe this datagram answers at this moment, with its place.
     pub fn answered(&self, datagram: &Datagram, now: u64) -> Option<Answered>
-        ensures some { IfSome result (λ a. (place_of datagram.now.socket self.now.watched ≡ Some a.index) × (slice_get self.now.watched a.index ≡ Some a.watched) × (a.watched.waits ≡ Some a.waits) × Answers now datagram.now a.watched) }
+        ensures some { IfSome result (AnswersProbe now datagram.now self.now.watched) }
         ensures none { IfNone result (Unheard now datagram.now self.now.watched) }
     {
         let index = place_of(self.watched.as_slice(), datagram.socket)?;
@@ -139,26 +151,18 @@ impl Probes {
         };
     }
 
-    /// A probe of the server at a place was sent at this moment to this place, or could not be, in a turn that began at that moment. The
-    /// next one is due a second after the turn began.
-    pub fn begin(
-        &mut self,
-        index: usize,
-        watched: Watched,
-        place: Place,
-        turn: u64,
-        stamp: (u64, u16),
-        is_sent: bool,
-    )
-        requires there { slice_get self.old.watched index ≡ Some watched }
-        ensures { self.new ≡ begun self.old index watched place turn (stamp.0, stamp.1) is_sent }
+    /// A probe of a server that was due was sent at this moment with this word, or could not be, in
+    /// a turn that began at the first moment. The next one is due a second after the turn began.
+    pub fn begin(&mut self, due: Due, turn: u64, stamp: (u64, u16), is_sent: bool)
+        requires there { slice_get self.old.watched due.index ≡ Some due.watched }
+        ensures { self.new ≡ begun self.old due.index due.watched due.place turn (stamp.0, stamp.1) is_sent }
     {
         let (now, word) = stamp;
-        self.watched[index] = Watched {
-            server: watched.server,
-            at: place.at,
-            must_resolve: place.must_resolve,
-            next: turn.saturating_add(SECOND),
+        self.watched[due.index] = Watched {
+            server: due.watched.server,
+            at: due.place.at,
+            must_resolve: due.place.must_resolve,
+            next: turn.saturating_add(PROBE_PERIOD),
             waits: Some(Waits {
                 word,
                 sent: now,
@@ -241,7 +245,7 @@ fn admit(watched: &mut Vec<Watched>, roster: &Roster, index: usize, now: u64)
     let Some((server, _place)) = roster.nth(index) else {
         return;
     };
-    if is_probed(watched.as_slice(), server) || watched.len() >= ROOM {
+    if is_probed(watched.as_slice(), server) || watched.len() >= MAX_SERVERS {
         return;
     }
     let Some(place) = roster.get(server) else {
@@ -251,7 +255,7 @@ fn admit(watched: &mut Vec<Watched>, roster: &Roster, index: usize, now: u64)
         server,
         at: place.at,
         must_resolve: place.must_resolve,
-        next: now.saturating_add(server.0 % 256 * SECOND / 256),
+        next: now.saturating_add(server.0 % 256 * PROBE_PERIOD / 256),
         waits: None,
     });
 }

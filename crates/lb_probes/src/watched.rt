@@ -4,12 +4,13 @@ ghost use Rattle.std.specs.Prelude.{IfNone, IfSome, IsTrue, Some, false, nat_le,
 ghost use Rattle.lb_probes.specs.Probes.{Answers, IsAsked, IsDue, IsOver, IsQuietFor, IsTimely, Misses, is_by, is_open, second};
 
 use lb_health::judge;
-use lb_lines::{Datagram, Endpoint, Place, Roster, Socket};
+use lb_lines::{Datagram, Endpoint, Place, Roster, SECOND, Socket};
 use lb_servers::Mode;
 use lb_wire::ServerId;
 
-/// How long a probe waits for its answer, and how long it is from one probe of a server to the next, in milliseconds.
-pub(crate) const SECOND: u64 = 1_000;
+/// How long a probe waits for its answer, and how long it is from one probe of a server to the next,
+/// in milliseconds.
+pub(crate) const PROBE_PERIOD: u64 = SECOND;
 
 /// A probe that is under way: its ID, the moment at which it was sent, in milliseconds, and whether it could be sent.
 #[derive(Clone, Copy, Debug)]
@@ -42,7 +43,7 @@ impl Waits {
     fn is_late(self, now: u64) -> bool
         ensures { result ≡ nat_le (self.sent + second) now }
     {
-        now.saturating_sub(self.sent) >= SECOND
+        now.saturating_sub(self.sent) >= PROBE_PERIOD
     }
 
     /// Whether the probe is over at this moment: it could not be sent, or it has waited for a second.
@@ -58,7 +59,7 @@ impl Waits {
         ensures { (moment : ℕ) → now ≤ moment → moment < now + result → is_open moment (Some self) ≡ true }
     {
         if self.is_sent {
-            self.sent.saturating_add(SECOND).saturating_sub(now)
+            self.sent.saturating_add(PROBE_PERIOD).saturating_sub(now)
         } else {
             0
         }

@@ -2,7 +2,7 @@
 use Rattle.std.proofs.Common.{◌≡◌, ℕ, ◌+◌, List, [], ◌∷◌, ◌++◌, map, Option, None, Some, IfSome, Ok, Err, refl, sym, ◌∙◌, ap, append_assoc}
 use Rattle.std.proofs.lemmas.List.{map_push}
 use Rattle.std.specs.Io.KnownBytes.{Keeps}
-use Rattle.lb_core.specs.declared.event.Event.{Event}
+use Rattle.lb_step.specs.declared.event.Event.{Event}
 use Rattle.lb_program.specs.Line.{IsFresh, IsSound}
 use Rattle.lb_program.specs.Faults.{End, IsFailure}
 use Rattle.lb_program.specs.Input.{Reading, StopsAt, Turns, left_of, readings}

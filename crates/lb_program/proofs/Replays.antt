@@ -2,11 +2,11 @@
 use Rattle.std.proofs.Common.{◌≡◌, ℕ, List, [], ◌∷◌, ◌++◌, refl, sym, subst, Option, Err}
 use Rattle.std.specs.Prelude.{codes}
 use Rattle.std.proofs.lemmas.List.{flat_map_more}
-use Rattle.lb_core.specs.declared.event.Event.{Event}
-use Rattle.lb_core.specs.declared.answer.Answer.{Answer}
-use Rattle.lb_core.specs.Plain.{Plain, empty}
+use Rattle.lb_step.specs.declared.event.Event.{Event}
+use Rattle.lb_step.specs.declared.answer.Answer.{Answer}
+use Rattle.lb_step.specs.Plain.{Plain, empty}
+use Rattle.lb_step.specs.Step.{Answers}
 use Rattle.lb_core.specs.Runs.{CachedAnswersAreKeptReplies, IsRun}
-use Rattle.lb_core.specs.Step.{Answers}
 use Rattle.lb_command.specs.Answers.{line_of, lines_of}
 use Rattle.lb_program.specs.Output.{Writes}
 use Rattle.lb_program.specs.Faults.{End, IsFailure, IsOutput, IsOutputWell}

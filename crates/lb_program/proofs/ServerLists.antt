@@ -5,8 +5,8 @@ use Rattle.std.proofs.lemmas.Bool.{cases_Bool}
 use Rattle.lb_wire.specs.declared.ids.ServerId.{ServerId}
 use Rattle.lb_servers.specs.declared.server.Loaded.{Loaded}
 use Rattle.lb_servers.specs.declared.server.Server.{Server}
+use Rattle.lb_step.specs.Upstream.{server_of}
 use Rattle.lb_core.specs.Laws.{has_number}
-use Rattle.lb_core.specs.Upstream.{server_of}
 
 -- what is found of a number among servers is the server of what is found among them with their load
 found_server : (id : ServerId) (loaded : List Loaded) → find (has_number id) (map server_of loaded) ≡ option_map server_of (find (λ (l : Loaded). has_number id (server_of l)) loaded)

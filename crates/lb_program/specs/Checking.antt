@@ -3,11 +3,11 @@ use Rattle.std.specs.Prelude.{◌≡◌, ◌⊎◌, ℕ, List, ◌++◌, codes, 
 use Rattle.std.specs.Io.KnownBytes.{Appends, Keeps}
 use Rattle.std.specs.Str.{IsUtf8}
 use Rattle.std.specs.declared.io.Error.{Error}
-use Rattle.lb_core.specs.declared.answer.Answer.{Answer}
-use Rattle.lb_core.specs.declared.command.Command.TheVariants.{Show}
-use Rattle.lb_core.specs.declared.event.Event.TheVariants as events
-use Rattle.lb_core.specs.Plain.{Plain, empty}
-use Rattle.lb_core.specs.Step.{Answers}
+use Rattle.lb_step.specs.declared.answer.Answer.{Answer}
+use Rattle.lb_step.specs.declared.command.Command.TheVariants.{Show}
+use Rattle.lb_step.specs.declared.event.Event.TheVariants as events
+use Rattle.lb_step.specs.Plain.{Plain, empty}
+use Rattle.lb_step.specs.Step.{Answers}
 use Rattle.lb_command.specs.Answers.{line_of}
 use Rattle.lb_program.specs.Faults.{End, Tells, end_status, end_text, stop_text}
 use Rattle.lb_program.specs.Output.{WritesFront}

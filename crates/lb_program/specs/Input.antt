@@ -1,9 +1,9 @@
 -- The lines of an input, what those that are told read as, and what is left of them within a line.
-use Rattle.std.specs.Prelude.{◌≡◌, ◌⊎◌, ℕ, ◌+◌, Bool, true, false, if◌then◌else◌, List, [], ◌∷◌, ◌++◌, ◌-◌, ◌^◌, Option, Some, None, Result, Ok, Err, ⊤}
+use Rattle.std.specs.Prelude.{◌≡◌, ◌⊎◌, ℕ, ◌+◌, Bool, true, false, if◌then◌else◌, List, [], ◌∷◌, ◌++◌, ◌-◌, ◌^◌, Option, Some, None, IfSome, Result, Ok, Err, ⊤}
 use Rattle.std.specs.List.{slice_split}
 use Rattle.std.specs.Str.{is_utf8}
 use Rattle.std.specs.Str.Lines.{lines, strip_carriage_return}
-use Rattle.lb_core.specs.declared.event.Event as core
+use Rattle.lb_step.specs.declared.event.Event as core
 use Rattle.lb_command.specs.Events.{event_of}
 use Rattle.lb_command.specs.Reading.{max_line}
 use Rattle.lb_command.specs.declared.fault.CommandFault.{CommandFault}
@@ -123,6 +123,11 @@ abbrev pub TurnsTo : ℕ → Line → List ℕ → Turn → ℕ → Line → Opt
 TurnsTo ended old bytes End new_ended new left = left_of ended old bytes ≡ []
 TurnsTo ended old bytes turn new_ended new left = (rest : List ℕ) × (left ≡ Some rest) × IsSound new × (left_of ended old bytes ≡ gives (ended + 1) turn ++ left_of new_ended new rest)
 
+-- the same of a turn that may stop: a stop comes before what is left to read
 abbrev pub Turns : ℕ → Line → List ℕ → Result Turn Stop → ℕ → Line → Option (List ℕ) → Type 0
 Turns ended old bytes (Ok turn) new_ended new left = TurnsTo ended old bytes turn new_ended new left
 Turns ended old bytes (Err stop) new_ended new left = StopsAt stop (left_of ended old bytes)
+
+-- the same, if the line in hand is sound, and it is known which bytes remain
+abbrev pub TurnsFrom : Option (List ℕ) → ℕ → Line → Result Turn Stop → ℕ → Line → Option (List ℕ) → Type 0
+TurnsFrom remained ended old result new_ended new left = IsSound old → IfSome remained (λ bytes. Turns ended old bytes result new_ended new left)

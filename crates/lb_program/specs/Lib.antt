@@ -1,6 +1,6 @@
 pub use Rattle.lb_wire.specs.Query
-pub use Rattle.lb_core.specs.Plain
-pub use Rattle.lb_core.specs.Step
+pub use Rattle.lb_step.specs.Plain
+pub use Rattle.lb_step.specs.Step
 pub use Rattle.lb_core.specs.Runs
 pub mod Output
 pub mod Faults

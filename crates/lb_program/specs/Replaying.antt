@@ -1,11 +1,11 @@
 -- What a replay does to its output.
 use Rattle.std.specs.Prelude.{◌≡◌, ℕ, List, [], ◌++◌, map, Option, Some, IfSome, Result, Ok, Err}
 use Rattle.std.specs.declared.io.Error.{Error}
-use Rattle.lb_core.specs.declared.event.Event.{Event}
-use Rattle.lb_core.specs.declared.answer.Answer.{Answer}
-use Rattle.lb_core.specs.Plain.{Plain, empty}
+use Rattle.lb_step.specs.declared.event.Event.{Event}
+use Rattle.lb_step.specs.declared.answer.Answer.{Answer}
+use Rattle.lb_step.specs.Plain.{Plain, empty}
+use Rattle.lb_step.specs.Routes.{routes_of}
 use Rattle.lb_core.specs.Provenance.{MeetsProvenance}
-use Rattle.lb_core.specs.Routes.{routes_of}
 use Rattle.lb_core.specs.Runs.{IsRun}
 use Rattle.lb_command.specs.Answers.{lines_of}
 use Rattle.lb_program.specs.Faults.{End, IsOutputWell, Tells, end_status, end_text}

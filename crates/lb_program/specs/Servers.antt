@@ -3,9 +3,9 @@ use Rattle.std.specs.Prelude.{◌==◌, ◌&&◌, Bool, List, map, Option, optio
 use Rattle.std.specs.List.{find, list_any}
 use Rattle.lb_wire.specs.declared.ids.ServerId.{ServerId}
 use Rattle.lb_servers.specs.declared.server.Server.{Server}
+use Rattle.lb_step.specs.Plain.{Plain}
+use Rattle.lb_step.specs.declared.check.Check.{Check}
 use Rattle.lb_core.specs.Laws.{has_number}
-use Rattle.lb_core.specs.Plain.{Plain}
-use Rattle.lb_core.specs.declared.check.Check.{Check}
 use Rattle.lb_program.specs.declared.servers.ServerPlace.{ServerPlace}
 
 -- a health check is that of a server, and says that a probe's name has to be resolved

@@ -1,13 +1,13 @@
 -- What a setup file states, line by line.
-use Rattle.std.specs.Prelude.{if◌then◌else◌, ◌≡◌, ◌⊎◌, ℕ, ◌+◌, Bool, true, false, ◌&&◌, nat_le, length, List, [], ◌∷◌, ◌++◌, ⊤, Option, Some, None, Result, Ok, Err}
+use Rattle.std.specs.Prelude.{if◌then◌else◌, ◌≡◌, ◌⊎◌, ℕ, ◌+◌, Bool, true, false, ◌&&◌, nat_le, length, List, [], ◌∷◌, ◌++◌, ⊤, Option, Some, None, IsSomeAnd, Result, Ok, Err}
 use Rattle.std.specs.Str.Lines.{lines}
-use Rattle.lb_core.specs.declared.answer.Answer.{Answer}
-use Rattle.lb_core.specs.declared.answer.Answer.TheVariants as answers
-use Rattle.lb_core.specs.declared.answer.EditFault.{EditFault}
-use Rattle.lb_core.specs.declared.command.Command.{Command}
-use Rattle.lb_core.specs.declared.event.Event.TheVariants as events
-use Rattle.lb_core.specs.Plain.{Plain, empty}
-use Rattle.lb_core.specs.Step.{Answers}
+use Rattle.lb_step.specs.declared.answer.Answer.{Answer}
+use Rattle.lb_step.specs.declared.answer.Answer.TheVariants as answers
+use Rattle.lb_step.specs.declared.answer.EditFault.{EditFault}
+use Rattle.lb_step.specs.declared.command.Command.{Command}
+use Rattle.lb_step.specs.declared.event.Event.TheVariants as events
+use Rattle.lb_step.specs.Plain.{Plain, empty}
+use Rattle.lb_step.specs.Step.{Answers}
 use Rattle.lb_command.specs.Line.{spaces_of}
 use Rattle.lb_command.specs.Reading.{max_line}
 use Rattle.lb_command.specs.Setup.{begins_listen, setup_of}
@@ -79,6 +79,10 @@ is_ninth listeners line = nat_le 8 listeners && nat_le (length line) max_line &&
 abbrev pub refusal_of : Answer → Option EditFault
 refusal_of (answers.Refused fault) = Some fault
 refusal_of _ = None
+
+-- an edit at the moment 0 is refused, and the reading ends with the number of its line and the fault
+abbrev pub EndsRefused : Plain → Command → ℕ → SetupEnd → Type 0
+EndsRefused old command number end = (answer : Answer) × (mid : Plain) × Answers old (events.Edit 0 command) answer mid × IsSomeAnd (refusal_of answer) (λ fault. end ≡ Err (Refused number fault))
 
 -- what is left to apply, from what was stated and the balancer
 abbrev pub Others : Type 1

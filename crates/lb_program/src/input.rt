@@ -5,7 +5,7 @@ ghost use Rattle.std.specs.Io.KnownBytes.{Keeps};
 ghost use Rattle.std.specs.Io.Buffered.{reader_buffer, reader_inner, reader_remaining};
 ghost use Rattle.lb_program.specs.Line.{IsFresh, IsSound};
 ghost use Rattle.lb_program.specs.Faults.{IsFailure};
-ghost use Rattle.lb_program.specs.Input.{Judges, MayStop, Turns, told_read};
+ghost use Rattle.lb_program.specs.Input.{Judges, MayStop, TurnsFrom, told_read};
 
 use crate::faults::Stop;
 use crate::line::{Line, LineKind, NotUtf8};
@@ -68,7 +68,7 @@ impl<R: Read + Drop> Lines<R> {
     /// Takes what the input shows of a line. Where the line ends there, it is judged. Only where no byte of the input is at hand is it
     /// read from, which may wait.
     pub(crate) fn turn(&mut self, alloc: Global) -> Result<Turn, Stop>
-        ensures turns { IsSound self.old.line → IfSome (reader_remaining R.remaining self.old.input) (λ bytes. Turns self.old.ended self.old.line bytes result self.new.ended self.new.line (reader_remaining R.remaining self.new.input)) }
+        ensures turns { TurnsFrom (reader_remaining R.remaining self.old.input) self.old.ended self.old.line result self.new.ended self.new.line (reader_remaining R.remaining self.new.input) }
         ensures unread { reader_buffer self.old.input ≢ [] → reader_inner self.new.input ≡ reader_inner self.old.input }
         ensures cause { IfErr result (MayStop self.old.turns (reader_buffer self.old.input)) }
         ensures counted { OnOk result ((self.new.turns ≡ self.old.turns + 1) × (self.new.turns < 2 ^ 64)) }
@@ -83,7 +83,7 @@ impl<R: Read + Drop> Lines<R> {
     /// A turn that is counted.
     fn take_turn(&mut self, alloc: Global) -> Result<Turn, Stop>
         requires { self.old.ended < self.old.turns }
-        ensures turns { IsSound self.old.line → IfSome (reader_remaining R.remaining self.old.input) (λ bytes. Turns self.old.ended self.old.line bytes result self.new.ended self.new.line (reader_remaining R.remaining self.new.input)) }
+        ensures turns { TurnsFrom (reader_remaining R.remaining self.old.input) self.old.ended self.old.line result self.new.ended self.new.line (reader_remaining R.remaining self.new.input) }
         ensures unread { reader_buffer self.old.input ≢ [] → reader_inner self.new.input ≡ reader_inner self.old.input }
         ensures cause { IfErr result (λ stop. (turns : ℕ) → turns < 2 ^ 64 - 1 → MayStop turns (reader_buffer self.old.input) stop) }
         ensures counted { self.new.turns ≡ self.old.turns }

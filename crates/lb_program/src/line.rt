@@ -4,7 +4,7 @@ ghost use Rattle.std.specs.Prelude.{◌≡◌, ◌≢◌, ◌+◌, ◌-◌, ◌<
 ghost use Rattle.std.specs.Io.Buffered.{reader_buffer, reader_inner, reader_remaining};
 ghost use Rattle.std.specs.Str.{is_utf8};
 ghost use Rattle.std.specs.Str.Lines.{strip_carriage_return};
-ghost use Rattle.lb_program.specs.Shown.{IsOfReading, Takes};
+ghost use Rattle.lb_program.specs.Shown.{IsOfReading, TakesFrom};
 ghost use Rattle.lb_program.specs.Line.{IsFresh, Sheds, kind_with, kind_of as kind_of_bytes};
 
 use crate::faults::Stop;
@@ -94,7 +94,7 @@ impl Line {
 
     /// Takes what the input shows of the line. An interruption shows nothing.
     pub(crate) fn read<R: Read>(&mut self, input: &mut BufReader<R>) -> Result<Shown, Stop>
-        ensures shown { IfSome (reader_remaining R.remaining input.old) (λ bytes. IfOk result (λ shown. Takes self.old.bytes.items bytes shown self.new.bytes.items (reader_remaining R.remaining input.new))) }
+        ensures shown { TakesFrom (reader_remaining R.remaining input.old) self.old.bytes.items result self.new.bytes.items (reader_remaining R.remaining input.new) }
         ensures kind { (self.new.kind ≡ self.old.kind) × (self.new.is_long ≡ self.old.is_long) }
         ensures unread { reader_buffer input.old ≢ [] → reader_inner input.new ≡ reader_inner input.old }
         ensures cause { IfErr result (IsOfReading (reader_buffer input.old)) }

@@ -3,11 +3,11 @@
 ghost use Rattle.std.specs.Prelude.{◌≡◌, ◌≢◌, ◌+◌, ◌<◌, ◌^◌, ◌++◌, [], codes, IfErr, IfOk, IfSome, OnErr, OnOk, Result};
 ghost use Rattle.std.specs.Io.Buffered.{reader_buffer, reader_inner, reader_remaining};
 ghost use Rattle.std.specs.declared.io.Error.{Error};
-ghost use Rattle.lb_core.specs.Plain.{empty};
-ghost use Rattle.lb_core.specs.Step.{Answers};
-ghost use Rattle.lb_core.specs.declared.answer.Answer.{Answer};
+ghost use Rattle.lb_step.specs.Plain.{empty};
+ghost use Rattle.lb_step.specs.Step.{Answers};
+ghost use Rattle.lb_step.specs.declared.answer.Answer.{Answer};
 ghost use Rattle.lb_command.specs.Answers.{line_of};
-ghost use Rattle.lb_program.specs.Input.{Turns};
+ghost use Rattle.lb_program.specs.Input.{TurnsFrom};
 ghost use Rattle.lb_program.specs.Line.{IsSound};
 ghost use Rattle.lb_program.specs.Output.{Writes};
 ghost use Rattle.lb_program.specs.Replaying.{AnswersUpTo, EndsReplay, Replays};
@@ -127,7 +127,7 @@ impl Player {
         lines: &mut Lines<R>,
         output: &mut W,
     ) -> Result<Turn, Stop>
-        ensures turns { IsSound lines.old.line → IfSome (reader_remaining R.remaining lines.old.input) (λ bytes. Turns lines.old.ended lines.old.line bytes result lines.new.ended lines.new.line (reader_remaining R.remaining lines.new.input)) }
+        ensures turns { TurnsFrom (reader_remaining R.remaining lines.old.input) lines.old.ended lines.old.line result lines.new.ended lines.new.line (reader_remaining R.remaining lines.new.input) }
         ensures front { Writes (W.contents output.old) (W.contents output.new) self.old.held.items self.new.held.items }
         ensures waits { self.new.held.items ≢ [] → reader_inner lines.new.input ≡ reader_inner lines.old.input }
         ensures same { self.new.balancer ≡ self.old.balancer }

@@ -2,8 +2,8 @@
 
 ghost use Rattle.std.specs.Prelude.{map, option_map, IfOk, ◌≡◌};
 ghost use Rattle.std.specs.List.{find, list_any};
+ghost use Rattle.lb_step.specs.Upstream.{server_of};
 ghost use Rattle.lb_core.specs.Laws.{has_number};
-ghost use Rattle.lb_core.specs.Upstream.{server_of};
 ghost use Rattle.lb_program.specs.Servers.{has_to_resolve, placed, server_place, server_places};
 
 use lb_core::{Balancer, Check};

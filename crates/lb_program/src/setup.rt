@@ -1,11 +1,11 @@
 //! Reading a setup file: what it states, and the balancer that its commands leave.
 
 ghost use Rattle.std.specs.Prelude.{◌≡◌, List, ℕ, Err, None, IfErr, IsSomeAnd, OnOk};
-ghost use Rattle.lb_core.specs.Plain.{Plain};
-ghost use Rattle.lb_core.specs.Step.{Answers};
-ghost use Rattle.lb_core.specs.declared.answer.Answer.{Answer};
-ghost use Rattle.lb_core.specs.declared.event.Event.TheVariants.{Edit};
-ghost use Rattle.lb_program.specs.Setup.{Applies, AppliesAll, EndsWith, SetupEnd, StopsBy, ninth_listener, nothing_stated, refusal_of, told_before, told_lines};
+ghost use Rattle.lb_step.specs.Plain.{Plain};
+ghost use Rattle.lb_step.specs.Step.{Answers};
+ghost use Rattle.lb_step.specs.declared.answer.Answer.{Answer};
+ghost use Rattle.lb_step.specs.declared.event.Event.TheVariants.{Edit};
+ghost use Rattle.lb_program.specs.Setup.{Applies, AppliesAll, EndsRefused, EndsWith, SetupEnd, StopsBy, ninth_listener, nothing_stated, refusal_of, told_before, told_lines};
 ghost use Rattle.lb_program.specs.declared.faults.Stop.TheVariants.{Refused};
 
 use crate::faults::Stop;
@@ -128,7 +128,7 @@ impl Setup {
 /// Carries out the command of the line with a number.
 fn edit(alloc: Global, number: u64, command: Command, balancer: &mut Balancer) -> Result<(), Stop>
     ensures done { OnOk result ((answer : Answer) × Answers balancer.old (Edit 0 command) answer balancer.new × (refusal_of answer ≡ None)) }
-    ensures refused { IfErr result (λ stop. StopsBy stop (λ end. (answer : Answer) × (mid : Plain) × Answers balancer.old (Edit 0 command) answer mid × IsSomeAnd (refusal_of answer) (λ fault. end ≡ Err (Refused number fault)))) }
+    ensures refused { IfErr result (λ stop. StopsBy stop (EndsRefused balancer.old command number)) }
 {
     let command = BoxedCommand::new(alloc, command)?;
     match balancer.step(Event::Edit { now: 0, command }) {

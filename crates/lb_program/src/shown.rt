@@ -3,7 +3,7 @@
 ghost use Rattle.std.specs.Prelude.{◌≡◌, ◌≢◌, [], ℕ, ◌+◌, ◌<◌, ◌++◌, ◌∷◌, List, Some, false, take, drop, length, IfOk, IfSome, IfErr, IfNone, OnErr};
 ghost use Rattle.std.specs.List.{All};
 ghost use Rattle.std.specs.Io.Buffered.{reader_buffer, reader_inner, reader_remaining};
-ghost use Rattle.lb_program.specs.Shown.{IsOfReading, Takes, is_line_feed};
+ghost use Rattle.lb_program.specs.Shown.{FirstFeedAt, IsOfReading, TakesFrom, is_line_feed};
 
 use crate::faults::Stop;
 use std::io::{BufRead, BufReader, Read};
@@ -25,7 +25,7 @@ pub(crate) fn take_shown<R: Read>(
     input: &mut BufReader<R>,
     bytes: &mut Vec<u8>,
 ) -> Result<Shown, Stop>
-    ensures ok { IfSome (reader_remaining R.remaining input.old) (λ all. IfOk result (λ shown. Takes bytes.old.items all shown bytes.new.items (reader_remaining R.remaining input.new))) }
+    ensures ok { TakesFrom (reader_remaining R.remaining input.old) bytes.old.items result bytes.new.items (reader_remaining R.remaining input.new) }
     ensures err { IfSome (reader_remaining R.remaining input.old) (λ all. OnErr result ((reader_remaining R.remaining input.new ≡ Some all) × (bytes.new.items ≡ bytes.old.items))) }
     ensures unread { reader_buffer input.old ≢ [] → reader_inner input.new ≡ reader_inner input.old }
     ensures cause { IfErr result (IsOfReading (reader_buffer input.old)) }
@@ -55,7 +55,7 @@ pub(crate) fn take_shown<R: Read>(
 
 /// The place of the first line feed.
 pub(crate) fn line_feed(bytes: &[u8]) -> Option<usize>
-    ensures found { IfSome result (λ place. (place < length bytes.now) × (bytes.now ≡ take place bytes.now ++ 10 ∷ drop (place + 1) bytes.now) × All (λ byte. is_line_feed byte ≡ false) (take place bytes.now)) }
+    ensures found { IfSome result (FirstFeedAt bytes.now) }
     ensures none { IfNone result (All (λ byte. is_line_feed byte ≡ false) bytes.now) }
 {
     bytes.iter().position(|byte| *byte == b'\n')

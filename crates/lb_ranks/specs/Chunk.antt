@@ -3,7 +3,7 @@ use Rattle.std.specs.Prelude.{◌≡◌, ℕ, zero, suc, ◌-◌, ◌<◌, ◌�
 use Rattle.std.specs.List.{flat_map}
 use Rattle.lb_ranks.specs.declared.filed.Filed.{Filed}
 use Rattle.lb_ranks.specs.declared.front.Front.{Front}
-use Rattle.lb_ranks.specs.Filed.{is_before}
+use Rattle.lb_ranks.specs.Filed.{IsCut, is_before}
 use Rattle.lb_ranks.specs.Front.{front_of_key, AreOctets}
 
 -- how many pairs a chunk may have
@@ -46,6 +46,10 @@ abbrev pub back_of : List (List Filed) → ℕ → ℕ → List Filed
 back_of [] k place = []
 back_of (c ∷ cs) zero place = drop place c ++ all_of cs
 back_of (c ∷ cs) (suc k) place = back_of cs k place
+
+-- the pairs before a place of a chunk stand before this one, and those from that place on do not
+abbrev pub IsCutAt : Filed → List (List Filed) → ℕ → ℕ → Type 0
+IsCutAt at chunks k place = IsCut at (front_of chunks k place) (back_of chunks k place)
 
 -- the pairs behind that at a place of a chunk
 abbrev pub rest_of : List (List Filed) → ℕ → ℕ → List Filed

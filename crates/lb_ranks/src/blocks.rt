@@ -4,7 +4,7 @@ ghost use Rattle.std.specs.Prelude.{◌≡◌, ◌<◌, length, ◌≤◌, ◌-�
 ghost use Rattle.std.specs.List.{All, remove};
 ghost use Rattle.std.specs.Option.{IfNone};
 ghost use Rattle.lb_ranks.specs.Block.{back_in, front_in, IsFiledIn, IsUnfiledIn, place_in, TakesBelow};
-ghost use Rattle.lb_ranks.specs.Chunk.{all_of, back_of, chunk_at, front_of, IsFilled, IsPlace};
+ghost use Rattle.lb_ranks.specs.Chunk.{all_of, chunk_at, IsCutAt, IsFilled, IsPlace};
 ghost use Rattle.lb_ranks.specs.Filed.{AreInOrder, IsCut, IsCutOut, TakesLast};
 
 use crate::block::Block;
@@ -18,7 +18,7 @@ fn block_of(blocks: &[Block], at: &Probe<'_>) -> usize
     requires order { AreInOrder (all_of blocks.now) }
     requires filled { All IsFilled blocks.now }
     ensures place { IsPlace blocks.now result (place_in at.now (chunk_at blocks.now result)) }
-    ensures cut { IsCut at.now (front_of blocks.now result (place_in at.now (chunk_at blocks.now result))) (back_of blocks.now result (place_in at.now (chunk_at blocks.now result))) }
+    ensures cut { IsCutAt at.now blocks.now result (place_in at.now (chunk_at blocks.now result)) }
 {
     let Some((_, others)) = blocks.split_last() else {
         return 0;
@@ -84,7 +84,7 @@ fn room_for(blocks: &mut Vec<Block>, at: &Probe<'_>) -> Result<usize, AllocError
     ensures pairs { all_of blocks.new.items ≡ all_of blocks.old.items }
     ensures filled { All IsFilled blocks.new.items }
     ensures place { IfOk result (λ k. IsPlace blocks.new.items k (place_in at.now (chunk_at blocks.new.items k))) }
-    ensures cut { IfOk result (λ k. IsCut at.now (front_of blocks.new.items k (place_in at.now (chunk_at blocks.new.items k))) (back_of blocks.new.items k (place_in at.now (chunk_at blocks.new.items k)))) }
+    ensures cut { IfOk result (λ k. IsCutAt at.now blocks.new.items k (place_in at.now (chunk_at blocks.new.items k))) }
 {
     let here = block_of(blocks.as_slice(), at);
     if !is_full(blocks.as_slice(), here) {
@@ -99,7 +99,7 @@ fn file_at(blocks: &mut Vec<Block>, here: usize, at: &Probe<'_>) -> Result<(), A
     requires order { AreInOrder (all_of blocks.old.items) }
     requires filled { All IsFilled blocks.old.items }
     requires place { IsPlace blocks.old.items here (place_in at.now (chunk_at blocks.old.items here)) }
-    requires cut { IsCut at.now (front_of blocks.old.items here (place_in at.now (chunk_at blocks.old.items here))) (back_of blocks.old.items here (place_in at.now (chunk_at blocks.old.items here))) }
+    requires cut { IsCutAt at.now blocks.old.items here (place_in at.now (chunk_at blocks.old.items here)) }
     ensures ok { OnOk result (IsFiledIn at.now (front_in at.now (all_of blocks.old.items)) (back_in at.now (all_of blocks.old.items)) (all_of blocks.new.items)) }
     ensures err { OnErr result (all_of blocks.new.items ≡ all_of blocks.old.items) }
     ensures filled { All IsFilled blocks.new.items }

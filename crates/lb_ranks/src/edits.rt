@@ -2,8 +2,8 @@
 
 ghost use Rattle.std.specs.Prelude.{◌≡◌, ◌<◌, ◌≤◌, ◌∷◌, ◌++◌, length, slice_get, option_map, Some, IsTrue, OnOk, OnErr, IfOk};
 ghost use Rattle.std.specs.List.{All, remove};
-ghost use Rattle.lb_ranks.specs.Chunk.{all_of, back_of, chunk_at, front_of, IsFilled, IsPlace, IsTaken, max_pairs, rest_of};
-ghost use Rattle.lb_ranks.specs.Filed.{AreInOrder, IsCut};
+ghost use Rattle.lb_ranks.specs.Chunk.{all_of, back_of, chunk_at, front_of, IsCutAt, IsFilled, IsPlace, IsTaken, max_pairs, rest_of};
+ghost use Rattle.lb_ranks.specs.Filed.{AreInOrder};
 
 use crate::chunk::Chunk;
 use crate::filed::Filed;
@@ -47,11 +47,11 @@ pub(crate) fn room_at(
     requires order { AreInOrder (all_of chunks.old.items) }
     requires filled { All IsFilled chunks.old.items }
     requires place { IsPlace chunks.old.items spot.chunk spot.place }
-    requires cut { IsCut at.now (front_of chunks.old.items spot.chunk spot.place) (back_of chunks.old.items spot.chunk spot.place) }
+    requires cut { IsCutAt at.now chunks.old.items spot.chunk spot.place }
     ensures pairs { all_of chunks.new.items ≡ all_of chunks.old.items }
     ensures filled { All IsFilled chunks.new.items }
     ensures place { IfOk result (λ s. IsPlace chunks.new.items s.chunk s.place) }
-    ensures cut { IfOk result (λ s. IsCut at.now (front_of chunks.new.items s.chunk s.place) (back_of chunks.new.items s.chunk s.place)) }
+    ensures cut { IfOk result (λ s. IsCutAt at.now chunks.new.items s.chunk s.place) }
 {
     if !is_full(chunks.as_slice(), spot.chunk) {
         return Ok(spot);

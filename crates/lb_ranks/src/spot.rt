@@ -3,8 +3,8 @@
 ghost use Rattle.std.specs.Prelude.{◌≡◌, slice_get, option_copied, IsSome, Some, IsTrue, ◌↔◌};
 ghost use Rattle.std.specs.List.{All};
 ghost use Rattle.lb_ranks.specs.Block.{IsBelow};
-ghost use Rattle.lb_ranks.specs.Chunk.{all_of, back_of, front_of, IsFilled, IsPlace, IsTaken};
-ghost use Rattle.lb_ranks.specs.Filed.{AreInOrder, IsCut};
+ghost use Rattle.lb_ranks.specs.Chunk.{all_of, back_of, IsCutAt, IsFilled, IsPlace, IsTaken};
+ghost use Rattle.lb_ranks.specs.Filed.{AreInOrder};
 
 use crate::chunk::Chunk;
 use crate::filed::Filed;
@@ -22,7 +22,7 @@ pub(crate) fn spot_of(chunks: &[Chunk], at: &Probe<'_>) -> Spot
     requires order { AreInOrder (all_of chunks.now) }
     requires filled { All IsFilled chunks.now }
     ensures place { IsPlace chunks.now result.chunk result.place }
-    ensures cut { IsCut at.now (front_of chunks.now result.chunk result.place) (back_of chunks.now result.chunk result.place) }
+    ensures cut { IsCutAt at.now chunks.now result.chunk result.place }
 {
     let Some((_, others)) = chunks.split_last() else {
         return Spot { chunk: 0, place: 0 };

@@ -1,7 +1,7 @@
 //! The desk of a scene. There is one function that has a desk, and one that picks its name (its folder in proofs/ says so).
 
 ghost use Rattle.std.specs.Prelude.{◌≡◌};
-ghost use Rattle.lb_core.specs.Snapshot.{snapshot_of};
+ghost use Rattle.lb_step.specs.Snapshot.{snapshot_of};
 
 use crate::fault::Fault;
 use crate::handler::Handler;

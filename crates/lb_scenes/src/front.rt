@@ -15,9 +15,8 @@ pub(crate) fn tell<R: Wait, T: Taker>(
     console: &mut T,
     stage: &mut Stage<'_, R>,
     words: &Words<'_>,
-    line: &str,
 ) -> Result<(), Fault> {
-    match read_event_line(stage.alloc, line) {
+    match read_event_line(stage.alloc, words.line()) {
         Ok(event) => hand(console, stage, words, event),
         Err(_) => Err(words.bad()),
     }

@@ -5,7 +5,8 @@ use crate::fault::Fault;
 use crate::playing::play_all;
 use crate::stage::{Sides, Stage};
 use lb_loops::{
-    ClockLoop, Connections, DatagramLoop, Outbox, Probes, Receiver, Sender, StreamLoop, Taker,
+    Answering, ClockLoop, Connections, DatagramLoop, Outbox, Probes, Receiver, Sender, StreamLoop,
+    Taker,
 };
 use lb_memory::{MemoryDatagrams, MemoryOutside, MemoryPosts, MemoryStreams};
 use std::sync::Wait;
@@ -80,8 +81,14 @@ fn streaming<'a, R: Wait, T: Taker>(
         fronts,
         outside,
     } = stage.sides()?;
-    let handler = next(handlers)?;
-    Ok(StreamLoop::made(stage.alloc, net, receiver, fronts, posts, handler, outside))
+    let taker = next(handlers)?;
+    let answering = Answering {
+        fronts,
+        posts,
+        taker,
+        outside,
+    };
+    Ok(StreamLoop::made(stage.alloc, net, receiver, answering))
 }
 
 /// Plays the lines with a loop of the clock beside the others.
@@ -115,14 +122,12 @@ fn clocking<'a, R: Wait, T: Taker>(
         fronts,
         outside,
     } = stage.sides()?;
-    let handler = next(handlers)?;
-    Ok(ClockLoop::made(
-        stage.alloc,
-        probing,
-        second,
+    let taker = next(handlers)?;
+    let answering = Answering {
         fronts,
         posts,
-        handler,
+        taker,
         outside,
-    ))
+    };
+    Ok(ClockLoop::made(stage.alloc, probing, second, answering))
 }

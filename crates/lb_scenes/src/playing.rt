@@ -24,7 +24,7 @@ pub(crate) fn play_all<R: Wait, D: Datagrams, S: Streams, P: Posts, T: Taker, O:
         let (times, line) = times_of(index + 1, line.as_str())?;
         for _ in 0..times {
             let mut words = Words::new(index + 1, line);
-            play(&mut words, line, stage, console, datagrams, streams, clock)?;
+            play(&mut words, stage, console, datagrams, streams, clock)?;
         }
     }
     Ok(())
@@ -33,7 +33,6 @@ pub(crate) fn play_all<R: Wait, D: Datagrams, S: Streams, P: Posts, T: Taker, O:
 /// Plays a line once.
 fn play<R: Wait, D: Datagrams, S: Streams, P: Posts, T: Taker, O: Outside>(
     words: &mut Words<'_>,
-    line: &str,
     stage: &mut Stage<'_, R>,
     console: &mut T,
     datagrams: &mut DatagramLoop<D, T, O>,
@@ -44,7 +43,7 @@ fn play<R: Wait, D: Datagrams, S: Streams, P: Posts, T: Taker, O: Outside>(
         "datagrams" => turn_of_datagrams(stage, datagrams),
         "streams" => turn_of_streams(stage, streams),
         "clock" => turn_of_clock(stage, clock),
-        "edit" | "query" | "reply" | "tick" | "health" => tell(console, stage, words, line),
+        "edit" | "query" | "reply" | "tick" | "health" => tell(console, stage, words),
         "asks" => ask(console, stage, words),
         "job" => send(stage, words),
         word => stage.come(word, words),

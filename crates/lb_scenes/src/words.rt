@@ -10,6 +10,7 @@ use std::str::SplitWhitespace;
 #[derive(Drop)]
 pub(crate) struct Words<'a> {
     number: usize,
+    line: &'a str,
     rest: SplitWhitespace<'a>,
 }
 
@@ -18,8 +19,14 @@ impl<'a> Words<'a> {
     pub(crate) fn new(number: usize, line: &'a str) -> Words<'a> {
         Words {
             number,
+            line,
             rest: line.split_whitespace(),
         }
+    }
+
+    /// The whole line.
+    pub(crate) fn line(&self) -> &'a str {
+        self.line
     }
 
     /// The next word, where there is one.

@@ -1,11 +1,9 @@
 //! The last result of the probes of each server.
 
+use lb_servers::MAX_SERVERS;
 use lb_wire::ServerId;
 use std::alloc::{AllocError, Global};
 use std::sync::atomic::{AtomicU64, Ordering};
-
-/// So many servers may stand.
-const SERVERS: usize = 256;
 
 /// The last result of the probes of a server.
 #[derive(Clone, Copy, Debug, PartialEq, Eq)]
@@ -34,8 +32,8 @@ pub(crate) struct Results {
 impl Results {
     /// None yet, and room for those of 256 servers. The one error is refused memory.
     pub(crate) fn made(alloc: Global) -> Result<Results, AllocError> {
-        let mut places = Vec::with_capacity(alloc, SERVERS)?;
-        for _ in 0..SERVERS {
+        let mut places = Vec::with_capacity(alloc, MAX_SERVERS)?;
+        for _ in 0..MAX_SERVERS {
             places.push(Place {
                 server: AtomicU64::new(0),
                 result: AtomicU64::new(0),

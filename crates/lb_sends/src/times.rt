@@ -1,12 +1,10 @@
 //! How long servers take to reply.
 
 use crate::clients::read;
+use lb_servers::MAX_SERVERS;
 use lb_wire::ServerId;
 use std::alloc::{AllocError, Global};
 use std::sync::atomic::{AtomicU64, Ordering};
-
-/// So many servers are counted: of two whose numbers are equal modulo this, the later one.
-const PLACES: usize = 256;
 
 /// The words of a place: the server's number, 0 if there is none; how many milliseconds its replies
 /// took together; and a count for each bound, 1, 2, 4 ms and so on up to 4,096 ms, and for what took
@@ -27,7 +25,8 @@ pub struct ReplyTimes {
 }
 
 /// Times of the replies that one loop handed in. That loop alone writes, so that no write waits for
-/// another processor; others read.
+/// another processor; others read. There is a place for each server, and of two whose numbers are
+/// equal modulo `MAX_SERVERS` the later one is counted.
 #[derive(Debug, Drop)]
 pub(crate) struct Times {
     words: Vec<AtomicU64>,
@@ -44,8 +43,8 @@ struct Row<'a> {
 impl Times {
     /// None yet. The one error is refused memory.
     pub(crate) fn made(alloc: Global) -> Result<Times, AllocError> {
-        let mut words = Vec::with_capacity(alloc, PLACES * WORDS)?;
-        for _ in 0..PLACES * WORDS {
+        let mut words = Vec::with_capacity(alloc, MAX_SERVERS * WORDS)?;
+        for _ in 0..MAX_SERVERS * WORDS {
             words.push(AtomicU64::new(0))?;
         }
         Ok(Times { words })
@@ -88,7 +87,7 @@ impl Times {
 
     /// The words of a server's place.
     fn row_of(&self, server: ServerId) -> Option<Row<'_>> {
-        let begin = (server.0 % PLACES as u64) as usize * WORDS;
+        let begin = (server.0 % MAX_SERVERS as u64) as usize * WORDS;
         let words = self.words.get(begin..begin + WORDS)?;
         Some(Row {
             server: words.first()?,

@@ -3,7 +3,7 @@ use Rattle.std.proofs.Common.{◌≡◌, ◌⊎◌, ℕ, List, Result, Ok, Err, 
 use Rattle.lb_command.specs.Commands.{command_of}
 use Rattle.lb_command.specs.declared.fault.CommandFault.{CommandFault}
 use Rattle.lb_command.specs.declared.fault.FaultKind.TheVariants as kinds
-use Rattle.lb_core.specs.declared.command.Command.{Command}
+use Rattle.lb_step.specs.declared.command.Command.{Command}
 use Rattle.lb_serve.specs.declared.operator.Said.{Said}
 use Rattle.lb_serve.specs.declared.operator.Said.TheVariants.{Line, Lines, Quit, Stop}
 use Rattle.lb_serve.specs.Operator.{BySaid, IsHeard, IsLine, Says, Told, Wants, fault_text}

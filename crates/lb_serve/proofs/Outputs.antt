@@ -2,11 +2,11 @@
 use Rattle.std.proofs.Common.{◌≡◌, ◌⊎◌, inl, inr, ℕ, List, [], ◌++◌, IfErr, OnOk, refl, sym, ◌∙◌, ap, append_assoc, Option, None, Some, Result, Ok, Err}
 use Rattle.std.proofs.lemmas.List.{append-nil}
 use Rattle.std.specs.Io.KnownBytes.{Appends, Keeps}
-use Rattle.lb_core.specs.Snapshot.{Snapshot}
+use Rattle.lb_step.specs.Snapshot.{Snapshot}
 use Rattle.std.specs.declared.io.Error.{Error}
 use Rattle.lb_program.specs.Faults.{Tells}
 use Rattle.lb_program.specs.Output.{WritesFront}
-use Rattle.lb_serve.specs.Serving.{Closes, Says, Served, TellsBehind, closed_text, output_end, ready_text}
+use Rattle.lb_serve.specs.Serving.{Closes, Fails, Says, Served, TellsBehind, closed_text, output_end, ready_text}
 use Rattle.lb_serve.specs.declared.fault.Fault.{Fault}
 use Rattle.lb_serve.specs.declared.fault.Fault.TheVariants.{Switch, NoThreads, NoListener, Bind, System, Loops, Front, Console, Output, Closing, NoMemory}
 
@@ -99,7 +99,7 @@ served_closed opening limit count a b c (Err error) closes ready front whole = (
 pub served_unready : (opening : Snapshot) (limit : ℕ) (a b : Option (List ℕ)) (error : Error) → WritesFront a b ready_text → Served opening limit a b (Err (Output error))
 served_unready opening limit a b error front = (0, front_before a b ready_text (closed_text 0) front)
 
--- where the first line was written, what ended serving ended it behind that line
-pub ready_then : {A : Type 0} (opening : Snapshot) (limit : ℕ) (a b : Option (List ℕ)) (end : Result A Fault) → Appends a b ready_text → IfErr end (λ (fault : Fault). Served opening limit a b (Err fault))
-ready_then opening limit a b (Ok done) ready = tt
-ready_then opening limit a b (Err fault) ready = served_ready opening limit a b fault ready
+-- if the first line was written, what ended serving ended it after that line
+pub ready_then : {A : Type 0} (a b : Option (List ℕ)) (end : Result A Fault) → Appends a b ready_text → IfErr end (Fails a b)
+ready_then a b (Ok done) ready = tt
+ready_then a b (Err fault) ready = λ opening limit. served_ready opening limit a b fault ready

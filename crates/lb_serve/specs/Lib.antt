@@ -1,6 +1,6 @@
 pub use Rattle.lb_command.specs.Commands
-pub use Rattle.lb_core.specs.Plain
-pub use Rattle.lb_core.specs.Snapshot
+pub use Rattle.lb_step.specs.Plain
+pub use Rattle.lb_step.specs.Snapshot
 pub use Rattle.lb_desk.specs.Book
 pub use Rattle.lb_lines.specs.Counts
 pub use Rattle.lb_lines.specs.Roster

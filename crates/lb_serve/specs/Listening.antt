@@ -1,5 +1,5 @@
 -- What the lines of a setup file listen with.
-use Rattle.std.specs.Prelude.{Option, Some, None}
+use Rattle.std.specs.Prelude.{◌≡◌, List, map, Option, Some, None}
 use Rattle.std.specs.Int.NonZero.{non_zero_u16_get}
 use Rattle.lb_command.specs.declared.setup.Listener.{Listener}
 use Rattle.lb_command.specs.declared.setup.Protocol.{Protocol}
@@ -32,3 +32,7 @@ front_by protocols.Console = fronts.Console
 
 abbrev pub front_of : Listener → Front
 front_of line = front_by line.protocol
+
+-- what listens at each place of these lines, for two loops
+abbrev pub AreFronts : List Front → List Front → List Listener → Type 0
+AreFronts one other lines = (one ≡ map front_of lines) × (other ≡ map front_of lines)

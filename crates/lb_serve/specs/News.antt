@@ -1,13 +1,13 @@
 -- What the loops learn of the servers.
 use Rattle.std.specs.Prelude.{◌≡◌, ◌⊎◌, ◌==◌, if◌then◌else◌, length, Option, None, Some, option_map, IsSome}
 use Rattle.std.specs.Int.NonZero.{non_zero_u16_get}
-use Rattle.lb_core.specs.declared.answer.Answer.{Answer}
-use Rattle.lb_core.specs.declared.answer.Answer.TheVariants.{Edited}
-use Rattle.lb_core.specs.declared.answer.Note.{Note}
-use Rattle.lb_core.specs.declared.answer.Note.TheVariants.{ServerAdded, ServerRemoved, ServerMode}
-use Rattle.lb_core.specs.declared.event.Event.{Event}
-use Rattle.lb_core.specs.Plain.{Plain}
-use Rattle.lb_core.specs.Step.{Answers}
+use Rattle.lb_step.specs.declared.answer.Answer.{Answer}
+use Rattle.lb_step.specs.declared.answer.Answer.TheVariants.{Edited}
+use Rattle.lb_step.specs.declared.answer.Note.{Note}
+use Rattle.lb_step.specs.declared.answer.Note.TheVariants.{ServerAdded, ServerRemoved, ServerMode}
+use Rattle.lb_step.specs.declared.event.Event.{Event}
+use Rattle.lb_step.specs.Plain.{Plain}
+use Rattle.lb_step.specs.Step.{Answers}
 use Rattle.lb_lines.specs.Roster.{Rostered, most_servers, next_version, others, place_in}
 use Rattle.lb_lines.specs.declared.endpoint.Endpoint.{Endpoint}
 use Rattle.lb_lines.specs.declared.roster.Place.{Place}

@@ -6,10 +6,10 @@ use Rattle.lb_command.specs.Commands.{command_of}
 use Rattle.lb_command.specs.Fault.{fault_name, fault_number}
 use Rattle.lb_command.specs.declared.fault.CommandFault.{CommandFault}
 use Rattle.lb_command.specs.declared.fault.FaultKind.TheVariants as kinds
-use Rattle.lb_core.specs.declared.answer.Answer.{Answer}
-use Rattle.lb_core.specs.declared.command.Command.{Command}
-use Rattle.lb_core.specs.declared.event.Event.{Event}
-use Rattle.lb_core.specs.declared.event.Event.TheVariants.{Edit}
+use Rattle.lb_step.specs.declared.answer.Answer.{Answer}
+use Rattle.lb_step.specs.declared.command.Command.{Command}
+use Rattle.lb_step.specs.declared.event.Event.{Event}
+use Rattle.lb_step.specs.declared.event.Event.TheVariants.{Edit}
 use Rattle.lb_desk.specs.declared.fault.DeskFault.{DeskFault}
 use Rattle.lb_desk.specs.declared.fault.DeskFault.TheVariants as calling
 use Rattle.lb_lines.specs.Counts.{Grows}
@@ -41,6 +41,10 @@ IsLine _ line = ⊥
 pub record Told : Type 0 where
   pub answered : ℕ
   pub pairs : List (Event × Answer)
+
+-- what a handler has that answered so many calls and has these pairs
+abbrev pub told : ℕ → List (Event × Answer) → Told
+told answered pairs = record { answered = answered; pairs = pairs }
 
 -- a line is told a fault for want of memory, and nothing was done
 pub record Wants (said : Said) (old new : Told) : Type 0 where

@@ -3,10 +3,10 @@ use Rattle.std.specs.Prelude.{◌≡◌, ◌⊎◌, ℕ, min, List, [], ◌++◌
 use Rattle.std.specs.Fmt.{decimal}
 use Rattle.std.specs.Io.KnownBytes.{Appends, Keeps}
 use Rattle.std.specs.declared.io.Error.{Error}
-use Rattle.lb_core.specs.Plain.{Plain, empty}
-use Rattle.lb_core.specs.Snapshot.{Snapshot, snapshot_of}
+use Rattle.lb_step.specs.Plain.{Plain, empty}
+use Rattle.lb_step.specs.Snapshot.{Snapshot, snapshot_of}
 use Rattle.lb_desk.specs.Book.{Keeps as KeepsTrue}
-use Rattle.lb_desk.specs.declared.entry.Entry.{Entry}
+use Rattle.lb_desk.specs.declared.entry.LogEntry.{LogEntry}
 use Rattle.lb_program.specs.Faults.{Tells, stop_status, stop_text}
 use Rattle.lb_program.specs.Output.{WritesFront}
 use Rattle.lb_program.specs.Setup.{Applies, Stated, StopsBy, nothing_stated, told_lines}
@@ -27,7 +27,7 @@ closed_text count = codes "closed " ++ decimal count ++ codes "\n"
 -- a desk that was made at this snapshot, whose log takes so many calls, was closed after so many: its log is a run of the balancer, and has
 -- all calls up to its limit
 pub record Closes (opening : Snapshot) (limit count : ℕ) : Type 0 where
-  pub log : List Entry
+  pub log : List LogEntry
   pub balancer : Plain
   pub true : ∥ KeepsTrue opening limit count log balancer ∥₁
   pub filled : length log ≡ min count limit
@@ -38,6 +38,15 @@ abbrev pub Served : Snapshot → ℕ → Option (List ℕ) → Option (List ℕ)
 Served opening limit old new (Ok done) = (count : ℕ) × Closes opening limit count × Appends old new (ready_text ++ closed_text count)
 Served opening limit old new (Err (Output error)) = (count : ℕ) × WritesFront old new (ready_text ++ closed_text count)
 Served opening limit old new (Err fault) = Keeps old new ⊎ Appends old new ready_text
+
+-- what was written when serving ended by this fault, at whatever desk
+abbrev pub Fails : Option (List ℕ) → Option (List ℕ) → Fault → Type 0
+Fails old new fault = (opening : Snapshot) (limit : ℕ) → Served opening limit old new (Err fault)
+
+-- the same of any desk that was closed with so many calls, of which nothing but `ready` was written before
+abbrev pub ServedOnceClosed : ℕ → Option (List ℕ) → Option (List ℕ) → Result (Unit {0}) Fault → Type 0
+ServedOnceClosed count mid new result =
+    (old : Option (List ℕ)) (opening : Snapshot) (limit : ℕ) → Closes opening limit count → Appends old mid ready_text → Served opening limit old new result
 
 -- what writing to the output gave, as the end of serving
 abbrev pub output_end : Result (Unit {0}) Error → Result (Unit {0}) Fault

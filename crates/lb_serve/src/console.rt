@@ -41,6 +41,41 @@ const AGAIN: u64 = 100;
 /// How long to wait before more of the memory of expunged replies is given back, in milliseconds.
 const SWEEP: u64 = 2;
 
+/// What the console waits with, and its listeners.
+#[derive(Drop)]
+pub(crate) struct ConsoleSockets {
+    poll: Poll,
+    events: Events,
+    /// A descriptor that is kept back.
+    spare: Option<Registry>,
+    listeners: Vec<TcpListener>,
+}
+
+impl ConsoleSockets {
+    /// Those that listen with these. The errors are the system's, and lack of memory.
+    pub(crate) fn made<N: Net>(
+        net: &N,
+        alloc: Global,
+        listeners: Vec<TcpListener>,
+    ) -> io::Result<ConsoleSockets> {
+        let poll = Poll::new(net)?;
+        for listener in &listeners {
+            watch(&poll, listener, LISTENER)?;
+        }
+        Ok(ConsoleSockets {
+            spare: poll.registry().try_clone().ok(),
+            poll,
+            events: Events::with_capacity(alloc, EVENTS)?,
+            listeners,
+        })
+    }
+
+    /// What ends the console's wait.
+    pub(crate) fn waker(&self) -> io::Result<Waker> {
+        Waker::new(self.poll.registry(), WAKE)
+    }
+}
+
 /// The console's thread: its listeners, the client that is served, and what answers its lines.
 #[derive(Drop)]
 pub(crate) struct Console<'a, R: Wait + Clock, T: Hears, O: Outside> {
@@ -71,25 +106,26 @@ pub(crate) struct Console<'a, R: Wait + Clock, T: Hears, O: Outside> {
 }
 
 impl<'a, R: Wait + Clock, T: Hears, O: Outside> Console<'a, R, T, O> {
-    /// One that listens with these. The errors are the system's, and lack of memory.
-    pub(crate) fn made<N: Net>(
+    /// One that listens with these sockets.
+    pub(crate) fn new(
         rt: &'a R,
-        net: &N,
         alloc: Global,
-        listeners: Vec<TcpListener>,
+        sockets: ConsoleSockets,
         operator: Operator<T, O>,
         halt: Halt,
-    ) -> io::Result<Console<'a, R, T, O>> {
-        let poll = Poll::new(net)?;
-        for listener in &listeners {
-            watch(&poll, listener, LISTENER)?;
-        }
-        Ok(Console {
+    ) -> Console<'a, R, T, O> {
+        let ConsoleSockets {
+            poll,
+            events,
+            spare,
+            listeners,
+        } = sockets;
+        Console {
             rt,
             alloc,
-            spare: poll.registry().try_clone().ok(),
             poll,
-            events: Events::with_capacity(alloc, EVENTS)?,
+            events,
+            spare,
             listeners,
             client: None,
             next: None,
@@ -101,12 +137,7 @@ impl<'a, R: Wait + Clock, T: Hears, O: Outside> Console<'a, R, T, O> {
             notices: Notices::new(alloc),
             halt,
             fault: None,
-        })
-    }
-
-    /// What ends its wait.
-    pub(crate) fn waker(&self) -> io::Result<Waker> {
-        Waker::new(self.poll.registry(), WAKE)
+        }
     }
 
     /// The handler of events, the client that said stop, and what ended the console by itself.

@@ -7,9 +7,9 @@ use std::sync::Arc;
 use std::sync::atomic::{AtomicBool, Ordering};
 use std::thread::{Threads, spawn};
 
-/// The threads besides those of datagrams: of streams, of the clock, of the console, and of DNS on
-/// HTTP.
-const OTHERS: u8 = 4;
+/// How many threads with a seat of the desk there are besides those of datagrams: that of streams, of
+/// the clock, of the console, and of DNS on HTTP.
+pub(crate) const OTHER_SEATED: u8 = 4;
 
 /// How many times a thread that is made as a trial looks whether it may end. After that it ends in
 /// any case.
@@ -17,7 +17,7 @@ const LOOKS: u32 = 10_000_000;
 
 /// How many threads serve by so many loops of datagrams, with the service of metrics or without.
 pub(crate) fn threads_of(loops: u8, has_metrics: bool) -> u8 {
-    OTHERS
+    OTHER_SEATED
         .saturating_add(loops)
         .saturating_add(u8::from(has_metrics))
 }

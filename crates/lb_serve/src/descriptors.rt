@@ -1,7 +1,10 @@
 //! How many descriptors the program may have, and for how many clients they suffice.
 
+use crate::desk::Plan;
 use lb_command::{Listener, Protocol};
+use lb_lines::MAX_CLIENTS;
 use lb_program::ServerPlace;
+use lb_servers::MAX_SERVERS;
 use libc;
 use libc::types::rlimit;
 
@@ -10,7 +13,7 @@ use libc::types::rlimit;
 const ENOUGH: u64 = 3_200;
 
 /// The most clients of a kind, however many descriptors there are.
-const MOST: u64 = 1_024;
+const MAX_OF_KIND: u64 = MAX_CLIENTS as u64;
 
 /// What the program has besides listeners, servers and their clients: its queues of events, what
 /// wakes its threads, standard input and output, clients of the console, and some to spare for
@@ -27,9 +30,6 @@ const OF_LOOP: u64 = 4;
 /// What the service of metrics takes: its listener, six of its runtime, eight clients, and one that
 /// is closed at once.
 const OF_METRICS: u64 = 16;
-
-/// How many servers there can be.
-const SERVERS: u64 = 256;
 
 /// The clients of a kind for which there is room in any case, if a line listens for them.
 const LEAST: u64 = 4;
@@ -54,6 +54,17 @@ pub(crate) struct Clients {
 }
 
 impl Clients {
+    /// As many as descriptors are left beside what a plan needs.
+    pub(crate) fn beside(plan: &Plan) -> Clients {
+        Clients::under(
+            limit(),
+            plan.setup.listeners(),
+            plan.servers.as_slice(),
+            plan.switches.loops,
+            plan.switches.metrics.is_some(),
+        )
+    }
+
     /// As many as descriptors are left of this limit for each kind that is listened for, once the
     /// listeners, the loops of datagrams, the service of metrics and these servers have theirs;
     /// 1,024 at most.
@@ -71,9 +82,9 @@ impl Clients {
                 let limit = limit.saturating_sub(of_metrics(has_metrics));
                 left_of(limit, lines, servers, loops) / kinds.max(1)
             }
-            None => MOST,
+            None => MAX_OF_KIND,
         };
-        let each = each.clamp(LEAST, MOST);
+        let each = each.clamp(LEAST, MAX_OF_KIND);
         Clients {
             streams: if listens(lines, Protocol::Tcp) {
                 each
@@ -93,7 +104,7 @@ impl Clients {
     /// How many clients of streams the sockets take in at a time. If that is no less than the loop
     /// of streams takes, the sockets set no bound, as the loop turns further clients away.
     pub(crate) fn room(self) -> usize {
-        if self.streams < MOST {
+        if self.streams < MAX_OF_KIND {
             self.streams as usize
         } else {
             usize::MAX
@@ -110,7 +121,7 @@ pub(crate) fn wanted(
     has_metrics: bool,
 ) -> u64 {
     let further = u64::from(loops.saturating_sub(1))
-        .saturating_mul(SERVERS)
+        .saturating_mul(MAX_SERVERS as u64)
         .saturating_add(of_further(lines, loops))
         .saturating_add(of_metrics(has_metrics));
     servers

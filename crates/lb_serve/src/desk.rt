@@ -1,21 +1,25 @@
 //! The desk that the threads of serving call, and its closing.
 
-ghost use Rattle.std.specs.Prelude.{Err, IfErr, IfOk, List, OnOk, Option, string_bytes, ◌≡◌, ◌≤◌, ℕ};
+ghost use Rattle.std.specs.Prelude.{Err, IfErr, IfOk, List, OnOk, Option, ◌≡◌, ◌≤◌, ℕ};
 ghost use Rattle.std.specs.Io.KnownBytes.{Appends};
-ghost use Rattle.lb_core.specs.Snapshot.{Snapshot, snapshot_of};
-ghost use Rattle.lb_serve.specs.Serving.{Closes, Served, closed_text, output_end, ready_text};
+ghost use Rattle.lb_step.specs.Snapshot.{snapshot_of};
+ghost use Rattle.lb_serve.specs.Serving.{Closes, Fails, Served, ServedOnceClosed, output_end, ready_text};
 
+use crate::crew::OTHER_SEATED;
 use crate::fault::Fault;
+use crate::handlers::{Handlers, OtherSeats};
+use crate::hears::Hears;
 use crate::listening::Listening;
 use crate::log::{LogFile, keep};
 use crate::pages::pages_cross_threads;
-use crate::parts::{Context, DeskConsole, DeskServices, Loops, OtherSeats, Runners, prepared};
+use crate::parts::{Context, OwnConsole, Runners, runners_at};
 use crate::switches::{MOST_LOOPS, Switches};
-use crate::threads::{FrontEnd, LoopsEnd, Over, run_beside};
+use crate::threads::{FrontEnd, LoopsEnd, run_beside};
 use lb_core::Balancer;
 use lb_desk::{CloseFault, Desk, Naming, Seat};
 use lb_doh::posts_cross_threads;
 use lb_loops::{Caller, Ended, callers_cross_threads};
+use lb_metrics::Page;
 use lb_program::{ServerPlace, Setup, closed_line, write_line};
 use lb_sockets::{
     moments_cross_threads, sockets_cross_threads, streams_cross_threads, wakers_are_shared,
@@ -32,36 +36,28 @@ use std::thread::Threads;
 use std::time::Clock;
 use std::{io, net};
 
-/// The seats of the desk besides those of the loops of datagrams: of the loop of streams, of the
-/// clock, of the console, and of the front of DNS on HTTP.
-const OTHERS: u8 = 4;
-
-/// What a setup file states, the servers that it leaves, what the switches ask for, and the sockets
-/// that listen.
-pub(crate) type Given = (Setup, Vec<ServerPlace>, Switches, Listening);
-
-/// What a setup file states, the servers of the balancer that it leaves, what the switches ask for,
-/// the sockets that listen, and the file to which the log is written once it was found true.
+/// What a setup file states, the servers of the balancer that it leaves, and what the switches ask
+/// for.
 #[derive(Drop)]
-pub(crate) struct Ready<L> {
+pub(crate) struct Plan {
     pub(crate) setup: Setup,
     pub(crate) servers: Vec<ServerPlace>,
     pub(crate) switches: Switches,
+}
+
+/// A plan, the sockets that listen, and the file to which the log is written once it was found
+/// true.
+#[derive(Drop)]
+pub(crate) struct Ready<L> {
+    pub(crate) plan: Plan,
     pub(crate) listening: Listening,
     pub(crate) log: Option<LogFile<L>>,
 }
 
-/// What has run at a desk.
-type Ran<'a, R, J> = (
-    LoopsEnd<Caller<'a, R, J>>,
-    (DeskConsole<'a, R, J>, FrontEnd<Caller<'a, R, J>>),
-);
-
-/// What threads leave besides the seats of the loops of datagrams: the others, and the console's
-/// client that said stop.
+/// What threads leave: their handlers of events, and the console's client that said stop.
 #[derive(Drop)]
-struct Left<J: Naming> {
-    others: OtherSeats<J>,
+struct Left<T> {
+    handlers: Handlers<T>,
     client: Option<TcpStream>,
 }
 
@@ -77,19 +73,18 @@ pub(crate) fn serve_at_desk<
     W: Write,
     L: Write + Drop,
 >(rt: &R, alloc: Global, balancer: Balancer, ready: Ready<L>, output: &mut W) -> Result<(), Fault>
-    ensures { Served (snapshot_of balancer) ready.setup.log (W.contents output.old) (W.contents output.new) result }
+    ensures { Served (snapshot_of balancer) ready.plan.setup.log (W.contents output.old) (W.contents output.new) result }
 {
-    let limit = u64::from(ready.setup.log());
-    let seats = seats_of(ready.switches.loops);
+    let seats = seats_of(ready.plan.switches.loops);
     let blank = Blank::new(u64::from(seats));
-    serve_named::<Brand, R, W, L>(rt, alloc, blank, balancer, limit, seats, ready, output)
+    serve_named::<Brand, R, W, L>((rt, alloc), blank, balancer, seats, ready, output)
 }
 
 /// How many seats there are with so many loops of datagrams: at most as many as a desk has.
 fn seats_of(loops: u8) -> u8
     ensures { (1 ≤ result) × (result ≤ 64) }
 {
-    OTHERS + loops.min(MOST_LOOPS)
+    OTHER_SEATED + loops.min(MOST_LOOPS)
 }
 
 fn serve_named<
@@ -103,11 +98,9 @@ fn serve_named<
     W: Write,
     L: Write + Drop,
 >(
-    rt: &R,
-    alloc: Global,
+    cx: Context<'_, R>,
     blank: Blank,
     balancer: Balancer,
-    limit: u64,
     count: u8,
     ready: Ready<L>,
     output: &mut W,
@@ -116,24 +109,24 @@ fn serve_named<
     requires parts { (blank.parts ≡ J.parts) × (J.parts ≡ J.seats) }
     requires seats { J.seats ≡ count }
     requires some { (1 ≤ count) × (count ≤ 64) }
-    requires limit { J.limit ≡ limit }
+    requires limit { J.limit ≡ ready.plan.setup.log }
     requires opening { J.opening ≡ snapshot_of balancer }
     ensures { Served J.opening J.limit (W.contents output.old) (W.contents output.new) result }
 {
+    let (rt, alloc) = cx;
+    let limit = u64::from(ready.plan.setup.log());
     let (desk, mut seats) = Desk::<J>::made(alloc, blank, balancer, limit, count)?;
     let Some(others) = taken(&mut seats) else {
         return Err(Fault::Closing(CloseFault::MissingSeat));
     };
     let Ready {
-        setup,
-        servers,
-        switches,
+        plan,
         listening,
         log,
     } = ready;
-    let given = (setup, servers, switches, listening);
+    let given = (&plan, listening);
     match run_at_desk((rt, alloc), &desk, &mut seats, others, given, output) {
-        Ok(left) => close(alloc, desk, seats, left, log, output),
+        Ok(client) => close(alloc, desk, seats, client, log, output),
         Err(fault) => Err(fault),
     }
 }
@@ -148,18 +141,33 @@ fn taken<J: Naming>(seats: &mut Vec<Seat<J>>) -> Option<OtherSeats<J>> {
     })
 }
 
-/// These seats and the others. The list that the others were taken out of has room for them. The
-/// one error is lack of memory.
-fn gathered<J: Naming>(
-    mut seats: Vec<Seat<J>>,
-    others: OtherSeats<J>,
-) -> Result<Vec<Seat<J>>, AllocError> {
-    seats.reserve(usize::from(OTHERS))?;
-    seats.push_reserved(others.streams);
-    seats.push_reserved(others.clock);
-    seats.push_reserved(others.console);
-    seats.push_reserved(others.front);
-    Ok(seats)
+/// Puts the seats of these handlers into a list. The one error is lack of memory.
+fn gather<J: Naming, R: Wait>(
+    seats: &mut Vec<Seat<J>>,
+    handlers: Handlers<Caller<'_, R, J>>,
+) -> Result<(), AllocError> {
+    let Handlers {
+        datagrams,
+        streams,
+        clock,
+        console,
+        front,
+    } = handlers;
+    for caller in datagrams {
+        put(seats, caller)?;
+    }
+    put(seats, streams)?;
+    put(seats, clock)?;
+    put(seats, console)?;
+    put(seats, front)
+}
+
+/// Puts the seat of a handler into a list.
+fn put<J: Naming, R: Wait>(
+    seats: &mut Vec<Seat<J>>,
+    caller: Caller<'_, R, J>,
+) -> Result<(), AllocError> {
+    seats.push(caller.into_seat()).map_err(AllocError::from)
 }
 
 /// Closes the desk, leaves its log in the file that is asked for, and reports how many calls it
@@ -168,14 +176,12 @@ fn close<J: Naming, W: Write, L: Write + Drop>(
     alloc: Global,
     desk: Desk<J>,
     seats: Vec<Seat<J>>,
-    left: Left<J>,
+    client: Option<TcpStream>,
     log: Option<LogFile<L>>,
     output: &mut W,
 ) -> Result<(), Fault>
     ensures { (old : Option (List ℕ)) → Appends old (W.contents output.old) ready_text → Served J.opening J.limit old (W.contents output.new) result }
 {
-    let Left { others, client } = left;
-    let seats = gathered(seats, others)?;
     match counted(alloc, desk, seats, log) {
         Ok(count) => tell_closed(count, client, output),
         Err(fault) => Err(fault),
@@ -203,7 +209,7 @@ fn counted<J: Naming, L: Write + Drop>(
 /// Reports how many calls there were. It takes no memory, so that it is reported however little
 /// there is.
 fn tell_closed<W: Write>(count: u64, client: Option<TcpStream>, output: &mut W) -> Result<(), Fault>
-    ensures { (old : Option (List ℕ)) (opening : Snapshot) (limit : ℕ) → Closes opening limit count → Appends old (W.contents output.old) ready_text → Served opening limit old (W.contents output.new) result }
+    ensures { ServedOnceClosed count (W.contents output.old) (W.contents output.new) result }
 {
     let line = closed_line(count);
     if let Some(mut client) = client {
@@ -222,8 +228,9 @@ fn told(written: io::Result<()>) -> Result<(), Fault>
     }
 }
 
-/// Runs the loops, the console and the front until serving ends. The seats of the loops of
-/// datagrams are taken out of their list, and come back into it.
+/// Runs the loops, the console and the front until serving ends, and gives the client that said
+/// stop. The seats of the loops of datagrams are taken out of their list, and all seats come into
+/// it.
 fn run_at_desk<
     'a,
     J: Naming + Send + Sync,
@@ -239,22 +246,34 @@ fn run_at_desk<
     desk: &'a Desk<J>,
     seats: &mut Vec<Seat<J>>,
     others: OtherSeats<J>,
-    given: Given,
+    given: (&Plan, Listening),
     output: &mut W,
-) -> Result<Left<J>, Fault>
+) -> Result<Option<TcpStream>, Fault>
     ensures ready { OnOk result (Appends (W.contents output.old) (W.contents output.new) ready_text) }
     ensures ended { IfErr result (λ fault. Served J.opening J.limit (W.contents output.old) (W.contents output.new) (Err fault)) }
 {
-    match prepared(cx, desk, seats, others, given) {
-        Ok(runners) => run_prepared(cx, seats, runners, output),
-        Err(fault) => Err(fault),
+    // Laws, which do nothing.
+    callers_cross_threads::<J, R>();
+    pages_cross_threads::<J, R>();
+    let (plan, listening) = given;
+    let runners = match runners_at(cx, desk, seats, others, plan, listening) {
+        Ok(runners) => runners,
+        Err(fault) => return Err(fault),
+    };
+    let Left { handlers, client } = match run_prepared(cx, runners, output) {
+        Ok(left) => left,
+        Err(fault) => return Err(fault),
+    };
+    match gather(seats, handlers) {
+        Ok(()) => Ok(client),
+        Err(refused) => Err(Fault::from(refused)),
     }
 }
 
-/// Tells that clients are answered from now on, and runs the loops, the console and the front.
+/// Tells that clients are answered from now on, and runs the loops, the console and the services by
+/// HTTP.
 fn run_prepared<
     'a,
-    J: Naming + Send + Sync,
     R: Threads
         + Wait
         + Net<Listener = TcpListener, Stream = net::TcpStream>
@@ -262,149 +281,91 @@ fn run_prepared<
         + RandomSource
         + Sync,
     W: Write,
->(
-    cx: Context<'a, R>,
-    seats: &mut Vec<Seat<J>>,
-    runners: Runners<'a, R, J>,
-    output: &mut W,
-) -> Result<Left<J>, Fault>
+    T: Hears + Send,
+    G: Page + Send,
+>(cx: Context<'a, R>, runners: Runners<'a, R, T, G>, output: &mut W) -> Result<Left<T>, Fault>
     ensures ready { OnOk result (Appends (W.contents output.old) (W.contents output.new) ready_text) }
-    ensures ended { IfErr result (λ fault. Served J.opening J.limit (W.contents output.old) (W.contents output.new) (Err fault)) }
+    ensures ended { IfErr result (Fails (W.contents output.old) (W.contents output.new)) }
 {
-    let Runners {
-        loops,
-        console,
-        over,
-        services,
-    } = runners;
     match write_line(output, b"ready\n") {
-        Ok(()) => left_of(cx, seats, loops, console, over, services),
-        Err(error) => {
-            drop(services);
-            Err(Fault::Output(error))
-        }
+        Ok(()) => left_of(cx, runners),
+        Err(error) => Err(Fault::Output(error)),
     }
 }
 
 /// What the loops, the console and the front leave that run now.
 fn left_of<
     'a,
-    J: Naming + Send + Sync,
     R: Threads
         + Wait
         + Net<Listener = TcpListener, Stream = net::TcpStream>
         + Clock
         + RandomSource
         + Sync,
->(
-    cx: Context<'a, R>,
-    seats: &mut Vec<Seat<J>>,
-    loops: Loops<'a, R, J>,
-    console: DeskConsole<'a, R, J>,
-    over: Over,
-    services: DeskServices<'a, R, J>,
-) -> Result<Left<J>, Fault> {
-    let (loops, (console, front)) = run(cx, loops, console, over, services);
-    left_by(seats, loops, console, front)
+    T: Hears + Send,
+    G: Page + Send,
+>(cx: Context<'a, R>, runners: Runners<'a, R, T, G>) -> Result<Left<T>, Fault> {
+    let (loops, (console, front)) = run(cx, runners);
+    left_by(loops, console, front)
 }
+
+/// What has run.
+type Ran<'a, R, T> = (LoopsEnd<T>, (OwnConsole<'a, R, T>, FrontEnd<T>));
 
 /// Runs the loops, the console and the services by HTTP. It stands alone, so that the search for
 /// what lets them cross to threads ends.
 fn run<
     'a,
-    J: Naming + Send + Sync,
     R: Threads
         + Wait
         + Net<Listener = TcpListener, Stream = net::TcpStream>
         + Clock
         + RandomSource
         + Sync,
->(
-    cx: Context<'a, R>,
-    loops: Loops<'a, R, J>,
-    console: DeskConsole<'a, R, J>,
-    over: Over,
-    services: DeskServices<'a, R, J>,
-) -> Ran<'a, R, J> {
+    T: Hears + Send,
+    G: Page + Send,
+>(cx: Context<'a, R>, runners: Runners<'a, R, T, G>) -> Ran<'a, R, T> {
     // Laws, which do nothing.
-    callers_cross_threads::<J, R>();
     sockets_cross_threads::<R>();
     streams_cross_threads::<R>();
     moments_cross_threads::<R>();
     wakers_are_shared();
     posts_cross_threads::<R>();
-    pages_cross_threads::<J, R>();
+    let Runners {
+        loops,
+        console,
+        over,
+        services,
+    } = runners;
     run_beside(cx.0, cx.1, loops, over, console, services)
 }
 
 /// What the loops, the console and the front leave; the first fault of theirs, if one ended by
-/// itself.
-fn left_by<'a, J: Naming, R: Wait + Net + Clock + RandomSource>(
-    seats: &mut Vec<Seat<J>>,
-    ended: LoopsEnd<Caller<'a, R, J>>,
-    console: DeskConsole<'a, R, J>,
-    front: FrontEnd<Caller<'a, R, J>>,
-) -> Result<Left<J>, Fault> {
-    let loops = left_by_loops(seats, ended);
-    let front = left_by_front(front);
-    let (taker, client, fault) = console.into_parts();
-    let console = match fault {
-        None => Ok(taker.into_seat()),
+/// itself: of the loops, of the front, and then of the console.
+fn left_by<'a, R: Wait + Net + Clock + RandomSource, T: Hears>(
+    ended: LoopsEnd<T>,
+    console: OwnConsole<'a, R, T>,
+    front: FrontEnd<T>,
+) -> Result<Left<T>, Fault> {
+    let (console, client, fault) = console.into_parts();
+    let Ended {
+        datagrams,
+        streams,
+        clock,
+        ..
+    } = ended.map_err(Fault::Loops)?;
+    let front = front.map_err(Fault::Front)?.taker;
+    match fault {
         Some(fault) => Err(fault),
-    };
-    joined(loops, console, front, client)
-}
-
-/// The seats of the loops of streams and of the clock, or why a loop ended by itself. Those of the
-/// loops of datagrams come into the list, which has room for them.
-fn left_by_loops<'a, J: Naming, R: Wait>(
-    seats: &mut Vec<Seat<J>>,
-    ended: LoopsEnd<Caller<'a, R, J>>,
-) -> Result<(Seat<J>, Seat<J>), Fault> {
-    match ended {
-        Ok(ended) => {
-            let Ended {
+        None => Ok(Left {
+            handlers: Handlers {
                 datagrams,
                 streams,
                 clock,
-                ..
-            } = ended;
-            for taker in datagrams {
-                seats.push(taker.into_seat())?;
-            }
-            Ok((streams.into_seat(), clock.into_seat()))
-        }
-        Err(fault) => Err(Fault::Loops(fault)),
+                console,
+                front,
+            },
+            client,
+        }),
     }
-}
-
-/// The seat that the front leaves, or why it ended by itself.
-fn left_by_front<'a, J: Naming, R: Wait>(
-    front: FrontEnd<Caller<'a, R, J>>,
-) -> Result<Seat<J>, Fault> {
-    match front {
-        Ok(front) => Ok(front.taker.into_seat()),
-        Err(fault) => Err(Fault::Front(fault)),
-    }
-}
-
-/// What all leave: the fault of the loops comes first, then that of the front.
-fn joined<J: Naming>(
-    loops: Result<(Seat<J>, Seat<J>), Fault>,
-    console: Result<Seat<J>, Fault>,
-    front: Result<Seat<J>, Fault>,
-    client: Option<TcpStream>,
-) -> Result<Left<J>, Fault> {
-    let (streams, clock) = loops?;
-    let front = front?;
-    let console = console?;
-    Ok(Left {
-        others: OtherSeats {
-            streams,
-            clock,
-            console,
-            front,
-        },
-        client,
-    })
 }

@@ -2,9 +2,9 @@
 //! is answered from.
 
 ghost use Rattle.std.specs.Prelude.{[], IfErr, IfOk, ◌+◌, ◌∷◌, ◌≡◌};
-ghost use Rattle.lb_core.specs.Plain.{Plain};
-ghost use Rattle.lb_core.specs.Step.{Answers};
-ghost use Rattle.lb_core.specs.declared.event.Event.TheVariants.{Edit};
+ghost use Rattle.lb_step.specs.Plain.{Plain};
+ghost use Rattle.lb_step.specs.Step.{Answers};
+ghost use Rattle.lb_step.specs.declared.event.Event.TheVariants.{Edit};
 ghost use Rattle.lb_lines.specs.Counts.{Grows};
 ghost use Rattle.lb_serve.specs.News.{IsNewsOf};
 ghost use Rattle.lb_words.specs.Heard.{IsHeard};

@@ -4,7 +4,7 @@ use crate::fault::Fault;
 use crate::notices::say_last;
 use crate::switches::{Switch, Switches};
 use lb_command::{answer_line, begins_listen};
-use lb_desk::Entry;
+use lb_desk::LogEntry;
 use lb_typed::event_line;
 use lb_words::has_lacked;
 use std::alloc::{AllocError, Global};
@@ -103,7 +103,7 @@ fn is_command(line: &str) -> bool {
 }
 
 /// Writes calls into the file, if there is one. If that fails, it is said on standard error.
-pub(crate) fn keep<L: Write + Drop>(alloc: Global, log: Option<LogFile<L>>, calls: &[Entry]) {
+pub(crate) fn keep<L: Write + Drop>(alloc: Global, log: Option<LogFile<L>>, calls: &[LogEntry]) {
     let Some(mut log) = log else {
         return;
     };
@@ -121,7 +121,7 @@ pub(crate) fn keep<L: Write + Drop>(alloc: Global, log: Option<LogFile<L>>, call
 
 impl<L: Write> LogFile<L> {
     /// Writes calls.
-    fn write(&mut self, alloc: Global, calls: &[Entry]) -> io::Result<()> {
+    fn write(&mut self, alloc: Global, calls: &[LogEntry]) -> io::Result<()> {
         let mut piece = String::new(alloc);
         for call in calls {
             push_call(alloc, &mut piece, call, self.has_answers)?;
@@ -140,7 +140,7 @@ impl<L: Write> LogFile<L> {
 fn push_call(
     alloc: Global,
     text: &mut String,
-    call: &Entry,
+    call: &LogEntry,
     has_answer: bool,
 ) -> Result<(), AllocError> {
     if has_lacked(&call.answer) {

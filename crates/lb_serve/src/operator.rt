@@ -4,7 +4,7 @@ ghost use Rattle.std.specs.Prelude.{IfErr, IfOk, string_bytes, ◌≡◌};
 ghost use Rattle.lb_command.specs.Reading.{max_line};
 ghost use Rattle.lb_command.specs.declared.fault.CommandFault.{CommandFault};
 ghost use Rattle.lb_command.specs.declared.fault.FaultKind.TheVariants as kinds;
-ghost use Rattle.lb_serve.specs.Operator.{IsHeard, IsLine, IsRosterOf, Leaves, MayCarry, Says, Took, desk_text, fault_text};
+ghost use Rattle.lb_serve.specs.Operator.{IsHeard, IsLine, IsRosterOf, Leaves, MayCarry, Says, Took, desk_text, fault_text, told};
 
 use crate::fault::Fault;
 use crate::hears::Hears;
@@ -102,8 +102,8 @@ impl<T: Hears, O: Outside> Operator<T, O> {
     /// be had, or no memory for the answer, there is none: then nothing was done, or the command
     /// was carried out.
     pub(crate) fn answer<R: Wait + Clock>(&mut self, rt: &R, line: &str) -> Result<Said, Fault>
-        ensures said { IfOk result (λ said. Says line.now said (record { answered = T.answered self.old.taker; pairs = T.pairs self.old.taker }) (record { answered = T.answered self.new.taker; pairs = T.pairs self.new.taker })) }
-        ensures unsaid { IfErr result (λ _. Leaves line.now (record { answered = T.answered self.old.taker; pairs = T.pairs self.old.taker }) (record { answered = T.answered self.new.taker; pairs = T.pairs self.new.taker })) }
+        ensures said { IfOk result (λ said. Says line.now said (told (T.answered self.old.taker) (T.pairs self.old.taker)) (told (T.answered self.new.taker) (T.pairs self.new.taker))) }
+        ensures unsaid { IfErr result (λ _. Leaves line.now (told (T.answered self.old.taker) (T.pairs self.old.taker)) (told (T.answered self.new.taker) (T.pairs self.new.taker))) }
     {
         if line == "stop" {
             return Ok(Said::Stop);
@@ -139,8 +139,8 @@ impl<T: Hears, O: Outside> Operator<T, O> {
 
     /// Carries out the command of a line.
     fn edit<R: Wait + Clock>(&mut self, rt: &R, line: &str, command: Command) -> Result<Said, Fault>
-        ensures said { IfOk result (λ said. Took command said (record { answered = T.answered self.old.taker; pairs = T.pairs self.old.taker }) (record { answered = T.answered self.new.taker; pairs = T.pairs self.new.taker })) }
-        ensures unsaid { IfErr result (λ _. MayCarry command (record { answered = T.answered self.old.taker; pairs = T.pairs self.old.taker }) (record { answered = T.answered self.new.taker; pairs = T.pairs self.new.taker })) }
+        ensures said { IfOk result (λ said. Took command said (told (T.answered self.old.taker) (T.pairs self.old.taker)) (told (T.answered self.new.taker) (T.pairs self.new.taker))) }
+        ensures unsaid { IfErr result (λ _. MayCarry command (told (T.answered self.old.taker) (T.pairs self.old.taker)) (told (T.answered self.new.taker) (T.pairs self.new.taker))) }
     {
         let Some((now, _)) = self.outside.ask() else {
             return Err(Fault::Console);

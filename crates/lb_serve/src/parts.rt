@@ -1,35 +1,36 @@
 //! What runs at a desk, and what it is made of.
 
-ghost use Rattle.std.specs.Prelude.{IfOk, map, ◌≡◌};
-ghost use Rattle.lb_serve.specs.Listening.{front_of};
+ghost use Rattle.std.specs.Prelude.{IfOk, ◌≡◌};
+ghost use Rattle.lb_serve.specs.Listening.{AreFronts};
 
-use crate::console::Console;
-use crate::descriptors::{Clients, limit};
-use crate::desk::Given;
+use crate::console::{Console, ConsoleSockets};
+use crate::descriptors::Clients;
+use crate::desk::Plan;
 use crate::fault::Fault;
 use crate::gate::OpenGate;
 use crate::halt::Halt;
+use crate::handlers::{Handlers, OtherSeats, callers};
+use crate::hears::Hears;
 use crate::listening::{Listening, fronts};
-use crate::operator::{Operator, roster_of};
+use crate::operator::Operator;
 use crate::pages::DeskPage;
+use crate::shared::{Rooms, Shared, shared_by};
+use crate::sockets::{BoundSockets, Devices, Sockets};
 use crate::switches::Switches;
 use crate::threads::{Fronting, LoopParts, Over, Services};
 use futures::channel::oneshot;
 use lb_command::Listener;
 use lb_desk::{Desk, Naming, Seat};
-use lb_doh::{HttpPosts, Requests, Waiting};
+use lb_doh::{HttpPosts, Requests};
 use lb_front::{Bound, FrontParts, front_runtime};
 use lb_loops::{
-    Caller, ClockParts, Connections, DatagramParts, Front, Outbox, Parts, Probes, Receiver, Roster,
-    Sender, StreamParts,
+    Caller, ClockParts, DatagramParts, Front, Parts, Receiver, Roster, Sender, StreamParts,
 };
-use lb_metrics::{MetricsParts, metrics_runtime};
-use lb_program::{ServerPlace, Setup};
+use lb_metrics::{MetricsParts, Page, metrics_runtime};
+use lb_program::ServerPlace;
 use lb_recent::Rings;
 use lb_sends::Sends;
-use lb_sockets::{
-    Limits, ListenSockets, PollWaker, SystemOutside, TcpListeners, TcpSockets, UdpSockets,
-};
+use lb_sockets::{PollWaker, SystemOutside, TcpSockets, UdpSockets};
 use lb_words::Words;
 use mio;
 use mio::net::TcpListener;
@@ -37,564 +38,186 @@ use std::alloc::{AllocError, Global};
 use std::net;
 use std::net::Net;
 use std::random::RandomSource;
-use std::sync::atomic::AtomicBool;
 use std::sync::{Arc, Mutex, Wait};
 use std::time::Clock;
 
-/// How many jobs one loop may have for another.
-const JOBS: usize = 4_096;
-
-/// How many threads end queries besides those of the loops of datagrams: those of the two other
-/// loops, and that of the front.
-const OTHER_RINGS: usize = 3;
-
-/// The seats that threads call from besides those of the loops of datagrams.
-#[derive(Drop)]
-pub(crate) struct OtherSeats<J: Naming> {
-    pub(crate) streams: Seat<J>,
-    pub(crate) clock: Seat<J>,
-    pub(crate) console: Seat<J>,
-    pub(crate) front: Seat<J>,
-}
-
-/// What the loops of a desk are made of.
-pub(crate) type Loops<'a, R, J> = LoopParts<
+/// What the loops are made of.
+pub(crate) type Loops<'a, R, T> = LoopParts<
     UdpSockets<'a, R>,
     TcpSockets<'a, R>,
-    Caller<'a, R, J>,
+    T,
     SystemOutside<'a, R>,
     HttpPosts<'a, R>,
 >;
 
-/// The console of a desk.
-pub(crate) type DeskConsole<'a, R, J> = Console<'a, R, Caller<'a, R, J>, SystemOutside<'a, R>>;
+/// The console.
+pub(crate) type OwnConsole<'a, R, T> = Console<'a, R, T, SystemOutside<'a, R>>;
 
-/// The front of a desk.
-type DeskFront<'a, R, J> = Fronting<Caller<'a, R, J>, SystemOutside<'a, R>>;
+/// The services by HTTP.
+pub(crate) type OwnServices<'a, R, T, G> = Services<T, SystemOutside<'a, R>, G>;
 
-/// The service of metrics of a desk.
-type DeskMetrics<'a, R, J> = MetricsParts<DeskPage<'a, R, J>>;
-
-/// The services of a desk by HTTP.
-pub(crate) type DeskServices<'a, R, J> = Services<
-    Caller<'a, R, J>,
-    SystemOutside<'a, R>,
-    DeskPage<'a, R, J>,
->;
-
-/// What runs at a desk.
+/// What runs, with handlers of events of one kind, and a page of metrics of another.
 #[derive(Drop)]
-pub(crate) struct Runners<'a, R: Wait + Net + Clock + RandomSource, J: Naming> {
-    pub(crate) loops: Loops<'a, R, J>,
-    pub(crate) console: DeskConsole<'a, R, J>,
+pub(crate) struct Runners<'a, R: Wait + Net + Clock + RandomSource, T: Hears, G> {
+    pub(crate) loops: Loops<'a, R, T>,
+    pub(crate) console: OwnConsole<'a, R, T>,
     /// What tells the console and the services that the loops have ended.
     pub(crate) over: Over,
-    pub(crate) services: DeskServices<'a, R, J>,
+    pub(crate) services: OwnServices<'a, R, T, G>,
 }
+
+/// What runs at a desk.
+pub(crate) type DeskRunners<'a, R, J> = Runners<'a, R, Caller<'a, R, J>, DeskPage<'a, R, J>>;
 
 /// The runtime, and the allocator.
 pub(crate) type Context<'a, R> = (&'a R, Global);
 
-/// What a setup file states, the servers that it leaves, and what the switches ask for.
-type Asked<'b> = (&'b Setup, &'b [ServerPlace], &'b Switches);
-
-/// The sockets that listen for datagrams of the first loop and of each further one, and for clients
-/// over TCP.
-type BoundSockets = (Arc<ListenSockets>, Vec<Arc<ListenSockets>>, TcpListeners);
-
-/// The sockets of the loops.
-#[derive(Drop)]
-struct Sockets<'a, R: Net + Clock> {
-    datagrams: Vec<UdpSockets<'a, R>>,
-    streams: TcpSockets<'a, R>,
-    clock: UdpSockets<'a, R>,
-}
-
-impl<'a, R: Net + Clock> Sockets<'a, R> {
-    /// Those that listen, and none of servers yet. The clock sends by the listeners of the first
-    /// loop of datagrams. The errors are the system's, and refused memory.
-    fn made(
-        cx: Context<'a, R>,
-        bound: BoundSockets,
-        limits: Limits,
-        sends: Arc<Sends>,
-    ) -> Result<Sockets<'a, R>, Fault> {
-        let (rt, alloc) = cx;
-        let (first, beside, streams) = bound;
-        Ok(Sockets {
-            datagrams: reading(cx, &first, beside)?,
-            streams: TcpSockets::listening(rt, alloc, streams, limits, sends)?,
-            clock: UdpSockets::sending(rt, alloc, first)?,
-        })
-    }
-
-    /// What ends the loops, by this flag.
-    fn halt(&self, alloc: Global, stop: &Arc<AtomicBool>) -> Result<Halt, Fault> {
-        let mut datagrams = Vec::with_capacity(alloc, self.datagrams.len())?;
-        for sockets in self.datagrams.iter() {
-            datagrams.push(sockets.waker()?)?;
-        }
-        Ok(Halt {
-            stop: Arc::try_clone(stop)?,
-            datagrams,
-            streams: self.streams.waker()?,
-            clock: self.clock.waker()?,
-        })
-    }
-}
-
-/// The sockets of the loops of datagrams: of the first one, and of each further one.
-fn reading<'a, R: Net + Clock>(
-    cx: Context<'a, R>,
-    first: &Arc<ListenSockets>,
-    beside: Vec<Arc<ListenSockets>>,
-) -> Result<Vec<UdpSockets<'a, R>>, Fault> {
-    let (rt, alloc) = cx;
-    let mut sockets = Vec::with_capacity(alloc, beside.len().saturating_add(1))?;
-    sockets.push(UdpSockets::reading(rt, alloc, Arc::try_clone(first)?)?)?;
-    for listeners in beside {
-        sockets.push(UdpSockets::reading(rt, alloc, listeners)?)?;
-    }
-    Ok(sockets)
-}
-
-/// What several threads share.
-#[derive(Drop)]
-struct Shared {
-    /// Whether serving is to end.
-    stop: Arc<AtomicBool>,
-    roster: Arc<Mutex<Roster>>,
-    /// The requests by HTTP that wait for their answers.
-    requests: Arc<Requests>,
-    /// The counts of failed sends and of probes.
-    sends: Arc<Sends>,
-    /// Room that the loops need for as long as they run.
-    rooms: Rooms,
-}
-
-/// Room that the loops need for as long as they run: a copy of the roster for each, the table of
-/// connections over TCP, and the servers that are probed.
-#[derive(Drop)]
-struct Rooms {
-    datagrams: Vec<Roster>,
-    streams: Roster,
-    clock: Roster,
-    table: Connections,
-    probes: Probes,
-}
-
-impl Rooms {
-    /// That of so many loops of datagrams and of the two others. The one error is lack of memory.
-    fn made(alloc: Global, loops: usize) -> Result<Rooms, AllocError> {
-        Ok(Rooms {
-            datagrams: rosters(alloc, loops)?,
-            streams: Roster::made(alloc)?,
-            clock: Roster::made(alloc)?,
-            table: Connections::made(alloc)?,
-            probes: Probes::made(alloc)?,
-        })
-    }
-}
-
-/// So many rosters without a server. The one error is lack of memory.
-fn rosters(alloc: Global, many: usize) -> Result<Vec<Roster>, AllocError> {
-    let mut rosters = Vec::with_capacity(alloc, many)?;
-    for _ in 0..many {
-        rosters.push(Roster::made(alloc)?)?;
-    }
-    Ok(rosters)
-}
-
-impl Shared {
-    /// A roster of these servers; nothing waits yet. So many loops of datagrams hand in replies, and
-    /// that of streams.
-    fn made(alloc: Global, servers: &[ServerPlace], loops: usize) -> Result<Shared, Fault> {
-        Ok(Shared {
-            stop: Arc::new(alloc, AtomicBool::new(false))?,
-            roster: Arc::new(alloc, Mutex::new(roster_of(alloc, servers)?))?,
-            requests: Arc::new(alloc, Mutex::new(Waiting::new(alloc)))?,
-            sends: Arc::new(alloc, Sends::made(alloc, loops.saturating_add(1))?)?,
-            rooms: Rooms::made(alloc, loops)?,
-        })
-    }
-
-    /// What hands answers to the requests by HTTP.
-    fn posts<'a, R: Wait>(&self, cx: Context<'a, R>) -> Result<HttpPosts<'a, R>, Fault> {
-        Ok(HttpPosts::new(cx.0, cx.1, Arc::try_clone(&self.requests)?))
-    }
-}
-
-/// What the loops, the console and the services by HTTP are made of.
-pub(crate) fn prepared<'a, J: Naming, R: Wait + Net + Clock + RandomSource>(
+/// What the loops, the console and the services by HTTP are made of at a desk. The seats of the
+/// loops of datagrams are taken out of their list.
+pub(crate) fn runners_at<'a, J: Naming, R: Wait + Net + Clock + RandomSource>(
     cx: Context<'a, R>,
     desk: &'a Desk<J>,
     seats: &mut Vec<Seat<J>>,
     others: OtherSeats<J>,
-    given: Given,
-) -> Result<Runners<'a, R, J>, Fault>
-    ensures { IfOk result (λ p. (p.loops.streams.fronts.items ≡ map front_of given.0.listeners) × (p.loops.clock.fronts.items ≡ map front_of given.0.listeners)) }
+    plan: &Plan,
+    listening: Listening,
+) -> Result<DeskRunners<'a, R, J>, Fault>
+    ensures { IfOk result (λ p. AreFronts p.loops.streams.fronts.items p.loops.clock.fronts.items plan.now.setup.listeners) }
 {
-    let (setup, servers, switches, listening) = given;
-    let Listening {
-        datagrams,
-        beside,
-        streams,
-        http,
-        consoles,
-        metrics,
-    } = listening;
-    let asked = (&setup, servers.as_slice(), &switches);
-    let (shared, rings, takers, posts) = begun(cx, desk, seats, others, asked)?;
-    let (sockets, halts) = sockets_of(cx, (datagrams, beside, streams), asked, &shared)?;
-    let outside = SystemOutside::new(cx.0)?;
-    let (sender, second_sender, receiver) = Outbox::made(cx.1, JOBS)?;
-    let Handlers {
-        loops,
-        console,
-        front,
-    } = takers;
-    let (of_http, http_end) = oneshot::channel(cx.1)?;
-    let (of_page, page_end) = oneshot::channel(cx.1)?;
-    let http = (http, front, sender, outside.beside(), halts.front);
-    let around = (&sockets, &shared);
-    let (http, page) = ((http, http_end), (metrics, page_end));
-    let services = services_of(cx, desk, http, page, asked, around)?;
-    let fronts = fronts_for_two(cx.1, setup.listeners())?;
-    let operator = operator_of(cx, (rings, console, outside.beside()), asked, &shared)?;
-    let (console, waker) = console_of(cx, consoles, operator, halts.console)?;
-    let jobs = (second_sender, receiver);
-    let rest = (shared, posts, halts.loops, idle_of(&switches));
-    Ok(Runners {
-        loops: loops_of(cx.1, (sockets, outside), loops, fronts, jobs, rest)?,
-        console,
-        over: Over {
-            waker,
-            http: of_http,
-            page: of_page,
-        },
-        services,
-    })
+    let (shared, rings) = shared_by(cx.1, plan, seats.len())?;
+    let handlers = callers(cx, desk, seats, others, (&rings, &shared.sends))?;
+    let page = page_of(cx, desk, plan, &shared.sends)?;
+    prepared(cx, plan, (handlers, page), (shared, rings), listening)
 }
 
-/// What threads share, the rings of the last queries, the handlers of events, and what hands answers
-/// to requests by HTTP for the loop of streams and for the clock.
-fn begun<'a, J: Naming, R: Wait>(
+/// What writes the page of metrics, if there is to be one.
+fn page_of<'a, J: Naming, R: Clock>(
     cx: Context<'a, R>,
     desk: &'a Desk<J>,
-    seats: &mut Vec<Seat<J>>,
-    others: OtherSeats<J>,
-    asked: Asked<'_>,
-) -> Result<(Shared, Rings, Handlers<'a, R, J>, TwoPosts<'a, R>), Fault> {
-    let (_, servers, switches) = asked;
-    let ends = seats.len().saturating_add(OTHER_RINGS);
-    let rings = Rings::made(cx.1, ends, switches.recent)?;
-    let shared = Shared::made(cx.1, servers, seats.len())?;
-    let posts = (shared.posts(cx)?, shared.posts(cx)?);
-    let takers = callers(cx, desk, seats, others, (&rings, &shared.sends))?;
-    Ok((shared, rings, takers, posts))
-}
-
-/// What hands answers to requests by HTTP, for two loops.
-type TwoPosts<'a, R> = (HttpPosts<'a, R>, HttpPosts<'a, R>);
-
-/// What ends the loops, for each that may end them, and for the loops themselves.
-#[derive(Drop)]
-struct Halts {
-    console: Halt,
-    front: Halt,
-    loops: Halt,
-}
-
-/// The sockets of the loops, with the limits on clients over TCP, and what ends these loops.
-fn sockets_of<'a, R: Net + Clock>(
-    cx: Context<'a, R>,
-    bound: BoundSockets,
-    asked: Asked<'_>,
-    shared: &Shared,
-) -> Result<(Sockets<'a, R>, Halts), Fault> {
-    let limits = limits_of(clients_of(asked), asked.2);
-    let sockets = Sockets::made(cx, bound, limits, Arc::try_clone(&shared.sends)?)?;
-    let halts = Halts {
-        console: sockets.halt(cx.1, &shared.stop)?,
-        front: sockets.halt(cx.1, &shared.stop)?,
-        loops: sockets.halt(cx.1, &shared.stop)?,
-    };
-    Ok((sockets, halts))
-}
-
-/// The fronts of these lines, for two loops.
-fn fronts_for_two(alloc: Global, lines: &[Listener]) -> Result<(Vec<Front>, Vec<Front>), AllocError>
-    ensures { IfOk result (λ r. (r.0.items ≡ map front_of lines.now) × (r.1.items ≡ map front_of lines.now)) }
-{
-    Ok((fronts(alloc, lines)?, fronts(alloc, lines)?))
-}
-
-/// How many clients of each kind there are descriptors for.
-fn clients_of(asked: Asked<'_>) -> Clients {
-    let (setup, servers, switches) = asked;
-    Clients::under(
-        limit(),
-        setup.listeners(),
-        servers,
-        switches.loops,
-        switches.metrics.is_some(),
-    )
-}
-
-/// How many clients over TCP may be connected.
-fn limits_of(clients: Clients, switches: &Switches) -> Limits {
-    Limits {
-        clients: clients.room(),
-        of_source: switches.of_source.map(|most| most as usize),
+    plan: &Plan,
+    sends: &Arc<Sends>,
+) -> Result<Option<DeskPage<'a, R, J>>, AllocError> {
+    if plan.switches.metrics.is_none() {
+        return Ok(None);
     }
-}
-
-/// For how many milliseconds a client over TCP may send no query, if that is limited.
-fn idle_of(switches: &Switches) -> Option<u64> {
-    switches
-        .idle
-        .map(|seconds| u64::from(seconds).saturating_mul(1_000))
+    // A page lists no query, so its words have no ring.
+    let rings = Rings::made(cx.1, 0, 0)?;
+    let words = words_of(cx, plan, sends, rings)?;
+    Ok(Some(DeskPage {
+        rt: cx.0,
+        desk,
+        words,
+    }))
 }
 
 /// The words of the console, with these rings of the last queries.
 fn words_of<R: Clock>(
     cx: Context<'_, R>,
-    setup: &Setup,
-    shared: &Shared,
+    plan: &Plan,
+    sends: &Arc<Sends>,
     rings: Rings,
 ) -> Result<Words, AllocError> {
     let (rt, alloc) = cx;
-    let sends = Arc::try_clone(&shared.sends)?;
-    Words::new(rt, alloc, setup.listeners(), setup.log(), rings, sends)
+    let (lines, log) = (plan.setup.listeners(), plan.setup.log());
+    Words::new(rt, alloc, lines, log, rings, Arc::try_clone(sends)?)
 }
 
-/// Where queries are noted that end, and how long servers took to reply.
-type Notes<'b> = (&'b Rings, &'b Arc<Sends>);
-
-/// The handlers of events of the loops, of the console and of the front, each by a seat of its own.
-/// The console's ends no query.
-fn callers<'a, J: Naming, R: Wait>(
-    cx: Context<'a, R>,
-    desk: &'a Desk<J>,
-    seats: &mut Vec<Seat<J>>,
-    others: OtherSeats<J>,
-    notes: Notes<'_>,
-) -> Result<Handlers<'a, R, J>, AllocError> {
-    let OtherSeats {
-        streams,
-        clock,
-        console,
-        front,
-    } = others;
-    let (rt, _) = cx;
-    let datagrams = callers_of_datagrams(cx, desk, seats, notes)?;
-    let place = datagrams.len();
-    let loops = (
-        datagrams,
-        noting(rt, desk, streams, notes, place)?,
-        noting(rt, desk, clock, notes, place.saturating_add(1))?,
-    );
-    Ok(Handlers {
-        loops,
-        console: Caller::new(rt, desk, console),
-        front: noting(rt, desk, front, notes, place.saturating_add(2))?,
-    })
+/// What the loops are made of besides their handlers of events.
+#[derive(Drop)]
+struct OfLoops<'a, R: Wait + Net + Clock + RandomSource> {
+    streams: TcpSockets<'a, R>,
+    clock: UdpSockets<'a, R>,
+    rooms: Rooms,
+    /// What listens at each place of the listen lines, for the loop of streams and for the clock.
+    fronts: (Vec<Front>, Vec<Front>),
+    posts: (HttpPosts<'a, R>, HttpPosts<'a, R>),
+    jobs: (Sender, Receiver),
+    outside: SystemOutside<'a, R>,
+    halt: Halt,
+    roster: Arc<Mutex<Roster>>,
+    sends: Arc<Sends>,
+    /// For how many milliseconds a client over TCP may send no query, if that is limited.
+    idle: Option<u64>,
 }
 
-/// The handlers of events of the loops of datagrams, one by each of these seats, which are taken
-/// out of their list.
-fn callers_of_datagrams<'a, J: Naming, R: Wait>(
-    cx: Context<'a, R>,
-    desk: &'a Desk<J>,
-    seats: &mut Vec<Seat<J>>,
-    notes: Notes<'_>,
-) -> Result<Vec<Caller<'a, R, J>>, AllocError> {
-    let (rt, alloc) = cx;
-    let mut takers = Vec::with_capacity(alloc, seats.len())?;
-    for place in 0..seats.len() {
-        if let Some(seat) = seats.pop() {
-            takers
-                .push(noting(rt, desk, seat, notes, place)?)
-                .map_err(AllocError::from)?;
+impl<'a, R: Wait + Net + Clock + RandomSource> OfLoops<'a, R> {
+    /// The loops, with the parts of those of datagrams, and the handlers of events of the two
+    /// others.
+    fn with<T>(self, rows: RowWithRoom<'a, R, T>, takers: (T, T)) -> Loops<'a, R, T>
+        ensures { (result.streams.fronts ≡ self.entry.fronts.0) × (result.clock.fronts ≡ self.entry.fronts.1) }
+    {
+        let OfLoops {
+            streams,
+            clock,
+            rooms,
+            fronts,
+            posts,
+            jobs,
+            outside,
+            halt,
+            roster,
+            sends,
+            idle,
+        } = self;
+        let (of_streams, of_clock) = takers;
+        let (stream_fronts, clock_fronts) = fronts;
+        let (stream_posts, clock_posts) = posts;
+        let (sender, receiver) = jobs;
+        let (datagrams, takers) = rows;
+        let streams = StreamParts {
+            sockets: streams,
+            table: rooms.table,
+            roster: rooms.streams,
+            receiver,
+            fronts: stream_fronts,
+            posts: stream_posts,
+            taker: of_streams,
+            outside: outside.beside(),
+            idle,
+        };
+        let clock = ClockParts {
+            sockets: clock,
+            probes: rooms.probes,
+            roster: rooms.clock,
+            sender,
+            fronts: clock_fronts,
+            posts: clock_posts,
+            taker: of_clock,
+            outside,
+        };
+        Parts {
+            datagrams,
+            takers,
+            streams,
+            clock,
+            roster,
+            gate: OpenGate,
+            sends,
+            stop: halt.stop,
+            datagrams_wakers: halt.datagrams,
+            streams_waker: halt.streams,
+            clock_waker: halt.clock,
         }
     }
-    Ok(takers)
 }
 
-/// The handler that calls a desk from a seat. It notes how long servers took to reply, and the
-/// queries that end by its calls in the ring at a place, if any are noted.
-fn noting<'a, J: Naming, R: Wait>(
-    rt: &'a R,
-    desk: &'a Desk<J>,
-    seat: Seat<J>,
-    notes: Notes<'_>,
-    place: usize,
-) -> Result<Caller<'a, R, J>, AllocError> {
-    let (rings, sends) = notes;
-    let ring = if rings.room() == 0 {
-        None
-    } else {
-        rings.ring(place)?
-    };
-    Ok(Caller::noting(rt, desk, seat, ring).timing(Arc::try_clone(sends)?, place))
-}
-
-/// What answers lines of the console of a desk.
-type DeskOperator<'a, R, J> = Operator<Caller<'a, R, J>, SystemOutside<'a, R>>;
-
-/// What the operator has alone: the rings of the last queries, its handler of events, and its
-/// moments and random words.
-type OwnOfOperator<'a, R, J> = (Rings, Caller<'a, R, J>, SystemOutside<'a, R>);
-
-/// What answers lines of the console.
-fn operator_of<'a, J: Naming, R: Wait + Net + Clock + RandomSource>(
-    cx: Context<'a, R>,
-    own: OwnOfOperator<'a, R, J>,
-    asked: Asked<'_>,
-    shared: &Shared,
-) -> Result<DeskOperator<'a, R, J>, AllocError> {
-    let (rings, taker, outside) = own;
-    let words = words_of(cx, asked.0, shared, rings)?;
-    let roster = Arc::try_clone(&shared.roster)?;
-    Ok(Operator::new(cx.1, words, taker, outside, asked.1, roster))
-}
-
-/// The console, and what wakes it.
-fn console_of<'a, J: Naming, R: Wait + Net + Clock + RandomSource>(
-    cx: Context<'a, R>,
-    listeners: Vec<TcpListener>,
-    operator: DeskOperator<'a, R, J>,
-    halt: Halt,
-) -> Result<(DeskConsole<'a, R, J>, mio::Waker), Fault> {
-    let (rt, alloc) = cx;
-    let console = Console::made(rt, rt, alloc, listeners, operator, halt)?;
-    let waker = console.waker()?;
-    Ok((console, waker))
-}
-
-/// What the front of DNS on HTTP has alone: its listeners, its handler of events, its end of the
-/// outbox, its moments and words, and what ends the loops.
-type OwnOfHttp<'a, R, J> = (
-    Vec<Bound>,
-    Caller<'a, R, J>,
-    Sender,
-    SystemOutside<'a, R>,
-    Halt,
-);
-
-/// What the service of metrics has alone: its listener, if it has one, and what ends it.
-type OwnOfMetrics = (Option<net::TcpListener>, oneshot::Receiver<()>);
-
-/// The services of a desk by HTTP, that of metrics if it has a listener.
-fn services_of<'a, J: Naming, R: Wait + Net + Clock + RandomSource>(
-    cx: Context<'a, R>,
-    desk: &'a Desk<J>,
-    http: (OwnOfHttp<'a, R, J>, oneshot::Receiver<()>),
-    page: OwnOfMetrics,
-    asked: Asked<'_>,
-    around: (&Sockets<'a, R>, &Shared),
-) -> Result<DeskServices<'a, R, J>, Fault> {
-    let metrics = metrics_at(cx, desk, asked.0, around.1, page)?;
-    let front = front_of_http(cx, http, clients_of(asked), around)?;
-    Ok(Services { front, metrics })
-}
-
-/// The front of DNS on HTTP, by what it has alone and what ends it.
-fn front_of_http<'a, J: Naming, R: Wait + Net + Clock + RandomSource>(
-    cx: Context<'a, R>,
-    own: (OwnOfHttp<'a, R, J>, oneshot::Receiver<()>),
-    clients: Clients,
-    around: (&Sockets<'a, R>, &Shared),
-) -> Result<DeskFront<'a, R, J>, Fault> {
-    let (own, end) = own;
-    let beside = Beside::made(around)?;
-    let runtime = front_runtime(&cx, own.0.as_slice()).map_err(Fault::Front)?;
-    let (listeners, taker, sender, outside, halt) = own;
-    let parts = FrontParts {
-        runtime,
-        listeners,
-        taker,
-        sender,
-        outside,
-        streams: beside.streams,
-        requests: beside.requests,
-        clients: clients.http as usize,
-        sends: beside.sends,
-        end,
-    };
-    Ok(Fronting { parts, halt })
-}
-
-/// What the front of DNS on HTTP shares with the loops: what wakes that of streams, the requests
-/// that wait for answers, and the counts of failed sends.
-#[derive(Drop)]
-struct Beside {
-    streams: PollWaker,
-    requests: Arc<Requests>,
-    sends: Arc<Sends>,
-}
-
-impl Beside {
-    fn made<R: Net + Clock>(around: (&Sockets<'_, R>, &Shared)) -> Result<Beside, Fault> {
-        let (sockets, shared) = around;
-        Ok(Beside {
-            streams: sockets.streams.waker()?,
-            requests: Arc::try_clone(&shared.requests)?,
-            sends: Arc::try_clone(&shared.sends)?,
-        })
-    }
-}
-
-/// The service of metrics of a desk, if it has a listener, and what ends it.
-fn metrics_at<'a, J: Naming, R: Wait + Net + Clock + RandomSource>(
-    cx: Context<'a, R>,
-    desk: &'a Desk<J>,
-    setup: &Setup,
-    shared: &Shared,
-    own: OwnOfMetrics,
-) -> Result<Option<DeskMetrics<'a, R, J>>, Fault> {
-    let (rt, alloc) = cx;
-    let (Some(listener), end) = own else {
-        return Ok(None);
-    };
-    // A page lists no query, so its words have no ring.
-    let rings = Rings::made(alloc, 0, 0)?;
-    let words = words_of(cx, setup, shared, rings)?;
-    Ok(Some(MetricsParts {
-        listener,
-        runtime: metrics_runtime(&cx)?,
-        page: DeskPage { rt, desk, words },
-        end,
-    }))
-}
-
-/// The handlers of events of the loops: of those of datagrams, of that of streams and of the clock.
-type Callers<'a, R, J> = (Vec<Caller<'a, R, J>>, Caller<'a, R, J>, Caller<'a, R, J>);
-
-/// The handlers of events: of the loops, of the console, and of the front of DNS on HTTP.
-#[derive(Drop)]
-struct Handlers<'a, R: Wait, J: Naming> {
-    loops: Callers<'a, R, J>,
-    console: Caller<'a, R, J>,
-    front: Caller<'a, R, J>,
-}
+/// The sockets of the loops of datagrams, and a roster for each.
+type Rows<'a, R> = (Vec<UdpSockets<'a, R>>, Vec<Roster>);
 
 /// What the loops of datagrams are made of.
-type DatagramRow<'a, R, J> = Vec<
-    DatagramParts<UdpSockets<'a, R>, Caller<'a, R, J>, SystemOutside<'a, R>>,
->;
+type DatagramRow<'a, R, T> = Vec<DatagramParts<UdpSockets<'a, R>, T, SystemOutside<'a, R>>>;
 
 /// The same, and room for their handlers when they have ended.
-type RowWithRoom<'a, R, J> = (DatagramRow<'a, R, J>, Vec<Caller<'a, R, J>>);
+type RowWithRoom<'a, R, T> = (DatagramRow<'a, R, T>, Vec<T>);
 
 /// What the loops of datagrams are made of, each of its sockets, its roster and its handler.
-fn row_of<'a, J: Naming, R: Wait + Net + Clock + RandomSource>(
+fn row_of<'a, R: Wait + Net + Clock + RandomSource, T: Drop>(
     alloc: Global,
-    mut sockets: Vec<UdpSockets<'a, R>>,
-    mut rosters: Vec<Roster>,
-    mut takers: Vec<Caller<'a, R, J>>,
+    rows: Rows<'a, R>,
+    mut takers: Vec<T>,
     outside: &SystemOutside<'a, R>,
-) -> Result<RowWithRoom<'a, R, J>, AllocError> {
+) -> Result<RowWithRoom<'a, R, T>, AllocError> {
+    let (mut sockets, mut rosters) = rows;
     let mut row = Vec::with_capacity(alloc, takers.len())?;
     for _ in 0..takers.len() {
         if let Some(taker) = takers.pop()
@@ -615,64 +238,288 @@ fn row_of<'a, J: Naming, R: Wait + Net + Clock + RandomSource>(
     Ok((row, takers))
 }
 
-/// What the loops have besides: what threads share, what hands answers to requests by HTTP, what
-/// ends them, and for how many milliseconds a client over TCP may be idle.
-type RestOfLoops<'a, R> = (Shared, TwoPosts<'a, R>, Halt, Option<u64>);
+/// What the console is made of besides its handler of events.
+#[derive(Drop)]
+struct OfConsole<'a, R: Clock + RandomSource> {
+    sockets: ConsoleSockets,
+    words: Words,
+    roster: Arc<Mutex<Roster>>,
+    outside: SystemOutside<'a, R>,
+    halt: Halt,
+}
 
-/// What the loops are made of: their sockets, moments and random words, their handlers of events,
-/// fronts and ends of the outbox, and the rest.
-fn loops_of<'a, J: Naming, R: Wait + Net + Clock + RandomSource>(
-    alloc: Global,
-    own: (Sockets<'a, R>, SystemOutside<'a, R>),
-    takers: Callers<'a, R, J>,
+impl<'a, R: Wait + Net + Clock + RandomSource> OfConsole<'a, R> {
+    /// The console, with its handler of events.
+    fn with<T: Hears>(
+        self,
+        cx: Context<'a, R>,
+        servers: &[ServerPlace],
+        taker: T,
+    ) -> OwnConsole<'a, R, T> {
+        let (rt, alloc) = cx;
+        let operator = Operator::new(alloc, self.words, taker, self.outside, servers, self.roster);
+        Console::new(rt, alloc, self.sockets, operator, self.halt)
+    }
+}
+
+/// What the front of DNS on HTTP is made of besides its listeners and its handler of events.
+#[derive(Drop)]
+struct OfFront<'a, R: Clock + RandomSource> {
+    sender: Sender,
+    outside: SystemOutside<'a, R>,
+    /// What wakes the loop of streams.
+    streams: PollWaker,
+    requests: Arc<Requests>,
+    clients: usize,
+    sends: Arc<Sends>,
+    end: oneshot::Receiver<()>,
+    halt: Halt,
+}
+
+impl<'a, R: Wait + Net + Clock + RandomSource> OfFront<'a, R> {
+    /// The front, with its listeners and its handler of events.
+    fn with<T: Drop>(
+        self,
+        cx: Context<'a, R>,
+        listeners: Vec<Bound>,
+        taker: T,
+    ) -> Result<Fronting<T, SystemOutside<'a, R>>, Fault> {
+        let runtime = front_runtime(&cx, listeners.as_slice()).map_err(Fault::Front)?;
+        let parts = FrontParts {
+            runtime,
+            listeners,
+            taker,
+            sender: self.sender,
+            outside: self.outside,
+            streams: self.streams,
+            requests: self.requests,
+            clients: self.clients,
+            sends: self.sends,
+            end: self.end,
+        };
+        Ok(Fronting {
+            parts,
+            halt: self.halt,
+        })
+    }
+}
+
+/// The service of metrics, if it has a listener and a page.
+fn metrics_at<R: Net + Clock + RandomSource, G: Page>(
+    cx: Context<'_, R>,
+    listener: Option<net::TcpListener>,
+    page: Option<G>,
+    end: oneshot::Receiver<()>,
+) -> Result<Option<MetricsParts<G>>, Fault> {
+    let (Some(listener), Some(page)) = (listener, page) else {
+        return Ok(None);
+    };
+    Ok(Some(MetricsParts {
+        listener,
+        runtime: metrics_runtime(&cx)?,
+        page,
+        end,
+    }))
+}
+
+/// What several parts need a hold on: the words of the console, its sockets and what wakes it, what
+/// listens at each place of the listen lines for two loops, what wakes the loop of streams, the
+/// roster, and the counts of failed sends.
+#[derive(Drop)]
+struct Tools {
+    words: Words,
+    console: ConsoleSockets,
+    waker: mio::Waker,
     fronts: (Vec<Front>, Vec<Front>),
-    jobs: (Sender, Receiver),
-    rest: RestOfLoops<'a, R>,
-) -> Result<Loops<'a, R, J>, AllocError>
-    ensures { IfOk result (λ loops. (loops.streams.fronts ≡ fronts.0) × (loops.clock.fronts ≡ fronts.1)) }
+    streams: PollWaker,
+    roster: Arc<Mutex<Roster>>,
+    sends: Arc<Sends>,
+}
+
+impl Tools {
+    /// Those that serve by a plan. The errors are the system's, and lack of memory.
+    fn made<R: Net + Clock>(
+        cx: Context<'_, R>,
+        plan: &Plan,
+        common: (&Shared, Rings),
+        consoles: Vec<TcpListener>,
+        sockets: &Sockets<'_, R>,
+    ) -> Result<Tools, Fault>
+        ensures { IfOk result (λ tools. AreFronts tools.fronts.0.items tools.fronts.1.items plan.now.setup.listeners) }
+    {
+        let (shared, rings) = common;
+        let (rt, alloc) = cx;
+        let console = ConsoleSockets::made(rt, alloc, consoles)?;
+        let waker = console.waker()?;
+        let words = words_of(cx, plan, &shared.sends, rings)?;
+        let fronts = fronts_for_two(alloc, plan.setup.listeners())?;
+        Ok(Tools {
+            words,
+            console,
+            waker,
+            fronts,
+            streams: sockets.streams.waker()?,
+            roster: Arc::try_clone(&shared.roster)?,
+            sends: Arc::try_clone(&shared.sends)?,
+        })
+    }
+}
+
+/// The fronts of these lines, for two loops.
+fn fronts_for_two(alloc: Global, lines: &[Listener]) -> Result<(Vec<Front>, Vec<Front>), AllocError>
+    ensures { IfOk result (λ r. AreFronts r.0.items r.1.items lines.now) }
 {
-    let (sockets, outside) = own;
-    let (shared, posts, halt, idle) = rest;
-    let rooms = shared.rooms;
-    let (row, room) = row_of(
-        alloc,
-        sockets.datagrams,
-        rooms.datagrams,
-        takers.0,
-        &outside,
-    )?;
-    let streams = StreamParts {
-        sockets: sockets.streams,
-        table: rooms.table,
-        roster: rooms.streams,
-        receiver: jobs.1,
-        fronts: fronts.0,
-        posts: posts.0,
-        taker: takers.1,
-        outside: outside.beside(),
-        idle,
-    };
-    let clock = ClockParts {
-        sockets: sockets.clock,
-        probes: rooms.probes,
-        roster: rooms.clock,
-        sender: jobs.0,
-        fronts: fronts.1,
-        posts: posts.1,
-        taker: takers.2,
-        outside,
-    };
-    Ok(Parts {
-        datagrams: row,
-        takers: room,
+    Ok((fronts(alloc, lines)?, fronts(alloc, lines)?))
+}
+
+/// For how many milliseconds a client over TCP may send no query, if that is limited.
+fn idle_of(switches: &Switches) -> Option<u64> {
+    switches
+        .idle
+        .map(|seconds| u64::from(seconds).saturating_mul(1_000))
+}
+
+/// What is made without a handler of events.
+#[derive(Drop)]
+struct Made<'a, R: Wait + Net + Clock + RandomSource> {
+    rows: Rows<'a, R>,
+    loops: OfLoops<'a, R>,
+    console: OfConsole<'a, R>,
+    front: OfFront<'a, R>,
+    over: Over,
+    /// What ends the service of metrics.
+    page_end: oneshot::Receiver<()>,
+}
+
+impl<'a, R: Wait + Net + Clock + RandomSource> Made<'a, R> {
+    /// What serves by a plan, with what threads share, and these devices and tools.
+    fn of(plan: &Plan, shared: Shared, devices: Devices<'a, R>, tools: Tools) -> Made<'a, R>
+        ensures { result.loops.fronts ≡ tools.fronts }
+    {
+        let Devices {
+            sockets,
+            halts,
+            ties,
+            posts,
+            outside,
+        } = devices;
+        let front = OfFront {
+            sender: ties.front,
+            outside: outside.beside(),
+            streams: tools.streams,
+            requests: shared.requests,
+            clients: Clients::beside(plan).http as usize,
+            sends: tools.sends,
+            end: ties.http_end,
+            halt: halts.front,
+        };
+        let console = OfConsole {
+            sockets: tools.console,
+            words: tools.words,
+            roster: tools.roster,
+            outside: outside.beside(),
+            halt: halts.console,
+        };
+        let loops = OfLoops {
+            streams: sockets.streams,
+            clock: sockets.clock,
+            rooms: shared.rooms,
+            fronts: tools.fronts,
+            posts,
+            jobs: (ties.clock, ties.receiver),
+            outside,
+            halt: halts.loops,
+            roster: shared.roster,
+            sends: shared.sends,
+            idle: idle_of(&plan.switches),
+        };
+        Made {
+            rows: (sockets.datagrams, shared.rosters),
+            loops,
+            console,
+            front,
+            over: Over {
+                waker: tools.waker,
+                http: ties.of_http,
+                page: ties.of_page,
+            },
+            page_end: ties.page_end,
+        }
+    }
+
+    /// The same, of what listens. The errors are the system's, and lack of memory.
+    fn by(
+        cx: Context<'a, R>,
+        plan: &Plan,
+        common: (Shared, Rings),
+        bound: BoundSockets,
+        consoles: Vec<TcpListener>,
+    ) -> Result<Made<'a, R>, Fault>
+        ensures { IfOk result (λ made. AreFronts made.loops.fronts.0.items made.loops.fronts.1.items plan.now.setup.listeners) }
+    {
+        let (shared, rings) = common;
+        let devices = Devices::made(cx, bound, plan, &shared)?;
+        let tools = Tools::made(cx, plan, (&shared, rings), consoles, &devices.sockets)?;
+        Ok(Made::of(plan, shared, devices, tools))
+    }
+}
+
+/// What the loops, the console and the services by HTTP are made of, with these handlers of events
+/// and this page of metrics, if there is one.
+fn prepared<'a, R: Wait + Net + Clock + RandomSource, T: Hears, G: Page>(
+    cx: Context<'a, R>,
+    plan: &Plan,
+    own: (Handlers<T>, Option<G>),
+    common: (Shared, Rings),
+    listening: Listening,
+) -> Result<Runners<'a, R, T, G>, Fault>
+    ensures { IfOk result (λ p. AreFronts p.loops.streams.fronts.items p.loops.clock.fronts.items plan.now.setup.listeners) }
+{
+    let Listening {
+        datagrams,
+        beside,
         streams,
-        clock,
-        roster: shared.roster,
-        gate: OpenGate,
-        sends: shared.sends,
-        stop: halt.stop,
-        datagrams_wakers: halt.datagrams,
-        streams_waker: halt.streams,
-        clock_waker: halt.clock,
+        http,
+        consoles,
+        metrics,
+    } = listening;
+    let made = Made::by(cx, plan, common, (datagrams, beside, streams), consoles)?;
+    assembled(cx, plan.servers.as_slice(), own, (http, metrics), made)
+}
+
+/// The listeners of the services by HTTP: of DNS, and of metrics, if it has one.
+type Listeners = (Vec<Bound>, Option<net::TcpListener>);
+
+/// The same, of what was made without a handler of events.
+fn assembled<'a, R: Wait + Net + Clock + RandomSource, T: Hears, G: Page>(
+    cx: Context<'a, R>,
+    servers: &[ServerPlace],
+    own: (Handlers<T>, Option<G>),
+    listeners: Listeners,
+    made: Made<'a, R>,
+) -> Result<Runners<'a, R, T, G>, Fault>
+    ensures { IfOk result (λ p. (p.loops.streams.fronts ≡ made.entry.loops.fronts.0) × (p.loops.clock.fronts ≡ made.entry.loops.fronts.1)) }
+{
+    let (handlers, page) = own;
+    let (http, listener) = listeners;
+    let Made {
+        rows,
+        loops,
+        console,
+        front,
+        over,
+        page_end,
+    } = made;
+    let metrics = metrics_at(cx, listener, page, page_end)?;
+    let front = front.with(cx, http, handlers.front)?;
+    let rows = match row_of(cx.1, rows, handlers.datagrams, &loops.outside) {
+        Ok(rows) => rows,
+        Err(refused) => return Err(Fault::from(refused)),
+    };
+    Ok(Runners {
+        loops: loops.with(rows, (handlers.streams, handlers.clock)),
+        console: console.with(cx, servers, handlers.console),
+        over,
+        services: Services { front, metrics },
     })
 }

@@ -148,36 +148,7 @@ impl Sentences {
     /// What an operator should know of a fault.
     pub(crate) fn explain(&mut self, alloc: Global, fault: &Fault) -> Result<(), AllocError> {
         let words = match fault {
-            Fault::Switch(Switch::Recent) => {
-                String::from_str(alloc, "LB_RECENT is no number from 0 to 100,000")?
-            }
-            Fault::Switch(Switch::LogName) => {
-                String::from_str(alloc, "LB_LOG is no name of a file")?
-            }
-            Fault::Switch(Switch::Log(kind)) => {
-                format!(in alloc; "LB_LOG: the file cannot be made: {kind}")?
-            }
-            Fault::Switch(Switch::LogAnswers) => {
-                String::from_str(alloc, "LB_LOG_ANSWERS is neither 0 nor 1")?
-            }
-            Fault::Switch(Switch::Loops) => {
-                String::from_str(alloc, "LB_LOOPS is no number from 1 to 16")?
-            }
-            Fault::Switch(Switch::Metrics) => {
-                String::from_str(
-                    alloc,
-                    "LB_METRICS is no ADDR:PORT, as 127.0.0.1:9453 or [::1]:9453",
-                )?
-            }
-            Fault::Switch(Switch::MetricsListener(kind)) => {
-                format!(in alloc; "LB_METRICS: cannot listen there: {kind}")?
-            }
-            Fault::Switch(Switch::OfSource) => {
-                String::from_str(alloc, "LB_STREAMS_PER_SOURCE is no number from 1 to 1,024")?
-            }
-            Fault::Switch(Switch::Idle) => {
-                String::from_str(alloc, "LB_STREAM_IDLE is no number from 1 to 86,400")?
-            }
+            Fault::Switch(switch) => of_switch(alloc, switch)?,
             Fault::NoThreads(count) => {
                 format!(in alloc; "the system does not give {count} threads at a time")?
             }
@@ -205,6 +176,26 @@ impl Sentences {
         let words = format!(in alloc; "cannot read {file}: {error}")?;
         self.add(alloc, words)
     }
+}
+
+/// Why a switch cannot be honoured.
+fn of_switch(alloc: Global, switch: &Switch) -> Result<String, AllocError> {
+    let words = match switch {
+        Switch::Log(kind) => {
+            return format!(in alloc; "LB_LOG: the file cannot be made: {kind}");
+        }
+        Switch::MetricsListener(kind) => {
+            return format!(in alloc; "LB_METRICS: cannot listen there: {kind}");
+        }
+        Switch::Recent => "LB_RECENT is no number from 0 to 100,000",
+        Switch::LogName => "LB_LOG is no name of a file",
+        Switch::LogAnswers => "LB_LOG_ANSWERS is neither 0 nor 1",
+        Switch::Loops => "LB_LOOPS is no number from 1 to 16",
+        Switch::Metrics => "LB_METRICS is no ADDR:PORT, as 127.0.0.1:9453 or [::1]:9453",
+        Switch::OfSource => "LB_STREAMS_PER_SOURCE is no number from 1 to 1,024",
+        Switch::Idle => "LB_STREAM_IDLE is no number from 1 to 86,400",
+    };
+    String::from_str(alloc, words)
 }
 
 /// Whether only this machine reaches an address (RFC 1122 section 3.2.1.3, RFC 4291 section 2.5.3).

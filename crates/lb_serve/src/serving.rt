@@ -2,7 +2,7 @@
 
 ghost use Rattle.std.specs.Prelude.{IfOk, List, Option, Result, ◌≡◌, ℕ};
 ghost use Rattle.std.specs.declared.io.Error.{Error};
-ghost use Rattle.lb_core.specs.Snapshot.{snapshot_of};
+ghost use Rattle.lb_step.specs.Snapshot.{snapshot_of};
 ghost use Rattle.lb_program.specs.Faults.{Tells, stop_text};
 ghost use Rattle.lb_program.specs.Servers.{server_places};
 ghost use Rattle.lb_program.specs.declared.faults.Stop.TheVariants.{Input};
@@ -10,7 +10,7 @@ ghost use Rattle.lb_serve.specs.Fault.{fault_status, fault_text};
 ghost use Rattle.lb_serve.specs.Serving.{EndsServe, Says, Served, TellsBehind, serve_status, serve_text};
 
 use crate::crew::{spare_threads, threads_of};
-use crate::desk::{Ready, serve_at_desk};
+use crate::desk::{Plan, Ready, serve_at_desk};
 use crate::fault::Fault;
 use crate::listening::listen;
 use crate::log;
@@ -113,8 +113,8 @@ fn ready<R: Net<Listener = TcpListener, Stream = TcpStream> + Env + Files + Thre
     setup: Setup,
     balancer: &Balancer,
 ) -> Result<Ready<R::File>, Fault>
-    ensures setup { IfOk result (λ ready. ready.setup ≡ setup) }
-    ensures servers { IfOk result (λ ready. ready.servers.items ≡ server_places balancer.now) }
+    ensures setup { IfOk result (λ ready. ready.plan.setup ≡ setup) }
+    ensures servers { IfOk result (λ ready. ready.plan.servers.items ≡ server_places balancer.now) }
 {
     let servers = places(alloc, balancer)?;
     let switches = Switches::read(rt, alloc)?;
@@ -130,9 +130,11 @@ fn ready<R: Net<Listener = TcpListener, Stream = TcpStream> + Env + Files + Thre
     )?;
     let log = log::made(rt, alloc, text, &switches)?;
     Ok(Ready {
-        setup,
-        servers,
-        switches,
+        plan: Plan {
+            setup,
+            servers,
+            switches,
+        },
         listening,
         log,
     })

@@ -25,6 +25,11 @@ pub record Backends : Type 0 where
   pub servers : List Loaded
   pub pools : List Pool
 
+-- the table of these servers and pools, of which the next server and cache numbers follow on the
+-- last ones given
+abbrev pub backends_of : ℕ → ℕ → List Loaded → List Pool → Backends
+backends_of last_server last_cache servers pools = record { next = last_server + 1; next_cache = last_cache + 1; servers = servers; pools = pools }
+
 -- at first: no server, and the default pool
 abbrev pub no_backends : Backends
 no_backends = record { next = 1; next_cache = 1; servers = []; pools = new_pool names.Default ∷ [] }

@@ -40,14 +40,13 @@ pub struct Park {
 }
 
 impl Model for Park {
-    ghost use Rattle.std.specs.Prelude.{◌+◌};
-    ghost use Rattle.lb_servers.specs.Park.{AreBackends, Backends, IsPark};
+    ghost use Rattle.lb_servers.specs.Park.{AreBackends, Backends, IsPark, backends_of};
 
     ghost Value = { Backends };
 
-    ghost view = { λ p. record { next = p.last_server + 1; next_cache = p.last_cache + 1; servers = p.servers.items; pools = p.pools.items } };
+    ghost view = { λ p. backends_of p.last_server p.last_cache p.servers.items p.pools.items };
 
-    ghost invariant = { λ p. IsPark p.servers.items p.pools.items p.ranks p.ups.items × AreBackends (record { next = p.last_server + 1; next_cache = p.last_cache + 1; servers = p.servers.items; pools = p.pools.items }) };
+    ghost invariant = { λ p. IsPark p.servers.items p.pools.items p.ranks p.ups.items × AreBackends (backends_of p.last_server p.last_cache p.servers.items p.pools.items) };
 }
 
 impl Park {

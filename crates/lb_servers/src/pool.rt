@@ -12,7 +12,7 @@ use lb_wire::{CacheId, PoolId};
 use std::alloc::{AllocError, Global};
 
 /// The most pools, the default one counted.
-pub(crate) const MAX_POOLS: usize = 64;
+pub const MAX_POOLS: usize = 64;
 
 /// The name of a pool. The default pool is a value of its own: texts write it as `-`.
 #[derive(Debug, Drop)]

@@ -12,7 +12,7 @@ use lb_wire::PoolId;
 use std::marker::Model;
 
 /// The most servers.
-pub(crate) const MAX_SERVERS: usize = 256;
+pub const MAX_SERVERS: usize = 256;
 
 /// The places of servers in their list, by order, those of one order by age: so that a query finds them sorted. A contract
 /// sees them as the list.

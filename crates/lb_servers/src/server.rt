@@ -20,7 +20,7 @@ use std::marker::Model;
 use std::num::NonZeroU16;
 
 /// The most pools that a server stands in.
-pub(crate) const MAX_POOLS_OF_SERVER: usize = 8;
+pub const MAX_POOLS_OF_SERVER: usize = 8;
 
 /// Whether a server is up: as an operator says, or by its health.
 #[derive(Clone, Copy, Debug, PartialEq, Eq)]

@@ -6,7 +6,7 @@ use crate::fronts::TcpListeners;
 use crate::readiness::first_from;
 use crate::sources::Sources;
 use crate::streams::Limits;
-use lb_lines::Endpoint;
+use lb_lines::{Endpoint, MAX_CLIENTS};
 use lb_sends::{Refusal, Sends};
 use lb_wire::Addr;
 use mio::net::TcpStream;
@@ -17,9 +17,6 @@ use std::sync::Arc;
 
 /// The most listeners that are tried for one client.
 const TRIES: u16 = 512;
-
-/// The loop of streams turns further clients away.
-const MOST: usize = 1_024;
 
 /// The system has no descriptor left.
 const ENFILE: i32 = 23;
@@ -63,7 +60,7 @@ impl Clients {
         sends: Arc<Sends>,
     ) -> Result<Clients, AllocError> {
         let may_wait = Vec::from_elem(alloc, false, fronts.listeners.len())?;
-        sends.tcp().bound(limits.clients.min(MOST) as u64);
+        sends.tcp().bound(limits.clients.min(MAX_CLIENTS) as u64);
         Ok(Clients {
             fronts,
             may_wait,

@@ -2,6 +2,7 @@
 
 ghost use Rattle.std.specs.Prelude.{IfOk, length, ◌<◌, ◌≡◌, ◌≤◌};
 
+use lb_lines::MAX_CONNECTIONS;
 use lb_sends::Closing;
 use lb_wire::{Addr, Octets};
 use mio::event::Event;
@@ -9,9 +10,6 @@ use mio::net::TcpStream;
 use std::alloc::{AllocError, Global};
 use std::io;
 use std::io::{ErrorKind, Write};
-
-/// How many places there are.
-pub(crate) const PLACES: usize = 4096;
 
 /// A client that left: its address, and why it was closed if it had not closed its side.
 #[derive(Clone, Copy, Debug)]
@@ -128,7 +126,7 @@ fn is_full(error: &io::Error) -> bool {
 pub(crate) fn place_of(number: u64) -> usize
     ensures { result < 4096 }
 {
-    (number % 4096) as usize
+    (number % MAX_CONNECTIONS as u64) as usize
 }
 
 /// Connections, each at its place. A number is found only where it is that of the connection there.
@@ -140,8 +138,8 @@ pub(crate) struct Connections {
 impl Connections {
     /// None. Room for all is taken; the one error is want of memory.
     pub(crate) fn made(alloc: Global) -> Result<Connections, AllocError> {
-        let mut slots = Vec::with_capacity(alloc, PLACES)?;
-        for _ in 0..PLACES {
+        let mut slots = Vec::with_capacity(alloc, MAX_CONNECTIONS)?;
+        for _ in 0..MAX_CONNECTIONS {
             slots.push(None)?;
         }
         Ok(Connections { slots })

@@ -3,10 +3,8 @@
 ghost use Rattle.std.specs.Prelude.{[], IfOk, IfSome, OnErr, OnOk, vec_capacity, ◌++◌, ◌∷◌, ◌≡◌, ◌≤◌};
 ghost use Rattle.std.specs.Arc.{arc_value};
 ghost use Rattle.lb_lines.specs.Counts.{Fails};
-ghost use Rattle.lb_lines.specs.Moves.{Sent};
 ghost use Rattle.lb_lines.specs.declared.report.Why.TheVariants as whys;
-ghost use Rattle.lb_lines.specs.declared.traffic.Socket.TheVariants as sockets;
-ghost use Rattle.lb_sockets.specs.Datagrams.{listens_at, told};
+ghost use Rattle.lb_sockets.specs.Datagrams.{SentBy, from_listener, from_server, told};
 ghost use Rattle.lb_wire.specs.Octets.{max_message};
 
 use crate::listening::ListenSockets;
@@ -172,7 +170,7 @@ impl<'a, R: Net + Clock> UdpSockets<'a, R> {
 
     /// Sends by the listener of a place.
     fn send_by_listener(&mut self, front: u8, to: Endpoint, bytes: &Octets) -> Result<(), Why>
-        ensures sent { Sent result (listens_at (arc_value self.old.listeners).sockets.items) (record { socket = sockets.Listener front; peer = to; bytes = bytes.now }) (told self.old.sender.taken.items) (told self.new.sender.taken.items) self.old.failures self.new.failures }
+        ensures sent { SentBy result (arc_value self.old.listeners).sockets.items (from_listener front to bytes.now) self.old.sender self.new.sender self.old.failures self.new.failures }
         ensures same { self.new ≡ record self.old { sender = self.new.sender; failures = self.new.failures } }
     {
         let Some(listener) = self.listeners.at(front) else {
@@ -192,7 +190,7 @@ impl<'a, R: Net + Clock> UdpSockets<'a, R> {
         to: Endpoint,
         bytes: &Octets,
     ) -> Result<(), Why>
-        ensures sent { Sent result (listens_at (arc_value self.old.listeners).sockets.items) (record { socket = sockets.Server upstream.server upstream.number upstream.at; peer = to; bytes = bytes.now }) (told self.old.sender.taken.items) (told self.new.sender.taken.items) self.old.failures self.new.failures }
+        ensures sent { SentBy result (arc_value self.old.listeners).sockets.items (from_server upstream to bytes.now) self.old.sender self.new.sender self.old.failures self.new.failures }
         ensures same { (self.new.listeners ≡ self.old.listeners) × (self.new.reader ≡ self.old.reader) × (self.new.asked ≡ self.old.asked) }
     {
         let Ok(slot) = self.slot_for(upstream)? else {
@@ -214,7 +212,7 @@ impl<'a, R: Net + Clock> UdpSockets<'a, R> {
         to: Endpoint,
         bytes: &Octets,
     ) -> io::Result<()>
-        ensures done { OnOk result (told self.new.sender.taken.items ≡ told self.old.sender.taken.items ++ record { socket = sockets.Server upstream.server upstream.number upstream.at; peer = to; bytes = bytes.now } ∷ []) }
+        ensures done { OnOk result (told self.new.sender.taken.items ≡ told self.old.sender.taken.items ++ from_server upstream to bytes.now ∷ []) }
         ensures refused { OnErr result (self.new.sender ≡ self.old.sender) }
         ensures same { self.new ≡ record self.old { servers = self.new.servers; sender = self.new.sender } }
     {

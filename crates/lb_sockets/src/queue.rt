@@ -3,7 +3,7 @@
 ghost use Rattle.std.specs.Prelude.{◌≤◌};
 ghost use Rattle.std.specs.VecDeque.{deque_capacity};
 
-use crate::connections::PLACES;
+use lb_lines::MAX_CONNECTIONS;
 use std::alloc::{AllocError, Global};
 use std::collections::VecDeque;
 
@@ -20,8 +20,8 @@ impl Queue {
     /// None waits. The one error is want of memory.
     pub(crate) fn made(alloc: Global) -> Result<Queue, AllocError> {
         Ok(Queue {
-            places: VecDeque::with_capacity(alloc, PLACES)?,
-            waits: Vec::from_elem(alloc, false, PLACES)?,
+            places: VecDeque::with_capacity(alloc, MAX_CONNECTIONS)?,
+            waits: Vec::from_elem(alloc, false, MAX_CONNECTIONS)?,
         })
     }
 
@@ -32,7 +32,7 @@ impl Queue {
 
     /// Puts a place behind the others, where it does not wait yet.
     pub(crate) fn put(&mut self, place: usize) {
-        if self.places.len() < PLACES && set(&mut self.waits, place) {
+        if self.places.len() < MAX_CONNECTIONS && set(&mut self.waits, place) {
             self.places.push_back_reserved(place);
         }
     }

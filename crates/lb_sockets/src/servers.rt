@@ -7,7 +7,7 @@ use crate::addresses::{any_beside, socket_addr};
 use crate::options::{Share, bound};
 use crate::readiness::Readiness;
 use crate::wire::Wire;
-use lb_lines::{Endpoint, Socket};
+use lb_lines::{Endpoint, KEPT_AFTER_QUERY, Socket};
 use lb_wire::ServerId;
 use mio::net::UdpSocket;
 use std::alloc::{AllocError, Global};
@@ -15,10 +15,6 @@ use std::collections::HashMap;
 use std::io;
 use std::net::{Net, SocketAddr};
 use std::time::{Clock, Instant};
-
-/// How long a socket by which nothing is sent stays open, in milliseconds. A reply that comes later has
-/// no query left to answer.
-const KEPT: u64 = 61_000;
 
 /// How long one stays open on which as many datagrams came as were sent, in milliseconds.
 const QUIET: u64 = 5_000;
@@ -220,14 +216,15 @@ impl<'a, R: Clock> Servers<'a, R> {
         is_due
     }
 
-    /// Whether a socket is in a slot that may be closed: it sent nothing for 61 seconds, or for 5 if nothing
-    /// is awaited, or it is to be made anew.
+    /// Whether a socket is in a slot that may be closed: it sent nothing for 61 seconds, or for 5 if
+    /// nothing is awaited, or it is to be made anew. A reply that comes later has no query left to
+    /// answer.
     pub(crate) fn is_over(&self, slot: usize) -> bool {
         let Some(server) = self.in_slot(slot) else {
             return false;
         };
         let idle = self.now.saturating_sub(server.used);
-        server.is_lost || idle >= KEPT || (server.awaited == 0 && idle >= QUIET)
+        server.is_lost || idle >= KEPT_AFTER_QUERY || (server.awaited == 0 && idle >= QUIET)
     }
 }
 

@@ -3,12 +3,10 @@
 ghost use Rattle.std.specs.Prelude.{◌≡◌};
 ghost use Rattle.lb_sockets.specs.Sources as spec;
 
+use lb_lines::MAX_CLIENTS;
 use lb_masks::masked;
 use lb_wire::Addr;
 use std::alloc::{AllocError, Global};
-
-/// How many clients are connected at most, so that there is room for the source of each.
-const CLIENTS: usize = 1_024;
 
 /// The bits of an IPv4 address that make a source: all.
 const V4_BITS: u8 = 32;
@@ -33,11 +31,11 @@ pub(crate) struct Sources {
 }
 
 impl Sources {
-    /// No client is connected, and so many of a source may be. Room for all is taken; the one error
-    /// is refused memory.
+    /// No client is connected, and so many of a source may be. Room for the source of each client is
+    /// taken; the one error is refused memory.
     pub(crate) fn made(alloc: Global, most: Option<usize>) -> Result<Sources, AllocError> {
         let held = match most {
-            Some(_) => Vec::with_capacity(alloc, CLIENTS)?,
+            Some(_) => Vec::with_capacity(alloc, MAX_CLIENTS)?,
             None => Vec::new(alloc),
         };
         Ok(Sources { held, most })

@@ -73,7 +73,19 @@ impl Model for Told {
 
     ghost Value = { Traffic };
 
-    ghost view = { λ t. record { given = t.given.items; taken = t.taken.items; came = t.came.items; dialed = t.dialed.items; ended = firsts t.ended.items; gone = firsts t.gone.items; turned = length t.turned.items; failures = t.failures; reads = length t.asked.items; failed = firsts t.failed.items; lacked = firsts t.lacked.items } };
+    ghost view = { λ t. record {
+      given = t.given.items;
+      taken = t.taken.items;
+      came = t.came.items;
+      dialed = t.dialed.items;
+      ended = firsts t.ended.items;
+      gone = firsts t.gone.items;
+      turned = length t.turned.items;
+      failures = t.failures;
+      reads = length t.asked.items;
+      failed = firsts t.failed.items;
+      lacked = firsts t.lacked.items;
+    } };
 }
 
 impl Told {

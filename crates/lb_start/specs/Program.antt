@@ -1,5 +1,5 @@
 -- What the program does for the words of its command line.
-use Rattle.std.specs.Prelude.{◌≡◌, ◌≢◌, ◌⊎◌, ℕ, List, [], ◌∷◌, codes, Option, Some, None, Result}
+use Rattle.std.specs.Prelude.{◌≡◌, ◌≢◌, ◌⊎◌, ℕ, List, [], ◌∷◌, codes, map, String, string_bytes, Option, Some, None, Result}
 use Rattle.std.specs.Io.KnownBytes.{Keeps}
 use Rattle.std.specs.Str.{IsUtf8}
 use Rattle.std.specs.IoError.{error_kind}
@@ -12,6 +12,10 @@ use Rattle.lb_program.specs.declared.faults.Stop.TheVariants.{Input}
 use Rattle.lb_serve.specs.Serving.{EndsServe, Says}
 use Rattle.lb_start.specs.declared.program.Mode.{Mode}
 use Rattle.lb_start.specs.declared.program.Mode.TheVariants.{Serve, Check, Replay}
+
+-- the text of each word, as octets
+abbrev pub texts_of : List String → List (List ℕ)
+texts_of = map string_bytes
 
 -- these words ask for nothing that there is
 abbrev pub AsksNothing : List (List ℕ) → Type 0
@@ -59,9 +63,13 @@ Does (Some (Check file)) input old new told_old told_new status told = ChecksInp
 Does (Some Replay) input old new told_old told_new status told = EndsReplay input old new told_old told_new status told
 Does None input old new told_old told_new status told = Refuses usage old new told_old told_new status told
 
+-- what is done for these words, with an input: the status, and whether the text on faults was written
+abbrev pub DoesAsked : List (List ℕ) → Option (List ℕ) → Option (List ℕ) → Option (List ℕ) → Option (List ℕ) → Option (List ℕ) → ℕ → Result (Unit {0}) Error → Type 0
+DoesAsked words input old new told_old told_new status told = (mode : Option Mode) × Asks words mode × Does mode input old new told_old told_new status told
+
 -- what is done for these words, with an input
 abbrev pub DoesFor : List (List ℕ) → Option (List ℕ) → Option (List ℕ) → Option (List ℕ) → Option (List ℕ) → Option (List ℕ) → ℕ → Type 0
-DoesFor words input old new told_old told_new status = (mode : Option Mode) × (told : Result (Unit {0}) Error) × Asks words mode × Does mode input old new told_old told_new status told
+DoesFor words input old new told_old told_new status = (told : Result (Unit {0}) Error) × DoesAsked words input old new told_old told_new status told
 
 -- what is done where the words could not be had: those that are not UTF-8 ask for nothing that there is
 abbrev pub DoesWithout : Error → Option (List ℕ) → Option (List ℕ) → Option (List ℕ) → Option (List ℕ) → ℕ → Type 0

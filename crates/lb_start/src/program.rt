@@ -1,13 +1,12 @@
 //! What the program does for the words of its command line.
 
-ghost use Rattle.std.specs.Prelude.{◌≡◌, ◌≢◌, drop, map, string_bytes, None, IfErr, IfOk, Option};
+ghost use Rattle.std.specs.Prelude.{◌≡◌, ◌≢◌, drop, None, IfErr, IfOk};
 ghost use Rattle.std.specs.IoError.{error_kind};
 ghost use Rattle.std.specs.declared.io.ErrorKind.TheVariants.{InvalidData};
 ghost use Rattle.lb_program.specs.Checking.{ChecksInput};
 ghost use Rattle.lb_program.specs.Faults.{Tells, stop_text};
-ghost use Rattle.lb_start.specs.Program.{Asks, Does, DoesFor, DoesWithout, ServesFile, usage};
+ghost use Rattle.lb_start.specs.Program.{Asks, DoesAsked, DoesFor, DoesWithout, ServesFile, texts_of, usage};
 ghost use Rattle.lb_program.specs.declared.faults.Stop.TheVariants.{Input};
-ghost use Rattle.lb_start.specs.declared.program.Mode.{Mode};
 
 use lb_program::{Ended, Stop, check_input, replay_told, write_line};
 use lb_serve::{serve_told, tell_unreadable};
@@ -41,7 +40,7 @@ pub enum Mode<'a> {
 
 /// What the words behind the program's name ask for: none where that is nothing that there is.
 pub fn choose(words: &[String]) -> Option<Mode<'_>>
-    ensures { Asks (map string_bytes words.now) result }
+    ensures { Asks (texts_of words.now) result }
 {
     match words {
         [word] if word.as_str() == "replay" => Some(Mode::Replay),
@@ -68,7 +67,7 @@ pub fn start<
     W: Write,
     F: Write,
 >(rt: &T, words: io::Result<Vec<String>>, input: R, output: &mut W, faults: &mut F) -> u8
-    ensures asked { IfOk words (λ words. DoesFor (map string_bytes words.items) (R.remaining input) (W.contents output.old) (W.contents output.new) (F.contents faults.old) (F.contents faults.new) result) }
+    ensures asked { IfOk words (λ words. DoesFor (texts_of words.items) (R.remaining input) (W.contents output.old) (W.contents output.new) (F.contents faults.old) (F.contents faults.new) result) }
     ensures unasked { IfErr words (λ error. DoesWithout error (W.contents output.old) (W.contents output.new) (F.contents faults.old) (F.contents faults.new) result) }
 {
     match words {
@@ -104,7 +103,7 @@ fn run<
     W: Write,
     F: Write,
 >(rt: &T, words: &[String], input: R, output: &mut W, faults: &mut F) -> Ended
-    ensures { (mode : Option Mode) × Asks (map string_bytes words.now) mode × Does mode (R.remaining input) (W.contents output.old) (W.contents output.new) (F.contents faults.old) (F.contents faults.new) result.status result.told }
+    ensures { DoesAsked (texts_of words.now) (R.remaining input) (W.contents output.old) (W.contents output.new) (F.contents faults.old) (F.contents faults.new) result.status result.told }
 {
     match choose(words) {
         Some(Mode::Serve(file)) => serve_file(rt, file, output, faults),

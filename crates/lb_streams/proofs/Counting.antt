@@ -3,7 +3,7 @@ use Rattle.std.proofs.Common.{◌≡◌, ℕ, ◌+◌, ◌≤◌, ◌⊎◌, inl
 use Rattle.std.specs.Prelude.{◌||◌}
 use Rattle.std.proofs.lemmas.Grind.{flat_map-append}
 use Rattle.std.proofs.lemmas.List.{append-nil, length-append}
-use Rattle.lb_core.specs.declared.event.Event.{Event}
+use Rattle.lb_step.specs.declared.event.Event.{Event}
 use Rattle.lb_lines.specs.Counts.{Grows, Rose}
 use Rattle.lb_lines.specs.Lines.{any_by_device, is_by_device}
 use Rattle.lb_lines.specs.Stamps.{Stamp, Stamped}

@@ -4,7 +4,7 @@ use Rattle.std.specs.Prelude.{◌||◌}
 use Rattle.std.proofs.lemmas.Grind.{flat_map-append}
 use Rattle.std.proofs.lemmas.List.{append-nil, length-append}
 use Rattle.lb_connections.specs.Table.{IsFirst}
-use Rattle.lb_core.specs.declared.event.Event.{Event}
+use Rattle.lb_step.specs.declared.event.Event.{Event}
 use Rattle.lb_lines.specs.Counts.{Fails, Grows, Rose}
 use Rattle.lb_lines.specs.Letter.{IsOutcome, Letter, job_letter, outcome_letter}
 use Rattle.lb_lines.specs.Lines.{FirstFault, answered_as, any_by_device, event_in, events_in, is_by_device, jobs_received, pair_in, pairs, received_in}

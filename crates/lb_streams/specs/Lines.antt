@@ -2,8 +2,8 @@
 use Rattle.std.specs.Prelude.{◌≡◌, ℕ, ◌⊎◌, Bool, true, false, List, [], ◌∷◌, Option, Some, None, flat_map, slice_get, if◌then◌else◌, ◌==◌}
 use Rattle.lb_connections.specs.Table.{at}
 use Rattle.lb_connections.specs.declared.connection.Connection.{Connection}
-use Rattle.lb_core.specs.declared.event.Event.{Event}
-use Rattle.lb_core.specs.declared.event.Event.TheVariants.{Query, Reply}
+use Rattle.lb_step.specs.declared.event.Event.{Event}
+use Rattle.lb_step.specs.declared.event.Event.TheVariants.{Query, Reply}
 use Rattle.lb_lines.specs.Counts.{Rose}
 use Rattle.lb_lines.specs.Letter.{IsOutcome, Letter, job_letter, outcome_letter}
 use Rattle.lb_lines.specs.Roster.{end_of}

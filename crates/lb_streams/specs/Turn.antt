@@ -2,7 +2,7 @@
 use Rattle.std.specs.Prelude.{◌≡◌, ℕ, ◌+◌, ◌≤◌, ◌⊎◌, Bool, true, false, IsTrue, List, [], ◌∷◌, ◌++◌, Option, Some, None, length}
 use Rattle.lb_connections.specs.Table.{IsOverdue, at, clients}
 use Rattle.lb_connections.specs.declared.connection.Connection.{Connection}
-use Rattle.lb_core.specs.declared.event.Event.{Event}
+use Rattle.lb_step.specs.declared.event.Event.{Event}
 use Rattle.lb_lines.specs.Counts.{Fails, Grows, Rose}
 use Rattle.lb_lines.specs.Letter.{Letter}
 use Rattle.lb_lines.specs.Lines.{any_by_device, events_in, is_by_device, jobs_received, pairs}
@@ -65,6 +65,16 @@ pub record Turns (roster : List Listed) (events jobs : ℕ) (old new : World) (l
   pub few_jobs : length (jobs_received lines) ≤ jobs
   pub fronts : new.fronts ≡ old.fronts
   pub fared : Fared blind old.outside new.outside
+
+-- Steps with one event at most. This stamp, which is the last one that was said before them, is
+-- counted as said in them.
+abbrev pub TurnsFromStamp : Stamp → List Listed → World → World → List Line → Bool → Type 0
+TurnsFromStamp stamp roster old new lines blind = (said : List Stamp) → old.said ≡ said ++ stamp ∷ [] → Turns roster 1 0 (record old { said = said }) new lines blind
+
+-- One round more, with one event and one job at most: if any number of rounds leads to its beginning
+-- with the first lines, one more leads to its end with the second. What is outside failed, or did not.
+abbrev pub OneRoundMore : List Listed → World → World → List Line → List Line → Bool → Type 0
+OneRoundMore roster old new before after blind = (first : World) (n : ℕ) → Turns roster n n first old before false → Turns roster (n + 1) (n + 1) first new after blind
 
 -- connections whose time is over at this moment are closed, and no fault is noted
 pub record Sweeps (now : ℕ) (old new : Net) : Type 0 where

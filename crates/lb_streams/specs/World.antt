@@ -1,7 +1,7 @@
 -- What the loop of streams holds.
 use Rattle.std.specs.Prelude.{ℕ, List}
-use Rattle.lb_core.specs.declared.answer.Answer.{Answer}
-use Rattle.lb_core.specs.declared.event.Event.{Event}
+use Rattle.lb_step.specs.declared.answer.Answer.{Answer}
+use Rattle.lb_step.specs.declared.event.Event.{Event}
 use Rattle.lb_lines.specs.Stamps.{Stamp}
 use Rattle.lb_lines.specs.declared.traffic.Front.{Front}
 use Rattle.lb_outbox.specs.Outbox.{Receiving}

@@ -6,8 +6,7 @@ ghost use Rattle.lb_streams.specs.Links.{Net};
 ghost use Rattle.lb_streams.specs.Turn.{Sweeps};
 
 use crate::links::Links;
-use lb_connections::PLACES;
-use lb_lines::{Roster, Streams};
+use lb_lines::{MAX_CONNECTIONS, Roster, Streams};
 
 impl<S: Streams> Links<S> {
     /// A query of a connection was answered or sent on.
@@ -53,7 +52,7 @@ impl<S: Streams> Links<S> {
         if !self.table.is_behind(roster) {
             return;
         }
-        for place in 0..PLACES {
+        for place in 0..MAX_CONNECTIONS {
             self.follow_one(roster, now, place);
         }
     }
@@ -83,7 +82,7 @@ impl<S: Streams> Links<S> {
         if !self.table.is_due(now) {
             return;
         }
-        for place in 0..PLACES {
+        for place in 0..MAX_CONNECTIONS {
             self.sweep_one(now, place);
         }
     }

@@ -1,6 +1,7 @@
 //! What comes of sockets of streams: clients, octets, and ends.
 
 ghost use Rattle.std.specs.Prelude.{◌≡◌, ◌+◌, ◌≤◌};
+ghost use Rattle.lb_connections.specs.Table.{SameToPeer};
 ghost use Rattle.lb_streams.specs.Goes.{Goes, IsUndone, SameBut, Settles, TurnsOneAway, none, reads_of};
 
 use crate::links::Links;
@@ -126,7 +127,8 @@ impl<S: Streams> Links<S> {
 
 /// Has a connection that was passed over and may be read now be told once more.
 fn resume<S: Streams>(sockets: &mut S, connection: &mut Connection)
-    ensures rest { (connection.new.number ≡ connection.old.number) × (connection.new.peer ≡ connection.old.peer) × (connection.new.incoming ≡ connection.old.incoming) × (connection.new.outgoing ≡ connection.old.outgoing) × (connection.new.is_ended ≡ connection.old.is_ended) × (connection.new.owed ≡ connection.old.owed) }
+    ensures rest { SameToPeer connection.old connection.new }
+    ensures owed { connection.new.owed ≡ connection.old.owed }
     ensures same { S.told sockets.new ≡ S.told sockets.old }
 {
     if connection.is_passed_over && connection.may_be_read() {

@@ -1,12 +1,11 @@
 //! The rounds of a turn: a job, what a socket has, and an event.
 
-ghost use Rattle.std.specs.Prelude.{[], List, false, option_to_list, ◌++◌, ◌∷◌, ◌≡◌, ◌+◌, ◌≤◌};
+ghost use Rattle.std.specs.Prelude.{[], false, option_to_list, ◌∷◌, ◌≡◌, ◌+◌, ◌≤◌};
 ghost use Rattle.lb_connections.specs.Table.{IsFirst};
-ghost use Rattle.lb_lines.specs.Stamps.{Stamp};
 ghost use Rattle.lb_streams.specs.Goes.{IsUndone, reads_of};
 ghost use Rattle.lb_streams.specs.Lines.{event_by};
 ghost use Rattle.lb_streams.specs.Steps.{is_blind, lines_of};
-ghost use Rattle.lb_streams.specs.Turn.{Turns};
+ghost use Rattle.lb_streams.specs.Turn.{Turns, TurnsFromStamp};
 
 use crate::streams::StreamLoop;
 use lb_connections::First;
@@ -33,6 +32,16 @@ pub(crate) enum Step {
     Blind,
     /// No memory was to be had for a copy of the message, which stays.
     Wanting,
+}
+
+/// When and of whom a message is heard: the moment and its random word, the number of the
+/// connection, and who is at its other end.
+#[derive(Clone, Copy, Debug)]
+struct Heard {
+    moment: u64,
+    word: u16,
+    number: u64,
+    peer: Peer,
 }
 
 impl<S: Streams, T: Taker, O: Outside, P: Posts> StreamLoop<S, T, O, P> {
@@ -114,62 +123,58 @@ impl<S: Streams, T: Taker, O: Outside, P: Posts> StreamLoop<S, T, O, P> {
             }
             Err(_refused) => return Step::Wanting,
         };
-        self.told(roster, gate, now, word, number, first)
-    }
-
-    /// The same for this first message, where the gate lets its event pass.
-    fn told<G: Gate>(
-        &mut self,
-        roster: &Roster,
-        gate: &G,
-        now: u64,
-        word: u16,
-        number: u64,
-        first: First,
-    ) -> Step
-        requires first { IsFirst number first.peer first.message self.old.net.table }
-        requires copy { first.copy ≡ first.message }
-        ensures turns { (said : List Stamp) → self.old.said ≡ said ++ (now, word) ∷ [] → Turns roster.now.listed 1 0 (record self.old { said = said }) self.new (lines_of result) (is_blind result) }
-        ensures reads { reads_of self.new.net ≡ reads_of self.old.net }
-    {
         let First {
             peer,
             message,
             copy,
         } = first;
-        let event = event_made(now, word, number, peer, message);
+        let heard = Heard {
+            moment: now,
+            word,
+            number,
+            peer,
+        };
+        self.told(roster, gate, heard, message, copy)
+    }
+
+    /// The same for this first message and its copy, if the gate lets its event pass.
+    fn told<G: Gate>(
+        &mut self,
+        roster: &Roster,
+        gate: &G,
+        heard: Heard,
+        message: Message,
+        copy: Message,
+    ) -> Step
+        requires first { IsFirst heard.number heard.peer message self.old.net.table }
+        requires copy { copy ≡ message }
+        ensures turns { TurnsFromStamp (heard.moment, heard.word) roster.now.listed self.old self.new (lines_of result) (is_blind result) }
+        ensures reads { reads_of self.new.net ≡ reads_of self.old.net }
+    {
+        let event = event_made(heard, message);
         if !gate.pass(&event) {
             return Step::Held;
         }
-        Step::Told(self.answered(roster, now, word, number, peer, event, copy))
+        Step::Told(self.answered(roster, heard, event, copy))
     }
 
     /// Takes the message of an event off its connection, hands the event to the desk, and sends
     /// what comes of it. The connection is closed if it is at its end then. The line has an event
     /// of the message's copy.
-    fn answered(
-        &mut self,
-        roster: &Roster,
-        now: u64,
-        word: u16,
-        number: u64,
-        peer: Peer,
-        event: Event,
-        copy: Message,
-    ) -> Line
-        requires made { event ≡ event_by now word number peer copy }
-        requires first { IsFirst number peer copy self.old.net.table }
-        ensures turns { (said : List Stamp) → self.old.said ≡ said ++ (now, word) ∷ [] → Turns roster.now.listed 1 0 (record self.old { said = said }) self.new (result ∷ []) false }
-        ensures settled { IsUndone number self.new.net }
+    fn answered(&mut self, roster: &Roster, heard: Heard, event: Event, copy: Message) -> Line
+        requires made { event ≡ event_by heard.moment heard.word heard.number heard.peer copy }
+        requires first { IsFirst heard.number heard.peer copy self.old.net.table }
+        ensures turns { TurnsFromStamp (heard.moment, heard.word) roster.now.listed self.old self.new (result ∷ []) false }
+        ensures settled { IsUndone heard.number self.new.net }
         ensures reads { reads_of self.new.net ≡ reads_of self.old.net }
     {
-        self.links.drop_first(number);
+        self.links.drop_first(heard.number);
         let outcome = outcome_of(&mut self.taker, event);
-        self.links.owe(number, is_sent_on(&outcome));
-        let told = event_made(now, word, number, peer, copy);
+        self.links.owe(heard.number, is_sent_on(&outcome));
+        let told = event_made(heard, copy);
         let sending = self.send_outcome(roster, &told, &outcome);
-        self.links.settle(number);
-        Line::Event(Source::Connection(number), told, outcome, sending)
+        self.links.settle(heard.number);
+        Line::Event(Source::Connection(heard.number), told, outcome, sending)
     }
 }
 
@@ -179,9 +184,15 @@ fn is_sent_on(outcome: &Outcome) -> bool {
 }
 
 /// The event that a message of a connection makes.
-fn event_made(now: u64, word: u16, number: u64, peer: Peer, bytes: Octets) -> Event
-    ensures { result ≡ event_by now word number peer bytes }
+fn event_made(heard: Heard, bytes: Octets) -> Event
+    ensures { result ≡ event_by heard.moment heard.word heard.number heard.peer bytes }
 {
+    let Heard {
+        moment: now,
+        word,
+        number,
+        peer,
+    } = heard;
     match peer {
         Peer::Client(front, from) => Event::Query {
             now,

@@ -4,7 +4,7 @@ ghost use Rattle.std.specs.Prelude.{[], None, length, vec_capacity, vec_len, ◌
 
 use crate::links::Links;
 use lb_connections::Connections;
-use lb_lines::{Front, Line, Outside, Posts, Streams, Taker, WaitFailed};
+use lb_lines::{Answering, Front, Line, Outside, Posts, Streams, Taker, WaitFailed};
 use lb_outbox::Receiver;
 use std::alloc::Global;
 use std::marker::Model;
@@ -37,25 +37,39 @@ impl<S: Streams, T: Taker, O: Outside, P: Posts> Model for StreamLoop<S, T, O, P
 
     ghost coded = { Prim.hlevel (codes, contract.the_row.coded) };
 
-    ghost view = { λ l. record { net = l.links; jobs = l.receiver; fronts = l.fronts.items; handed = P.handed l.posts; answered = T.answered l.taker; pairs = T.pairs l.taker; said = O.said l.outside; outside = O.failures l.outside } };
+    ghost view = { λ l. record {
+      net = l.links;
+      jobs = l.receiver;
+      fronts = l.fronts.items;
+      handed = P.handed l.posts;
+      answered = T.answered l.taker;
+      pairs = T.pairs l.taker;
+      said = O.said l.outside;
+      outside = O.failures l.outside;
+    } };
 }
 
 impl<S: Streams, T: Taker, O: Outside, P: Posts> StreamLoop<S, T, O, P> {
-    /// A loop that had no turn, with sockets and the table of their connections. It takes no memory.
+    /// A loop that had no turn, with sockets and the table of their connections, its receiver, and
+    /// what it answers clients with. It takes no memory.
     pub fn made(
         alloc: Global,
         net: (S, Connections),
         receiver: Receiver,
-        fronts: Vec<Front>,
-        posts: P,
-        taker: T,
-        outside: O,
+        answering: Answering<P, T, O>,
     ) -> StreamLoop<S, T, O, P>
         ensures net { result.net ≡ record { told = S.told net.0; table = net.1; device = None } }
-        ensures parts { (result.jobs ≡ receiver) × (result.fronts ≡ fronts.items) × (result.handed ≡ P.handed posts) }
-        ensures others { (result.answered ≡ T.answered taker) × (result.pairs ≡ T.pairs taker) × (result.said ≡ O.said outside) × (result.outside ≡ O.failures outside) }
+        ensures parts { (result.jobs ≡ receiver) × (result.fronts ≡ answering.fronts.items) × (result.handed ≡ P.handed answering.posts) }
+        ensures taker { (result.answered ≡ T.answered answering.taker) × (result.pairs ≡ T.pairs answering.taker) }
+        ensures outside { (result.said ≡ O.said answering.outside) × (result.outside ≡ O.failures answering.outside) }
     {
         let (sockets, table) = net;
+        let Answering {
+            fronts,
+            posts,
+            taker,
+            outside,
+        } = answering;
         let links = Links {
             sockets,
             table,

@@ -1,22 +1,21 @@
 //! The turn of streams.
 
-ghost use Rattle.std.specs.Prelude.{[], IfNone, IfOk, IfSome, None, OnErr, false, option_to_list, vec_capacity, vec_len, ℕ, ◌++◌, ◌+◌, ◌∷◌, ◌≡◌, ◌≤◌};
+ghost use Rattle.std.specs.Prelude.{[], IfNone, IfOk, IfSome, None, OnErr, option_to_list, vec_capacity, vec_len, ℕ, ◌++◌, ◌+◌, ◌∷◌, ◌≡◌, ◌≤◌};
 ghost use Rattle.lb_lines.specs.Lines.{FirstFault};
 ghost use Rattle.lb_streams.specs.Ends.{first_device, is_blind, is_blinded};
 ghost use Rattle.lb_streams.specs.Goes.{Goes, Settles, none, reads_of};
 ghost use Rattle.lb_streams.specs.Steps as steps;
 ghost use Rattle.lb_streams.specs.Steps.{lines_of};
-ghost use Rattle.lb_streams.specs.Turn.{Stood, Sweeps, Turned, Turns};
-ghost use Rattle.lb_streams.specs.World.{World};
+ghost use Rattle.lb_streams.specs.Turn.{OneRoundMore, Stood, Sweeps, Turned, Turns};
 
 use crate::rounds::Step;
 use crate::streams::StreamLoop;
-use lb_lines::{DeviceFault, Gate, Line, Outside, Posts, Report, Roster, Streams, Taker, add_line};
+use lb_lines::{
+    DeviceFault, Gate, Line, MAX_EVENTS_OF_TURN, Outside, Posts, Report, Roster, Streams, Taker,
+    add_line,
+};
 use std::alloc::AllocError;
 use std::sync::Wait;
-
-/// The most events of a turn, and the most jobs, and the most reads and accepts.
-const MOST: usize = 64;
 
 /// One turn: connections whose time is over are closed; then at most 64 rounds each take a job
 /// of another loop, what one socket has, and one message of the connection whose turn it is,
@@ -44,7 +43,7 @@ pub fn stream_turn<R: Wait, S: Streams, T: Taker, O: Outside, P: Posts, G: Gate>
     ensures refused { OnErr result (streams.new ≡ streams.old) }
 {
     let mut lines = streams.blank_lines();
-    lines.reserve(2 * MOST)?;
+    lines.reserve(2 * MAX_EVENTS_OF_TURN)?;
     Ok(streams.whole_turn(rt, roster, gate, lines))
 }
 
@@ -131,30 +130,30 @@ impl<S: Streams, T: Taker, O: Outside, P: Posts> StreamLoop<S, T, O, P> {
         ensures reads { reads_of self.new.net ≤ reads_of self.old.net + 64 }
     {
         let mut coming = Coming {
+            began: now,
             jobs: true,
             sockets: true,
         };
-        for _ in 0..MOST {
-            if let Some(end) = self.one_round(rt, roster, gate, now, &mut coming, lines) {
+        for _ in 0..MAX_EVENTS_OF_TURN {
+            if let Some(end) = self.one_round(rt, roster, gate, &mut coming, lines) {
                 return end;
             }
         }
         End::Done
     }
 
-    /// A round: a job, what one socket has, and an event. Why the rounds end, where they do. Once there was no job, or no socket
-    /// had anything, none is asked for any more in this turn.
+    /// A round: a job, what one socket has, and an event. Why the rounds end, if they do. Once there
+    /// was no job, or no socket had anything, none is asked for any more in this turn.
     fn one_round<R: Wait, G: Gate>(
         &mut self,
         rt: &R,
         roster: &Roster,
         gate: &G,
-        now: u64,
         coming: &mut Coming,
         lines: &mut Vec<Line>,
     ) -> Option<End>
         requires room { vec_len lines.old + 2 ≤ vec_capacity lines.old }
-        ensures turned { (first : World) (n : ℕ) → Turns roster.now.listed n n first self.old lines.old.items false → Turns roster.now.listed (n + 1) (n + 1) first self.new lines.new.items (is_blinded result) }
+        ensures turned { OneRoundMore roster.now.listed self.old self.new lines.old.items lines.new.items (is_blinded result) }
         ensures len { vec_len lines.new ≤ vec_len lines.old + 2 }
         ensures capacity { vec_capacity lines.new ≡ vec_capacity lines.old }
         ensures reads { reads_of self.new.net ≤ reads_of self.old.net + 1 }
@@ -162,7 +161,7 @@ impl<S: Streams, T: Taker, O: Outside, P: Posts> StreamLoop<S, T, O, P> {
         let job = self.next_job(rt, roster, coming.jobs);
         coming.jobs = job.is_some();
         add_line(lines, job);
-        coming.sockets = self.next_arrival(roster, now, coming.sockets);
+        coming.sockets = self.next_arrival(roster, coming.began, coming.sockets);
         let step = self.one_event(roster, gate);
         let end = end_after(&step, coming.jobs || coming.sockets);
         add_line(lines, line_of(step));
@@ -173,6 +172,8 @@ impl<S: Streams, T: Taker, O: Outside, P: Posts> StreamLoop<S, T, O, P> {
 /// What may still come in a turn.
 #[derive(Clone, Copy, Debug)]
 struct Coming {
+    /// The moment at which the turn began, in milliseconds.
+    began: u64,
     /// A job of another loop.
     jobs: bool,
     /// Something that a socket has.

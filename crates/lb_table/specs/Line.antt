@@ -4,9 +4,10 @@ use Rattle.std.specs.List.{insert}
 use Rattle.std.specs.Option.{option_or}
 use Rattle.std.specs.Ordering.{nat_cmp}
 use Rattle.std.specs.BTreeMap.{BTreeMap, get}
+use Rattle.lb_ring.specs.Ring.{Distinct, Lacks}
 use Rattle.lb_table.specs.declared.entry.Waiting.{Waiting}
 use Rattle.lb_table.specs.Entry.{deadline_of}
-use Rattle.lb_table.specs.Held.{queries, slot_of}
+use Rattle.lb_table.specs.Held.{behind, queries, slot_of, slots}
 use Rattle.lb_table.specs.Table.{ByDeadline, place_by_deadline}
 
 -- the line with a query more, behind those of its deadline
@@ -31,3 +32,8 @@ is_the slot (Some k) = k == slot
 pub record IsLine (lasts : BTreeMap ℕ ℕ) (line : List (ℕ × Waiting)) : Type 0 where
   pub index : (deadline : ℕ) → get nat_cmp lasts deadline ≡ option_map slot_of (last_of (is_of deadline) line)
   pub order : ByDeadline (queries line)
+
+-- the slot after which a query of this deadline goes, in each line whose last slots these are, so
+-- that it comes after those of its deadline; 0, which is the slot of no query, if it goes first
+abbrev pub IsSlotAhead : BTreeMap ℕ ℕ → ℕ → ℕ → Type 0
+IsSlotAhead lasts deadline ahead = (line : List (ℕ × Waiting)) → IsLine lasts line → Distinct (slots line) → Lacks 0 (slots line) → (slot : ℕ) (w : Waiting) → deadline_of w.entry ≡ deadline → behind ahead (slot, w) line ≡ stood line slot w

@@ -5,8 +5,7 @@ ghost use Rattle.std.specs.List.{count_by, find};
 ghost use Rattle.lb_table.specs.declared.entry.Waiting.{Waiting};
 ghost use Rattle.lb_table.specs.Counts.{count_of};
 ghost use Rattle.lb_table.specs.Held.{queries, slot_of, without_first};
-ghost use Rattle.lb_table.specs.Index.{Apart, Tells, stands_at};
-ghost use Rattle.lb_table.specs.Line.{stood};
+ghost use Rattle.lb_table.specs.Index.{Apart, Tells, TellsOfOneMore, stands_at};
 ghost use Rattle.lb_table.specs.Table.{FirstFree, FirstPlace, is_for, lane_after};
 
 use crate::counts::Counts;
@@ -90,7 +89,7 @@ impl Index {
     /// A query comes to a place at which none waits. The one error is want of memory.
     pub(crate) fn add(&mut self, place: &Place, slot: usize) -> Result<(), AllocError>
         requires few { count_of self.old.counts place.now.server.0 + 1 < 2 ^ 64 }
-        ensures added { OnOk result ((line : List (ℕ × Waiting)) → (w : Waiting) → Tells self.old line → w.place ≡ place.now → find (stands_at place.now) line ≡ None → Tells self.new (stood line slot w)) }
+        ensures added { OnOk result (TellsOfOneMore self.old place.now slot self.new) }
         ensures kept { OnErr result ((line : List (ℕ × Waiting)) → Tells self.old line → Tells self.new line) }
     {
         self.counts.raise(place.server)?;

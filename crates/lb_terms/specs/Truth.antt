@@ -6,6 +6,7 @@ use Rattle.lb_limits.specs.Window.{Limits, matches}
 use Rattle.lb_terms.specs.Sets.{in_suffixes, in_group}
 use Rattle.lb_terms.specs.Selector.{Selector, All, Suffix, Masks, Qtype, And, Or, Not, MaxQps, Selectors, end, more}
 use Rattle.lb_terms.specs.declared.tested.Tested.{Tested}
+use Rattle.lb_terms.specs.declared.truth.Subject.{Subject}
 
 -- what a selector is asked of: a query, the address that it came from, and of each limiter whether it matches
 pub record Asked : Type 0 where
@@ -15,6 +16,10 @@ pub record Asked : Type 0 where
 
 abbrev pub asked_of : QueryView → Addr → List Limits → ℕ → Asked
 asked_of view addr limits now = record { view = view; addr = addr; matched = map (λ l. matches l addr now) limits }
+
+-- what is asked of a selector that is tested on this
+abbrev pub asked_on : Subject → Asked
+asked_on on = asked_of on.view.now on.addr.now on.limits.now on.moment
 
 -- whether a limiter matches
 abbrev pub matched_at : Asked → ℕ → Bool

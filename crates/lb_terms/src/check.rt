@@ -7,10 +7,10 @@ ghost use Rattle.lb_terms.specs.Check.{depth_of, has_members, has_rates, has_sma
 use crate::term::Term;
 
 /// The most names or masks of a set.
-const MAX_SET: usize = 1024;
+pub const MAX_SET: usize = 1024;
 
 /// The most queries a second that a rate may have.
-const MAX_QPS: u16 = 1000;
+pub const MAX_QPS: u16 = 1000;
 
 /// The bits of an IPv4 address.
 const V4_BITS: u8 = 32;

@@ -13,10 +13,11 @@ mod term;
 mod tested;
 mod truth;
 
+pub use check::{MAX_QPS, MAX_SET};
 pub use fault::TermFault;
 pub use laws::{mask_test_decides, suffix_test_decides, terms_cross_threads};
 pub use limiters::{limiter_count, new_limiters};
 pub use names::Names;
-pub use term::{CheckedTerm, Term};
+pub use term::{CheckedTerm, MAX_DEPTH, MAX_NODES, Term};
 pub use tested::{MAX_LIMITERS, Passes, Tested};
 pub use truth::holds;

@@ -16,10 +16,10 @@ use std::alloc::{AllocError, Global};
 use std::marker::Model;
 
 /// The greatest depth of a term.
-const MAX_DEPTH: usize = 16;
+pub const MAX_DEPTH: usize = 16;
 
 /// The most terms in a term, itself counted.
-const MAX_NODES: usize = 64;
+pub const MAX_NODES: usize = 64;
 
 /// A rule selector: what a rule asks of a query.
 #[derive(Debug, Drop)]

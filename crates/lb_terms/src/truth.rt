@@ -4,7 +4,7 @@ ghost use Rattle.std.specs.Prelude.{◌≡◌, ◌+◌, ◌++◌, ◌≤◌, len
 ghost use Rattle.std.specs.List.{All};
 ghost use Rattle.lb_terms.specs.Selector.{selector_of, selectors_of};
 ghost use Rattle.lb_terms.specs.Sets.{in_group};
-ghost use Rattle.lb_terms.specs.Truth.{asked_of, limiters_in, limiters_of, passes_all, passes_any, passes_at, tested_of, truth_all, truth_any, truth_at};
+ghost use Rattle.lb_terms.specs.Truth.{asked_of, asked_on, limiters_in, limiters_of, passes_all, passes_any, passes_at, tested_of, truth_all, truth_any, truth_at};
 
 use crate::limiters::count_all;
 use crate::term::{CheckedTerm, Term};
@@ -13,6 +13,16 @@ use lb_limits::Limiter;
 use lb_masks::Group;
 use lb_wire::{Addr, QueryView};
 
+/// What a term is tested on: a query, the address that it came from, one limiter for each rate of
+/// the term, from the left, and the moment in milliseconds.
+#[derive(Debug, Drop)]
+pub(crate) struct Subject<'a> {
+    view: &'a QueryView,
+    addr: &'a Addr,
+    limits: &'a [Limiter],
+    moment: u64,
+}
+
 /// Whether one of the masks covers the address.
 fn is_in_group(group: &Group, addr: &Addr) -> bool
     ensures { result ≡ in_group group.now addr.now }
@@ -20,39 +30,31 @@ fn is_in_group(group: &Group, addr: &Addr) -> bool
     group.covers(addr)
 }
 
-/// Whether the term holds. `next` is the number of its first limiter and moves on to the one behind its last; the numbers
-/// of those that are tested and do not match go behind the passes.
+/// Whether the term holds. `next` is the number of its first limiter, and moves on to the one after
+/// its last. The numbers of those that are tested and do not match are added to the passes.
 #[cycle(walk)]
-fn test(
-    term: &Term,
-    view: &QueryView,
-    addr: &Addr,
-    limits: &[Limiter],
-    now: u64,
-    next: &mut usize,
-    passes: &mut Passes,
-) -> bool
-    requires limiters { next.old + limiters_of (selector_of term.now) ≤ length limits.now }
-    requires few { length limits.now ≤ 16 }
-    requires moments { All (λ limiter. limiter.moment ≤ now) limits.now }
+fn test(term: &Term, subject: &Subject<'_>, next: &mut usize, passes: &mut Passes) -> bool
+    requires limiters { next.old + limiters_of (selector_of term.now) ≤ length subject.now.limits.now }
+    requires few { length subject.now.limits.now ≤ 16 }
+    requires moments { All (λ limiter. limiter.moment ≤ subject.now.moment) subject.now.limits.now }
     requires room { length passes.old ≤ next.old }
-    ensures truth { result ≡ truth_at (selector_of term.now) (asked_of view.now addr.now limits.now now) next.old }
-    ensures passes { passes.new ≡ passes.old ++ passes_at (selector_of term.now) (asked_of view.now addr.now limits.now now) next.old }
+    ensures truth { result ≡ truth_at (selector_of term.now) (asked_on subject.now) next.old }
+    ensures passes { passes.new ≡ passes.old ++ passes_at (selector_of term.now) (asked_on subject.now) next.old }
     ensures next { next.new ≡ next.old + limiters_of (selector_of term.now) }
     ensures room { length passes.new ≤ next.new }
 {
     match term {
         Term::All => true,
-        Term::Suffix(names) => names.covers(&view.name),
-        Term::Masks(group) => is_in_group(group, addr),
-        Term::Qtype(qtype) => *qtype == view.qtype,
-        Term::And(terms) => test_all(terms.as_slice(), view, addr, limits, now, next, passes),
-        Term::Or(terms) => test_any(terms.as_slice(), view, addr, limits, now, next, passes),
-        Term::Not(term) => !test(term, view, addr, limits, now, next, passes),
+        Term::Suffix(names) => names.covers(&subject.view.name),
+        Term::Masks(group) => is_in_group(group, subject.addr),
+        Term::Qtype(qtype) => *qtype == subject.view.qtype,
+        Term::And(terms) => test_all(terms.as_slice(), subject, next, passes),
+        Term::Or(terms) => test_any(terms.as_slice(), subject, next, passes),
+        Term::Not(term) => !test(term, subject, next, passes),
         Term::MaxQps(_, _, _) => {
             let at = *next;
             *next = at + 1;
-            let matches = limits[at].would_match(addr, now);
+            let matches = subject.limits[at].would_match(subject.addr, subject.moment);
             if !matches {
                 passes.push(at as u8);
             }
@@ -63,28 +65,20 @@ fn test(
 
 /// Whether all of the terms hold; none is tested after the first that does not.
 #[cycle(walk)]
-fn test_all(
-    terms: &[Term],
-    view: &QueryView,
-    addr: &Addr,
-    limits: &[Limiter],
-    now: u64,
-    next: &mut usize,
-    passes: &mut Passes,
-) -> bool
-    requires limiters { next.old + limiters_in (selectors_of terms.now) ≤ length limits.now }
-    requires few { length limits.now ≤ 16 }
-    requires moments { All (λ limiter. limiter.moment ≤ now) limits.now }
+fn test_all(terms: &[Term], subject: &Subject<'_>, next: &mut usize, passes: &mut Passes) -> bool
+    requires limiters { next.old + limiters_in (selectors_of terms.now) ≤ length subject.now.limits.now }
+    requires few { length subject.now.limits.now ≤ 16 }
+    requires moments { All (λ limiter. limiter.moment ≤ subject.now.moment) subject.now.limits.now }
     requires room { length passes.old ≤ next.old }
-    ensures truth { result ≡ truth_all (selectors_of terms.now) (asked_of view.now addr.now limits.now now) next.old }
-    ensures passes { passes.new ≡ passes.old ++ passes_all (selectors_of terms.now) (asked_of view.now addr.now limits.now now) next.old }
+    ensures truth { result ≡ truth_all (selectors_of terms.now) (asked_on subject.now) next.old }
+    ensures passes { passes.new ≡ passes.old ++ passes_all (selectors_of terms.now) (asked_on subject.now) next.old }
     ensures next { next.new ≡ next.old + limiters_in (selectors_of terms.now) }
     ensures room { length passes.new ≤ next.new }
 {
     for (at, term) in terms.iter().enumerate() {
-        if !test(term, view, addr, limits, now, next, passes) {
+        if !test(term, subject, next, passes) {
             let (_, rest) = terms.split_at(at + 1);
-            skip(rest, limits.len(), next);
+            skip(rest, subject.limits.len(), next);
             return false;
         }
     }
@@ -93,28 +87,20 @@ fn test_all(
 
 /// Whether one of the terms holds; none is tested after the first that does.
 #[cycle(walk)]
-fn test_any(
-    terms: &[Term],
-    view: &QueryView,
-    addr: &Addr,
-    limits: &[Limiter],
-    now: u64,
-    next: &mut usize,
-    passes: &mut Passes,
-) -> bool
-    requires limiters { next.old + limiters_in (selectors_of terms.now) ≤ length limits.now }
-    requires few { length limits.now ≤ 16 }
-    requires moments { All (λ limiter. limiter.moment ≤ now) limits.now }
+fn test_any(terms: &[Term], subject: &Subject<'_>, next: &mut usize, passes: &mut Passes) -> bool
+    requires limiters { next.old + limiters_in (selectors_of terms.now) ≤ length subject.now.limits.now }
+    requires few { length subject.now.limits.now ≤ 16 }
+    requires moments { All (λ limiter. limiter.moment ≤ subject.now.moment) subject.now.limits.now }
     requires room { length passes.old ≤ next.old }
-    ensures truth { result ≡ truth_any (selectors_of terms.now) (asked_of view.now addr.now limits.now now) next.old }
-    ensures passes { passes.new ≡ passes.old ++ passes_any (selectors_of terms.now) (asked_of view.now addr.now limits.now now) next.old }
+    ensures truth { result ≡ truth_any (selectors_of terms.now) (asked_on subject.now) next.old }
+    ensures passes { passes.new ≡ passes.old ++ passes_any (selectors_of terms.now) (asked_on subject.now) next.old }
     ensures next { next.new ≡ next.old + limiters_in (selectors_of terms.now) }
     ensures room { length passes.new ≤ next.new }
 {
     for (at, term) in terms.iter().enumerate() {
-        if test(term, view, addr, limits, now, next, passes) {
+        if test(term, subject, next, passes) {
             let (_, rest) = terms.split_at(at + 1);
-            skip(rest, limits.len(), next);
+            skip(rest, subject.limits.len(), next);
             return true;
         }
     }
@@ -153,14 +139,12 @@ pub fn holds(
         passes: Passes::new(),
     };
     let mut next = 0;
-    tested.truth = test(
-        term.as_term(),
+    let subject = Subject {
         view,
         addr,
         limits,
-        now,
-        &mut next,
-        &mut tested.passes,
-    );
+        moment: now,
+    };
+    tested.truth = test(term.as_term(), &subject, &mut next, &mut tested.passes);
     tested
 }

@@ -6,7 +6,7 @@ use Rattle.std.proofs.lemmas.Bool.{cases_Bool}
 use Rattle.std.proofs.lemmas.Grind.{common_steps}
 use Rattle.lb_servers.specs.declared.pool.PoolName.{PoolName}
 use Rattle.lb_servers.specs.declared.spec.ServerSpec.{ServerSpec}
-use Rattle.lb_core.specs.declared.check.CheckSpec.{CheckSpec}
+use Rattle.lb_step.specs.declared.check.CheckSpec.{CheckSpec}
 use Rattle.lb_command.specs.Line.{Left, begins_word, left_of}
 use Rattle.lb_command.specs.Grammar.{Choice, all_chosen, choice, chosen, options, pool}
 use Rattle.lb_command.specs.Commands.{Stated, check_of, nothing_stated, spec_of}

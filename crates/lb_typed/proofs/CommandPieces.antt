@@ -9,9 +9,9 @@ use Rattle.lb_servers.specs.declared.pool.PoolName.{PoolName}
 use Rattle.lb_servers.specs.declared.pool.Policy.{Policy}
 use Rattle.lb_servers.specs.declared.server.Mode.{Mode}
 use Rattle.lb_servers.specs.declared.spec.ServerSpec.{ServerSpec}
-use Rattle.lb_core.specs.declared.check.CheckSpec.{CheckSpec}
-use Rattle.lb_core.specs.declared.command.Command.TheVariants as commands
-use Rattle.lb_core.specs.declared.command.StatedRule.{StatedRule}
+use Rattle.lb_step.specs.declared.check.CheckSpec.{CheckSpec}
+use Rattle.lb_step.specs.declared.command.Command.TheVariants as commands
+use Rattle.lb_step.specs.declared.command.StatedRule.{StatedRule}
 use Rattle.lb_wire.specs.declared.record_type.RecordType.{RecordType}
 use Rattle.lb_cache.specs.Skips.{cookie, each_once}
 use Rattle.lb_cache.specs.declared.cached.Covered.{Covered}

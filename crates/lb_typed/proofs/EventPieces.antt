@@ -5,8 +5,8 @@ use Rattle.lb_wire.specs.declared.addr.Origin.{Origin}
 use Rattle.lb_wire.specs.declared.ids.ServerId.{ServerId}
 use Rattle.lb_wire.specs.declared.transport.Kind.{Kind}
 use Rattle.lb_wire.specs.declared.transport.Lane.{Lane}
-use Rattle.lb_core.specs.declared.command.Command.{Command}
-use Rattle.lb_core.specs.declared.event.Event.TheVariants as events
+use Rattle.lb_step.specs.declared.command.Command.{Command}
+use Rattle.lb_step.specs.declared.event.Event.TheVariants as events
 use Rattle.lb_command.specs.Events.{told_origin}
 use Rattle.lb_command.specs.Grammar.{Part, ◌▷◌, command, event, number, says, word}
 use Rattle.lb_command.specs.Values.{addr_of, hex_of, kind_of, lane_of, number_of, outcome_of, word_number}

@@ -3,7 +3,7 @@ use Rattle.std.specs.Prelude.{if◌then◌else◌, ℕ, ◌==◌, Bool, List, []
 use Rattle.std.specs.declared.num.NonZeroU8.{NonZeroU8}
 use Rattle.lb_servers.specs.declared.pool.PoolName.{PoolName}
 use Rattle.lb_servers.specs.declared.spec.ServerSpec.{ServerSpec}
-use Rattle.lb_core.specs.declared.check.CheckSpec.{CheckSpec}
+use Rattle.lb_step.specs.declared.check.CheckSpec.{CheckSpec}
 use Rattle.lb_command.specs.Grammar.{Choice, fall, lanes, order, pool, resolve, rise}
 
 -- an option, unless it says what holds anyway

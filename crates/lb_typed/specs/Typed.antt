@@ -10,12 +10,12 @@ use Rattle.lb_terms.specs.Selector as sel
 use Rattle.lb_cache.specs.Skips.{each_once}
 use Rattle.lb_cache.specs.declared.cached.Covered.{Covered}
 use Rattle.lb_cache.specs.declared.cached.Covered.TheVariants as covereds
-use Rattle.lb_core.specs.declared.command.Command.{Command}
-use Rattle.lb_core.specs.declared.command.Command.TheVariants.{CacheAttach, Expunge, RuleAdd, ServerAdd}
-use Rattle.lb_core.specs.declared.command.StatedAction.{StatedAction}
-use Rattle.lb_core.specs.declared.command.StatedAction.TheVariants as actions
-use Rattle.lb_core.specs.declared.event.Event.{Event}
-use Rattle.lb_core.specs.declared.event.Event.TheVariants.{Edit, Query, Reply}
+use Rattle.lb_step.specs.declared.command.Command.{Command}
+use Rattle.lb_step.specs.declared.command.Command.TheVariants.{CacheAttach, Expunge, RuleAdd, ServerAdd}
+use Rattle.lb_step.specs.declared.command.StatedAction.{StatedAction}
+use Rattle.lb_step.specs.declared.command.StatedAction.TheVariants as actions
+use Rattle.lb_step.specs.declared.event.Event.{Event}
+use Rattle.lb_step.specs.declared.event.Event.TheVariants.{Edit, Query, Reply}
 use Rattle.lb_command.specs.Events.{told_origin}
 use Rattle.lb_typed.specs.Words.{IsTypedCode}
 

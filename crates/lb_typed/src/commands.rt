@@ -2,7 +2,7 @@
 
 ghost use Rattle.std.specs.Prelude.{◌≡◌, ◌<◌, ◌≤◌, ◌^◌, IfOk, length, string_bytes};
 ghost use Rattle.lb_cache.specs.declared.cached.Covered.TheVariants as covereds;
-ghost use Rattle.lb_core.specs.declared.command.Command.TheVariants as commands;
+ghost use Rattle.lb_step.specs.declared.command.Command.TheVariants as commands;
 ghost use Rattle.lb_command.specs.Grammar.{◌▷◌, Allowed, AllowedAction, IsCommand, action, comma_list, command, covered, says, skips, term};
 ghost use Rattle.lb_cache.specs.Skips.{each_once};
 ghost use Rattle.lb_command.specs.Reading.{max_line};
@@ -23,11 +23,9 @@ use lb_cache::{Covered, MaxEntries, MaxTtl, Shards, Skips};
 use lb_core::{CheckSpec, Command, StatedAction, StatedRule, Timeout};
 use lb_name::Name;
 use lb_servers::{Ident, Mode, Policy, PoolName, ServerSpec};
+use lb_terms::MAX_SET;
 use lb_wire::{RecordType, RuleId};
 use std::alloc::{AllocError, Global};
-
-/// The most members of a set.
-const MAX_SET: usize = 1024;
 
 /// A rule, as it comes after `rule add`.
 fn rule_text(alloc: Global, rule: &StatedRule) -> Result<String, AllocError>

@@ -1,7 +1,7 @@
 //! Events, as lines of a replay.
 
 ghost use Rattle.std.specs.Prelude.{◌≡◌, ◌<◌, ◌≤◌, ◌^◌, IfOk, length, string_bytes};
-ghost use Rattle.lb_core.specs.declared.event.Event.TheVariants as events;
+ghost use Rattle.lb_step.specs.declared.event.Event.TheVariants as events;
 ghost use Rattle.lb_command.specs.Answers.{hex_text};
 ghost use Rattle.lb_command.specs.Events.{told_origin};
 ghost use Rattle.lb_command.specs.Grammar.{AllowedEvent, IsEvent, event};

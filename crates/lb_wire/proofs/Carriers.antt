@@ -7,9 +7,8 @@ use Rattle.std.specs.List.{flat_map, list_any, AllByRecursion}
 use Rattle.lb_name.specs.Laws.{LabelsGoOn}
 use Rattle.lb_wire.specs.Record.{Record, record_octets, IsRecord, Holds}
 use Rattle.lb_wire.specs.Opt.{is_opt}
-use Rattle.lb_wire.specs.Options.{EdnsOption, option_octets, AreOptions, options_of, is_listed, holds_listed, is_carrier, carries_of}
+use Rattle.lb_wire.specs.Options.{EdnsOption, option_octets, AreOptions, options_of, is_listed, holds_listed, is_carrier, carries_of, left_octets}
 use Rattle.lb_wire.specs.Message.{Message}
-use Rattle.lb_wire.proofs.OptionLists.{left_octets}
 use Rattle.lb_wire.proofs.OptStands.{First, first_of, some_left, none_left, no_first_of}
 use Rattle.lb_wire.proofs.Shed.{fewer_left}
 

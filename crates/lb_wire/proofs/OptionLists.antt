@@ -7,7 +7,7 @@ use Rattle.std.proofs.lemmas.Grind.{flat_map-append}
 use Rattle.std.proofs.lemmas.List.Elements.{filter-append}
 use Rattle.std.specs.List.{flat_map, list_any, AllByRecursion}
 use Rattle.lb_wire.specs.BigEndian.{two_octets, number_at}
-use Rattle.lb_wire.specs.Options.{EdnsOption, option_octets, IsOption, AreOptions, options_within, options_of, is_listed, is_unlisted}
+use Rattle.lb_wire.specs.Options.{EdnsOption, option_octets, IsOption, AreOptions, options_within, options_of, is_listed, is_unlisted, left_octets}
 
 -- the options with one in front
 abbrev pub with_front : EdnsOption → Option (List EdnsOption) → Option (List EdnsOption)
@@ -145,10 +145,6 @@ pub option_end : (octets : List ℕ) (at end : ℕ) (o : EdnsOption) → drop at
 option_end octets at end o here within ends =
     let size : length (drop at octets) ≡ length (option_octets o) + length (drop end octets) = ap (λ (xs : List ℕ). length xs) here ∙ length-append (option_octets o) (drop end octets) in
     omega (arith, size, length-drop at octets, length-drop end octets)
-
--- what is left of options
-abbrev pub left_octets : List ℕ → List EdnsOption → List ℕ
-left_octets skips options = flat_map option_octets (filter (is_unlisted skips) options)
 
 -- what is left of one option, by whether it is listed
 left_one : (skips : List ℕ) (o : EdnsOption) (b : Bool) → is_listed skips o ≡ b → left_octets skips (o ∷ []) ≡ (if b then [] else option_octets o)

@@ -7,14 +7,13 @@ use Rattle.std.specs.List.{flat_map}
 use Rattle.lb_wire.specs.Record.{owner_octets, fixed_octets, Record, record_octets}
 use Rattle.lb_wire.specs.Opt.{is_opt, opts, first_opt}
 use Rattle.lb_wire.specs.Message.{Message, Lays, OneMessage, header_octets, question_octets, message_octets}
-use Rattle.lb_wire.specs.Options.{EdnsOption, option_octets, AreOptions, options_of, is_listed, is_unlisted, left_of, without_listed, shed_record, shed, DataStands, HoldsOpt, data_at, put_left}
+use Rattle.lb_wire.specs.Options.{EdnsOption, option_octets, AreOptions, options_of, is_listed, is_unlisted, left_of, without_listed, shed_record, shed, DataStands, HoldsOpt, data_at, put_left, left_octets}
 use Rattle.std.proofs.lemmas.Bool.Decides.{nat_tests}
 use Rattle.lb_wire.specs.declared.opt.Opt.{Opt}
 use Rattle.std.specs.Prelude.{◌<◌, IfOk, IsSome}
 use Rattle.lb_wire.specs.BigEndian.{two_octets}
 use Rattle.lb_wire.proofs.Lists.{put_at}
 use Rattle.lb_wire.proofs.Made.{cut_there}
-use Rattle.lb_wire.proofs.OptionLists.{left_octets}
 use Rattle.lb_wire.proofs.OptionLaws.{AreOctets, octets_left, octets_right, read_are}
 
 -- a record that is no OPT stays; an OPT is left with what is left of its data

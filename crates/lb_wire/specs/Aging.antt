@@ -1,7 +1,7 @@
 -- Messages some seconds later.
-use Rattle.std.specs.Prelude.{◌≡◌, ℕ, ◌-◌, ◌≤◌, false, None, Some, List, ◌++◌, take, map, if◌then◌else◌}
+use Rattle.std.specs.Prelude.{◌≡◌, ℕ, ◌+◌, ◌-◌, ◌≤◌, false, None, Some, List, ◌++◌, drop, length, take, map, if◌then◌else◌}
 use Rattle.std.specs.List.{flat_map, AllByRecursion}
-use Rattle.lb_wire.specs.Record.{Record, record_octets}
+use Rattle.lb_wire.specs.Record.{IsRecord, Record, record_octets}
 use Rattle.lb_wire.specs.Opt.{is_opt, ttl_value, least_ttl}
 use Rattle.lb_wire.specs.Message.{Message}
 
@@ -12,6 +12,11 @@ Outlives secs r = is_opt r ≡ false → secs ≤ ttl_value r.ttl
 -- the record so many seconds later: its TTL is lowered, unless it is an OPT
 abbrev pub aged_record : ℕ → Record → Record
 aged_record secs r = record r { ttl = if is_opt r then r.ttl else r.ttl - secs }
+
+-- the record that stood at a place is so many seconds older, all before and after it is as it was,
+-- and it ends at the other place
+abbrev pub IsAgedAt : List ℕ → ℕ → ℕ → List ℕ → ℕ → Type 0
+IsAgedAt old at secs new end = (r : Record) (rest : List ℕ) → IsRecord r → drop at old ≡ record_octets r ++ rest → (new ≡ take at old ++ (record_octets (aged_record secs r) ++ rest)) × (end ≡ at + length (record_octets r))
 
 -- every record outlives the least TTL of them all
 abbrev pub LeastIsOutlived : Type 0

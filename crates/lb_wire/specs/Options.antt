@@ -56,11 +56,20 @@ is_listed skips o = list_any (λ code. code == o.code) skips
 abbrev pub is_unlisted : List ℕ → EdnsOption → Bool
 is_unlisted skips o = if is_listed skips o then false else true
 
+-- the octets of the options whose code is not listed
+abbrev pub left_octets : List ℕ → List EdnsOption → List ℕ
+left_octets skips options = flat_map option_octets (filter (is_unlisted skips) options)
+
+-- the octets are a list of options, and so many are left of them without the options of listed
+-- codes
+abbrev pub IsLeftLen : List ℕ → List ℕ → ℕ → Type 0
+IsLeftLen skips octets len = (options : List EdnsOption) × AreOptions octets options × (options_of octets ≡ Some options) × (len ≡ length (left_octets skips options))
+
 -- what is left of an OPT's data that reads so: the options whose code is not listed; all of it, if it
 -- is no list of options
 abbrev pub left_of : List ℕ → List ℕ → Option (List EdnsOption) → List ℕ
 left_of skips rdata None = rdata
-left_of skips rdata (Some options) = flat_map option_octets (filter (is_unlisted skips) options)
+left_of skips rdata (Some options) = left_octets skips options
 
 abbrev pub without_listed : List ℕ → List ℕ → List ℕ
 without_listed skips rdata = left_of skips rdata (options_of rdata)

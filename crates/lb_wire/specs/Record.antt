@@ -1,8 +1,9 @@
 -- Resource records (RFC 1035 sections 4.1.3 and 4.1.4).
-use Rattle.std.specs.Prelude.{◌≡◌, ℕ, ◌+◌, ◌/◌, ◌%◌, ◌^◌, ◌<◌, ◌≤◌, List, [], ◌∷◌, ◌++◌, length, Option, None, Some}
+use Rattle.std.specs.Prelude.{◌≡◌, ℕ, ◌+◌, ◌/◌, ◌%◌, ◌^◌, ◌<◌, ◌≤◌, List, [], ◌∷◌, ◌++◌, length, Option, None, Some, drop}
 use Rattle.std.specs.List.{flat_map, AllByRecursion}
 use Rattle.lb_name.specs.Name.{IsLabel, labels_octets}
 use Rattle.lb_wire.specs.BigEndian.{two_octets, four_octets, number_at}
+use Rattle.lb_wire.specs.declared.record.Spot.{Spot}
 
 -- the owner of a record: labels, then the root or a pointer (section 4.1.4). The RFC has the pointer followed to the rest
 -- of the name: here it is never followed, so that it may point anywhere, and the owner ends with it
@@ -31,6 +32,10 @@ pub record IsOwner (owner : Owner) : Type 0 where
   pub pointer : IsPointer owner.pointer
   pub fits : length (owner_octets owner) ≤ 255
 
+-- the octets begin with an owner, which takes so many of them
+abbrev pub BeginsWithOwner : List ℕ → ℕ → Type 0
+BeginsWithOwner octets len = (owner : Owner) × IsOwner owner × (len ≤ length octets) × (octets ≡ owner_octets owner ++ drop len octets) × (len ≡ length (owner_octets owner))
+
 -- a record (section 4.1.3)
 pub record Record : Type 0 where
   pub owner : Owner
@@ -54,6 +59,11 @@ pub record IsRecord (r : Record) : Type 0 where
   pub class : r.class < 2 ^ 16
   pub ttl : r.ttl < 2 ^ 32
   pub rdata : length r.rdata < 2 ^ 16
+
+-- a record stands at a place of the octets, and this is read of it: its type, its TTL, where its
+-- TTL stands, and where it ends
+abbrev pub IsReadAt : List ℕ → ℕ → Spot → Type 0
+IsReadAt bytes at spot = (r : Record) × IsRecord r × (drop at bytes ≡ record_octets r ++ drop spot.end bytes) × (spot.rtype.0 ≡ r.rtype) × (spot.ttl ≡ r.ttl) × (spot.ttl_at ≡ at + length (owner_octets r.owner) + 4)
 
 -- so many records stand at the front of the octets, and the rest behind them
 pub record Holds (count : ℕ) (octets : List ℕ) (records : List Record) (rest : List ℕ) : Type 0 where

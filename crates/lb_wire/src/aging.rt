@@ -1,10 +1,10 @@
 //! Replies that were kept, some seconds later.
 
-ghost use Rattle.std.specs.Prelude.{◌≡◌, ℕ, ◌+◌, ◌≤◌, List, ◌++◌, take, drop, length};
+ghost use Rattle.std.specs.Prelude.{◌≡◌, ℕ, ◌+◌, ◌≤◌, List, ◌++◌, drop, length};
 ghost use Rattle.std.specs.List.{AllByRecursion};
 ghost use Rattle.lb_wire.specs.Record.{Record, IsRecord, record_octets, Holds};
 ghost use Rattle.lb_wire.specs.Message.{Message, Lays, message_octets};
-ghost use Rattle.lb_wire.specs.Aging.{Outlives, aged_record, aged, Aged};
+ghost use Rattle.lb_wire.specs.Aging.{IsAgedAt, Outlives, aged, Aged};
 
 use crate::header::{HEADER_LEN, read_header};
 use crate::octets::overwrite;
@@ -47,7 +47,7 @@ fn age_records(bytes: &mut [u8], at: usize, count: u32, secs: u32)
 fn age_record(bytes: &mut [u8], at: usize, secs: u32) -> usize
     requires within { at ≤ length bytes.old }
     requires held { (r : Record) × (rest : List ℕ) × IsRecord r × (drop at bytes.old ≡ record_octets r ++ rest) × Outlives secs r }
-    ensures aged { (r : Record) (rest : List ℕ) → IsRecord r → drop at bytes.old ≡ record_octets r ++ rest → (bytes.new ≡ take at bytes.old ++ (record_octets (aged_record secs r) ++ rest)) × (result ≡ at + length (record_octets r)) }
+    ensures aged { IsAgedAt bytes.old at secs bytes.new result }
     ensures within { (result ≤ length bytes.old) × (length bytes.new ≡ length bytes.old) }
 {
     // a law: the call does nothing

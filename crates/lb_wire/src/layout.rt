@@ -1,9 +1,9 @@
 //! The layout of a message behind its question.
 
-ghost use Rattle.std.specs.Prelude.{◌≡◌, ℕ, ◌≤◌, List, length, IfSome, IfNone, take, drop};
+ghost use Rattle.std.specs.Prelude.{ℕ, ◌≤◌, List, length, IfSome, IfNone, drop};
 ghost use Rattle.lb_wire.specs.Record.{Record, Holds};
 ghost use Rattle.lb_wire.specs.Message.{count_of};
-ghost use Rattle.lb_wire.specs.Tally.{tally_of};
+ghost use Rattle.lb_wire.specs.Layout.{IsLaid};
 
 use crate::header::Header;
 use crate::record::walk;
@@ -22,7 +22,7 @@ pub struct Laid {
 /// Walks as many records as the header counts, from a place on, in one pass.
 pub(crate) fn lay(bytes: &[u8], at: usize, header: Header) -> Option<Laid>
     requires { at ≤ length bytes.now }
-    ensures found { IfSome result (λ laid. (records : List Record) × (rest : List ℕ) × Holds (count_of header) (drop at bytes.now) records rest × (laid.answers ≡ tally_of (take header.answers records)) × (laid.all ≡ tally_of records)) }
+    ensures found { IfSome result (λ laid. IsLaid header (drop at bytes.now) laid) }
     ensures none { IfNone result ((records : List Record) (rest : List ℕ) → Holds (count_of header) (drop at bytes.now) records rest → ⊥) }
 {
     // a law: the call does nothing

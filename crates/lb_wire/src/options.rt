@@ -1,9 +1,9 @@
 //! The options of an OPT.
 
-ghost use Rattle.std.specs.Prelude.{◌≡◌, ◌==◌, ℕ, ◌+◌, ◌<◌, ◌≤◌, List, ◌++◌, length, drop, filter, vec_len, IfSome, IfNone, OnOk, Some, None};
-ghost use Rattle.std.specs.List.{flat_map, list_any};
+ghost use Rattle.std.specs.Prelude.{◌≡◌, ◌==◌, ◌+◌, ◌<◌, ◌≤◌, List, ◌++◌, length, drop, vec_len, IfSome, IfNone, OnOk, Some, None};
+ghost use Rattle.std.specs.List.{list_any};
 ghost use Rattle.lb_wire.specs.BigEndian.{number_at};
-ghost use Rattle.lb_wire.specs.Options.{EdnsOption, IsOption, AreOptions, option_octets, options_of, is_unlisted};
+ghost use Rattle.lb_wire.specs.Options.{EdnsOption, IsLeftLen, IsOption, left_octets, option_octets, options_of};
 
 use crate::big_endian::read_u16;
 use std::alloc::AllocError;
@@ -65,7 +65,7 @@ fn is_listed(skips: &[u16], code: u16) -> bool
 /// How many octets are left of an OPT's data without the options of listed codes. `None` if it is no
 /// list of options.
 pub(crate) fn left_len(octets: &[u8], skips: &[u16]) -> Option<usize>
-    ensures found { IfSome result (λ len. (options : List EdnsOption) × AreOptions octets.now options × (options_of octets.now ≡ Some options) × (len ≡ length (flat_map option_octets (filter (is_unlisted skips.now) options)))) }
+    ensures found { IfSome result (λ len. IsLeftLen skips.now octets.now len) }
     ensures none { IfNone result (options_of octets.now ≡ None) }
     ensures short { IfSome result (λ len. len ≤ length octets.now) }
 {
@@ -89,7 +89,7 @@ pub(crate) fn push_unlisted(
 ) -> Result<(), AllocError>
     requires { (options : List EdnsOption) × (options_of octets.now ≡ Some options) }
     ensures short { OnOk result (vec_len left.new ≤ vec_len left.old + length octets.now) }
-    ensures octets { OnOk result ((options : List EdnsOption) → options_of octets.now ≡ Some options → left.new.items ≡ left.old.items ++ flat_map option_octets (filter (is_unlisted skips.now) options)) }
+    ensures octets { OnOk result ((options : List EdnsOption) → options_of octets.now ≡ Some options → left.new.items ≡ left.old.items ++ left_octets skips.now options) }
 {
     let mut place = 0usize;
     'options: while place < octets.len() {

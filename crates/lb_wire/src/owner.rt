@@ -1,17 +1,17 @@
 //! The owner of a record.
 
-ghost use Rattle.std.specs.Prelude.{◌≡◌, ℕ, ◌≤◌, List, ◌++◌, length, drop, IfSome, IfNone};
-ghost use Rattle.lb_wire.specs.Record.{Owner, IsOwner, owner_octets};
+ghost use Rattle.std.specs.Prelude.{◌≡◌, ℕ, List, ◌++◌, IfSome, IfNone};
+ghost use Rattle.lb_wire.specs.Record.{BeginsWithOwner, Owner, IsOwner, owner_octets};
 
 use lb_name::{LABEL_END, MAX_NAME, POINTER, label_is_passed, labels_go_on};
 
 /// How many octets a compression pointer has.
 const POINTER_LEN: usize = 2;
 
-/// How many octets the owner at the front takes. A pointer ends it and is never followed, so no message makes the
-/// walk longer than the octets that it has.
+/// How many octets the owner at the front takes. A pointer ends it and is never followed, so no
+/// message makes the walk longer than the octets that it has.
 pub(crate) fn owner_len(octets: &[u8]) -> Option<usize>
-    ensures found { IfSome result (λ len. (owner : Owner) × IsOwner owner × (len ≤ length octets.now) × (octets.now ≡ owner_octets owner ++ drop len octets.now) × (len ≡ length (owner_octets owner))) }
+    ensures found { IfSome result (λ len. BeginsWithOwner octets.now len) }
     ensures none { IfNone result ((owner : Owner) (rest : List ℕ) → IsOwner owner → octets.now ≡ owner_octets owner ++ rest → ⊥) }
 {
     // laws: the calls do nothing

@@ -29,7 +29,7 @@ pub struct Question {
 }
 
 /// How many octets stand after a question's name: QTYPE and QCLASS.
-const AFTER_NAME: usize = 4;
+pub const AFTER_NAME: usize = 4;
 
 /// The place after the question at a place: a name without a pointer, a type and a class.
 pub(crate) fn skip_question(bytes: &[u8], at: usize) -> Option<usize>

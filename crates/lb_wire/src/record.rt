@@ -1,7 +1,7 @@
 //! Walking records.
 
 ghost use Rattle.std.specs.Prelude.{◌≡◌, ℕ, ◌+◌, ◌<◌, ◌≤◌, ◌^◌, List, ◌++◌, length, drop, IfSome, IfNone};
-ghost use Rattle.lb_wire.specs.Record.{Record, IsRecord, record_octets, owner_octets, end_at, Holds};
+ghost use Rattle.lb_wire.specs.Record.{Record, IsReadAt, IsRecord, record_octets, end_at, Holds};
 ghost use Rattle.lb_wire.specs.Tally.{tally_of};
 
 use crate::big_endian::{read_u16, read_u32};
@@ -51,7 +51,7 @@ pub struct Spot {
 pub(crate) fn read_record(bytes: &[u8], at: usize) -> Option<Spot>
     requires { at ≤ length bytes.now }
     ensures within { IfSome result (λ spot. (spot.end ≤ length bytes.now) × (spot.ttl_at + 4 ≤ spot.end) × (at ≤ spot.ttl_at) × (spot.ttl < 2 ^ 32)) }
-    ensures found { IfSome result (λ spot. (r : Record) × IsRecord r × (drop at bytes.now ≡ record_octets r ++ drop spot.end bytes.now) × (spot.rtype.0 ≡ r.rtype) × (spot.ttl ≡ r.ttl) × (spot.ttl_at ≡ at + length (owner_octets r.owner) + 4)) }
+    ensures found { IfSome result (λ spot. IsReadAt bytes.now at spot) }
     ensures none { IfNone result ((r : Record) (rest : List ℕ) → IsRecord r → drop at bytes.now ≡ record_octets r ++ rest → ⊥) }
     ensures sized { IfSome result (λ spot. spot.end ≡ end_at (spot.ttl_at + 4) bytes.now) }
 {

@@ -1,7 +1,7 @@
 //! What the answer to an event says.
 
 ghost use Rattle.std.specs.Prelude.{◌≡◌};
-ghost use Rattle.lb_core.specs.Answer.{marked};
+ghost use Rattle.lb_step.specs.Answer.{marked};
 
 use lb_chain::ChainFault;
 use lb_core::{Answer, EditFault};

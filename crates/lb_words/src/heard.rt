@@ -5,7 +5,7 @@ ghost use Rattle.lb_words.specs.Heard.{IsHeard, IsListed, IsSaid};
 
 use crate::lines::Lines;
 use crate::metrics::metrics;
-use crate::recent::{Wanted, fault, recent};
+use crate::recent::{Wanted, Wording, fault, recent};
 use crate::seen::Beside;
 use crate::setup::setup;
 use crate::told::{Told, ended, look};
@@ -190,9 +190,22 @@ impl Words {
             Ok(wanted) => wanted,
             Err(fault) => return Ok(Heard::Fault(fault)),
         };
-        let listeners = self.listeners.as_slice();
-        let now = self.ran(rt);
-        Ok(Heard::Lines(recent(rt, alloc, &self.rings, &wanted, &told, listeners, now)?))
+        Ok(Heard::Lines(self.listed(rt, &wanted, &told)?))
+    }
+
+    /// The last queries that are asked for.
+    fn listed<R: Wait + Clock>(
+        &self,
+        rt: &R,
+        wanted: &Wanted,
+        told: &Told,
+    ) -> Result<String, AllocError> {
+        let wording = Wording {
+            told,
+            listeners: self.listeners.as_slice(),
+            now: self.ran(rt),
+        };
+        recent(rt, self.alloc, &self.rings, wanted, wording)
     }
 
     /// What `top` says by what stands from a place on.
@@ -246,18 +259,7 @@ impl Words {
             )?,
             Word::Metrics => self.counts(rt, desk)?.ended()?,
             Word::Setup => setup(rt, alloc, desk, listeners, self.log)?,
-            Word::Recent => {
-                let now = self.ran(rt);
-                recent(
-                    rt,
-                    alloc,
-                    &self.rings,
-                    &Wanted::usual(),
-                    &look(rt, alloc, desk)?,
-                    listeners,
-                    now,
-                )?
-            }
+            Word::Recent => self.listed(rt, &Wanted::usual(), &look(rt, alloc, desk)?)?,
             Word::Top => return Ok(Heard::Fault(fault(end, FaultKind::Missing))),
         }))
     }

@@ -1,4 +1,4 @@
-//! A list of lines, and its end.
+//! A list of lines, and its end. Figures are lines in the text format of Prometheus.
 
 use std::alloc::{AllocError, Global};
 
@@ -26,6 +26,47 @@ impl Lines {
         self.text.push_str("\n")?;
         self.count = self.count.saturating_add(1);
         Ok(())
+    }
+
+    /// Adds a line of two words and what follows them.
+    pub(crate) fn words(
+        &mut self,
+        first: &str,
+        second: &str,
+        rest: &str,
+    ) -> Result<(), AllocError> {
+        let line = format!(in self.alloc; "{first} {second} {rest}")?;
+        self.add(line.as_str())
+    }
+
+    /// Adds a figure of a family that has one alone.
+    pub(crate) fn figure(&mut self, name: &str, value: u64) -> Result<(), AllocError> {
+        let line = format!(in self.alloc; "{name} {value}")?;
+        self.add(line.as_str())
+    }
+
+    /// Adds a figure of a family, with what it is of.
+    pub(crate) fn labelled(
+        &mut self,
+        name: &str,
+        label: &str,
+        of: &str,
+        value: u64,
+    ) -> Result<(), AllocError> {
+        let line = format!(in self.alloc; "{name}{{{label}=\"{of}\"}} {value}")?;
+        self.add(line.as_str())
+    }
+
+    /// Adds a figure of a family, with its protocol and its reason.
+    pub(crate) fn explained(
+        &mut self,
+        name: &str,
+        kind: &str,
+        why: &str,
+        value: u64,
+    ) -> Result<(), AllocError> {
+        let line = format!(in self.alloc; "{name}{{kind=\"{kind}\",why=\"{why}\"}} {value}")?;
+        self.add(line.as_str())
     }
 
     /// The lines, each with its line feed.

@@ -6,7 +6,7 @@ use crate::seen::Beside;
 use crate::texts::pool_named;
 use crate::told::{Backend, Counted, Store, Told, look, place_of, rule_at};
 use lb_command::{Listener, Protocol};
-use lb_core::{CacheCounts, Count, ServerCounts};
+use lb_core::{CacheCounts, Count, Counts, ServerCounts};
 use lb_desk::{Desk, Naming};
 use lb_sends::{Clients, Closing, Refusal, Sends};
 use lb_servers::{Mode, Pool, PoolName};
@@ -258,73 +258,98 @@ pub(crate) fn counters(
     sends: &Sends,
 ) -> Result<String, AllocError> {
     let mut lines = Lines::new(alloc);
+    add_queries(alloc, &mut lines, told, listeners)?;
+    add_counts(&mut lines, &told.counts, "lb_events_total", "kind", &EVENTS)?;
+    add_counts(
+        &mut lines,
+        &told.counts,
+        "lb_answers_total",
+        "why",
+        &ANSWERS,
+    )?;
+    add_sends(&mut lines, sends)?;
+    add_clients(&mut lines, sends)?;
+    add_totals(&mut lines, told)?;
+    lines.ended()
+}
+
+/// Adds how many queries came by each listener.
+pub(crate) fn add_queries(
+    alloc: Global,
+    lines: &mut Lines,
+    told: &Told,
+    listeners: &[Listener],
+) -> Result<(), AllocError> {
     for (place, listener) in listeners.iter().enumerate() {
         if let Ok(front) = u8::try_from(place)
             && listener.protocol != Protocol::Console
         {
-            let name = listener_text(alloc, listener)?;
+            let of = listener_text(alloc, listener)?;
             let count = told.counts.of_front(front);
-            let line = format!(in alloc; "lb_queries_total{{listen=\"{name}\"}} {count}")?;
-            lines.add(line.as_str())?;
+            lines.labelled("lb_queries_total", "listen", of.as_str(), count)?;
         }
     }
-    for (count, name) in EVENTS {
-        let count = told.counts.get(count);
-        let line = format!(in alloc; "lb_events_total{{kind=\"{name}\"}} {count}")?;
-        lines.add(line.as_str())?;
-    }
-    for (count, name) in ANSWERS {
-        let count = told.counts.get(count);
-        let line = format!(in alloc; "lb_answers_total{{why=\"{name}\"}} {count}")?;
-        lines.add(line.as_str())?;
-    }
-    add_sends(alloc, &mut lines, sends)?;
-    let totals = told.totals;
-    let (rules, outstanding, kept) = (totals.rules, totals.outstanding, totals.kept);
-    let line = format!(in alloc; "lb_rules {rules}")?;
-    lines.add(line.as_str())?;
-    let line = format!(in alloc; "lb_outstanding {outstanding}")?;
-    lines.add(line.as_str())?;
-    let line = format!(in alloc; "lb_cache_entries {kept}")?;
-    lines.add(line.as_str())?;
-    let lacks = if told.lacks { 1u8 } else { 0u8 };
-    let line = format!(in alloc; "lb_counts_lacking {lacks}")?;
-    lines.add(line.as_str())?;
-    lines.ended()
+    Ok(())
 }
 
-/// Adds what the loops count beside the desk: failed sends, probes, and clients over TCP.
-fn add_sends(alloc: Global, lines: &mut Lines, sends: &Sends) -> Result<(), AllocError> {
-    for (name, count) in sends.failed() {
-        let line = format!(in alloc; "lb_sends_failed_total{{why=\"{name}\"}} {count}")?;
-        lines.add(line.as_str())?;
-    }
-    let (sent, failed) = (sends.probes(), sends.failed_probes());
-    let line = format!(in alloc; "lb_probes_total {sent}")?;
-    lines.add(line.as_str())?;
-    let line = format!(in alloc; "lb_probes_failed_total {failed}")?;
-    lines.add(line.as_str())?;
-    let lacked = sends.lacked_descriptors();
-    let line = format!(in alloc; "lb_descriptors_lacking_total {lacked}")?;
-    lines.add(line.as_str())?;
-    for (kind, clients) in kinds(sends) {
-        let (taken, connected) = (clients.taken(), clients.connected());
-        let line = format!(in alloc; "lb_clients_total{{kind=\"{kind}\"}} {taken}")?;
-        lines.add(line.as_str())?;
-        let line = format!(in alloc; "lb_connections{{kind=\"{kind}\"}} {connected}")?;
-        lines.add(line.as_str())?;
-    }
-    for (kind, why, count) in refusals(sends) {
-        let name = "lb_clients_refused_total";
-        let line = format!(in alloc; "{name}{{kind=\"{kind}\",why=\"{why}\"}} {count}")?;
-        lines.add(line.as_str())?;
-    }
-    for (kind, why, count) in closings(sends) {
-        let name = "lb_clients_closed_total";
-        let line = format!(in alloc; "{name}{{kind=\"{kind}\",why=\"{why}\"}} {count}")?;
-        lines.add(line.as_str())?;
+/// Adds the counts of a family, each with its name.
+pub(crate) fn add_counts(
+    lines: &mut Lines,
+    counts: &Counts,
+    family: &str,
+    label: &str,
+    names: &[(Count, &str)],
+) -> Result<(), AllocError> {
+    for (count, name) in names {
+        lines.labelled(family, label, *name, counts.get(*count))?;
     }
     Ok(())
+}
+
+/// Adds what the loops count beside the desk: failed sends, probes, and lacking descriptors.
+fn add_sends(lines: &mut Lines, sends: &Sends) -> Result<(), AllocError> {
+    for (cause, count) in sends.failed() {
+        lines.labelled("lb_sends_failed_total", "why", cause, count)?;
+    }
+    lines.figure("lb_probes_total", sends.probes())?;
+    lines.figure("lb_probes_failed_total", sends.failed_probes())?;
+    lines.figure("lb_descriptors_lacking_total", sends.lacked_descriptors())
+}
+
+/// Adds the clients of the protocols that hold connections.
+fn add_clients(lines: &mut Lines, sends: &Sends) -> Result<(), AllocError> {
+    for (kind, clients) in kinds(sends) {
+        lines.labelled("lb_clients_total", "kind", kind, clients.taken())?;
+        lines.labelled("lb_connections", "kind", kind, clients.connected())?;
+    }
+    add_reasons(lines, "lb_clients_refused_total", &refusals(sends))?;
+    add_reasons(lines, "lb_clients_closed_total", &closings(sends))
+}
+
+/// Adds the figures of a family that has one for each protocol and reason.
+pub(crate) fn add_reasons(
+    lines: &mut Lines,
+    family: &str,
+    figures: &[(&str, &str, u64)],
+) -> Result<(), AllocError> {
+    for (kind, why, count) in figures {
+        lines.explained(family, *kind, *why, *count)?;
+    }
+    Ok(())
+}
+
+/// Adds how much there is of each part.
+fn add_totals(lines: &mut Lines, told: &Told) -> Result<(), AllocError> {
+    lines.figure("lb_rules", told.totals.rules as u64)?;
+    lines.figure("lb_outstanding", told.totals.outstanding as u64)?;
+    let kept = u64::try_from(told.totals.kept).unwrap_or(u64::MAX);
+    lines.figure("lb_cache_entries", kept)?;
+    lines.figure("lb_counts_lacking", one_if(told.lacks))
+}
+
+/// 1 if it is so, else 0.
+pub(crate) fn one_if(is_so: bool) -> u64 {
+    if is_so { 1 } else { 0 }
 }
 
 /// The clients of each protocol that holds connections.

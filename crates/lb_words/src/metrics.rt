@@ -1,10 +1,13 @@
 //! All counts in the text format of Prometheus, each with its type and a sentence.
 
 use crate::lines::Lines;
-use crate::lists::{ANSWERS, EVENTS, closings, is_up, kinds, listener_text, pool_with, refusals};
+use crate::lists::{
+    ANSWERS, EVENTS, add_counts, add_queries, add_reasons, closings, is_up, kinds, one_if,
+    pool_with, refusals,
+};
 use crate::process::Process;
-use crate::told::{Ended, Told};
-use lb_command::{Listener, Protocol};
+use crate::told::{Backend, Ended, Store, Told};
+use lb_command::Listener;
 use lb_sends::{ReplyTimes, Sends};
 use std::alloc::{AllocError, Global};
 
@@ -25,87 +28,27 @@ const BOUNDS: [&str; 14] = [
     "1.024", "2.048", "4.096", "+Inf",
 ];
 
-/// The figures that are collected, family by family.
-#[derive(Debug, Drop)]
-struct Page {
-    alloc: Global,
-    lines: Lines,
+/// A family begins: its name, its type and what it is.
+fn family(page: &mut Lines, name: &str, kind: Kind, help: &str) -> Result<(), AllocError> {
+    let kind = match kind {
+        Kind::Counter => "counter",
+        Kind::Gauge => "gauge",
+        Kind::Histogram => "histogram",
+    };
+    page.words("# HELP", name, help)?;
+    page.words("# TYPE", name, kind)
 }
 
-impl Page {
-    /// None. It takes no memory.
-    fn new(alloc: Global) -> Page {
-        Page {
-            alloc,
-            lines: Lines::new(alloc),
-        }
-    }
-
-    /// A family begins: its name, its type and what it is.
-    fn family(&mut self, name: &str, kind: Kind, help: &str) -> Result<(), AllocError> {
-        let kind = match kind {
-            Kind::Counter => "counter",
-            Kind::Gauge => "gauge",
-            Kind::Histogram => "histogram",
-        };
-        let line = format!(in self.alloc; "# HELP {name} {help}")?;
-        self.lines.add(line.as_str())?;
-        let line = format!(in self.alloc; "# TYPE {name} {kind}")?;
-        self.lines.add(line.as_str())
-    }
-
-    /// A figure of a family that has one alone.
-    fn figure(&mut self, name: &str, value: u64) -> Result<(), AllocError> {
-        let line = format!(in self.alloc; "{name} {value}")?;
-        self.lines.add(line.as_str())
-    }
-
-    /// A figure of a family, with what it is of.
-    fn labelled(
-        &mut self,
-        name: &str,
-        label: &str,
-        of: &str,
-        value: u64,
-    ) -> Result<(), AllocError> {
-        let line = format!(in self.alloc; "{name}{{{label}=\"{of}\"}} {value}")?;
-        self.lines.add(line.as_str())
-    }
-
-    /// A figure of a family, with its protocol and its reason.
-    fn explained(
-        &mut self,
-        name: &str,
-        kind: &str,
-        why: &str,
-        value: u64,
-    ) -> Result<(), AllocError> {
-        let line = format!(in self.alloc; "{name}{{kind=\"{kind}\",why=\"{why}\"}} {value}")?;
-        self.lines.add(line.as_str())
-    }
-
-    /// The times of a server: how many replies took no longer than each bound, and all of them.
-    fn times(&mut self, name: &str, server: &str, times: &ReplyTimes) -> Result<(), AllocError> {
-        let mut count = 0u64;
-        for (counted, bound) in times.counts.iter().zip(BOUNDS) {
-            count = count.saturating_add(*counted);
-            let line = format!(in self.alloc;
-                "{name}_bucket{{server=\"{server}\",le=\"{bound}\"}} {count}"
-            )?;
-            self.lines.add(line.as_str())?;
-        }
-        let (seconds, rest) = (times.sum / 1_000, times.sum % 1_000);
-        let line = format!(in self.alloc; "{name}_sum{{server=\"{server}\"}} {seconds}.{rest:03}")?;
-        self.lines.add(line.as_str())?;
-        let line = format!(in self.alloc; "{name}_count{{server=\"{server}\"}} {count}")?;
-        self.lines.add(line.as_str())
-    }
-
-    /// A figure of a family, with the number of what it is of.
-    fn numbered(&mut self, name: &str, label: &str, of: u64, value: u64) -> Result<(), AllocError> {
-        let line = format!(in self.alloc; "{name}{{{label}=\"{of}\"}} {value}")?;
-        self.lines.add(line.as_str())
-    }
+/// A family of one figure.
+fn single(
+    page: &mut Lines,
+    name: &str,
+    kind: Kind,
+    help: &str,
+    value: u64,
+) -> Result<(), AllocError> {
+    family(page, name, kind, help)?;
+    page.figure(name, value)
 }
 
 /// All counts, and for how many seconds it has run, which the caller gives.
@@ -117,59 +60,54 @@ pub(crate) fn metrics(
     sends: &Sends,
     seconds: u64,
 ) -> Result<Lines, AllocError> {
-    let mut page = Page::new(alloc);
-    of_listeners(&mut page, told, listeners)?;
-    of_events(&mut page, told)?;
+    let mut page = Lines::new(alloc);
+    of_events(alloc, &mut page, told, listeners)?;
     of_sends(&mut page, sends)?;
     of_clients(&mut page, sends)?;
-    of_rules(&mut page, ended)?;
-    of_servers(&mut page, told)?;
-    of_replies(&mut page, told, sends)?;
+    of_rules(alloc, &mut page, ended)?;
+    of_servers(&mut page, told.servers.as_slice())?;
+    of_replies(alloc, &mut page, told.servers.as_slice(), sends)?;
     of_caches(&mut page, told)?;
     of_the_whole(&mut page, told, seconds)?;
     of_process(&mut page, Process::look())?;
-    Ok(page.lines)
+    Ok(page)
 }
 
-fn of_listeners(page: &mut Page, told: &Told, listeners: &[Listener]) -> Result<(), AllocError> {
-    let name = "lb_queries_total";
-    page.family(name, Kind::Counter, "Queries that came by a listener.")?;
-    for (place, listener) in listeners.iter().enumerate() {
-        if let Ok(front) = u8::try_from(place)
-            && listener.protocol != Protocol::Console
-        {
-            let of = listener_text(page.alloc, listener)?;
-            page.labelled(name, "listen", of.as_str(), told.counts.of_front(front))?;
-        }
-    }
-    Ok(())
-}
-
-fn of_events(page: &mut Page, told: &Told) -> Result<(), AllocError> {
+fn of_events(
+    alloc: Global,
+    page: &mut Lines,
+    told: &Told,
+    listeners: &[Listener],
+) -> Result<(), AllocError> {
+    family(
+        page,
+        "lb_queries_total",
+        Kind::Counter,
+        "Queries that came by a listener.",
+    )?;
+    add_queries(alloc, page, told, listeners)?;
     let name = "lb_events_total";
-    page.family(
+    family(
+        page,
         name,
         Kind::Counter,
         "Events that were answered, by their kind.",
     )?;
-    for (count, kind) in EVENTS {
-        page.labelled(name, "kind", kind, told.counts.get(count))?;
-    }
+    add_counts(page, &told.counts, name, "kind", &EVENTS)?;
     let name = "lb_answers_total";
-    page.family(
+    family(
+        page,
         name,
         Kind::Counter,
         "What became of the events, by the reason.",
     )?;
-    for (count, why) in ANSWERS {
-        page.labelled(name, "why", why, told.counts.get(count))?;
-    }
-    Ok(())
+    add_counts(page, &told.counts, name, "why", &ANSWERS)
 }
 
-fn of_sends(page: &mut Page, sends: &Sends) -> Result<(), AllocError> {
+fn of_sends(page: &mut Lines, sends: &Sends) -> Result<(), AllocError> {
     let name = "lb_sends_failed_total";
-    page.family(
+    family(
+        page,
         name,
         Kind::Counter,
         "Messages that could not be sent, by the cause.",
@@ -177,24 +115,29 @@ fn of_sends(page: &mut Page, sends: &Sends) -> Result<(), AllocError> {
     for (cause, count) in sends.failed() {
         page.labelled(name, "why", cause, count)?;
     }
-    let name = "lb_probes_total";
-    page.family(name, Kind::Counter, "Probes that were sent.")?;
-    page.figure(name, sends.probes())?;
-    let name = "lb_probes_failed_total";
-    page.family(name, Kind::Counter, "Probes that could not be sent.")?;
-    page.figure(name, sends.failed_probes())?;
-    let name = "lb_descriptors_lacking_total";
-    page.family(
-        name,
-        Kind::Counter,
-        "How often no descriptor was left for a client over TCP or a connection to a server.",
-    )?;
-    page.figure(name, sends.lacked_descriptors())
+    let counters = [
+        ("lb_probes_total", "Probes that were sent.", sends.probes()),
+        (
+            "lb_probes_failed_total",
+            "Probes that could not be sent.",
+            sends.failed_probes(),
+        ),
+        (
+            "lb_descriptors_lacking_total",
+            "How often no descriptor was left for a client over TCP or a connection to a server.",
+            sends.lacked_descriptors(),
+        ),
+    ];
+    for (name, help, count) in counters {
+        single(page, name, Kind::Counter, help, count)?;
+    }
+    Ok(())
 }
 
-fn of_clients(page: &mut Page, sends: &Sends) -> Result<(), AllocError> {
+fn of_clients(page: &mut Lines, sends: &Sends) -> Result<(), AllocError> {
     let name = "lb_clients_total";
-    page.family(
+    family(
+        page,
         name,
         Kind::Counter,
         "Clients that were taken in, by the protocol.",
@@ -203,7 +146,8 @@ fn of_clients(page: &mut Page, sends: &Sends) -> Result<(), AllocError> {
         page.labelled(name, "kind", kind, clients.taken())?;
     }
     let name = "lb_connections";
-    page.family(
+    family(
+        page,
         name,
         Kind::Gauge,
         "Clients that are connected, by the protocol.",
@@ -212,170 +156,246 @@ fn of_clients(page: &mut Page, sends: &Sends) -> Result<(), AllocError> {
         page.labelled(name, "kind", kind, clients.connected())?;
     }
     let name = "lb_clients_refused_total";
-    page.family(
+    family(
+        page,
         name,
         Kind::Counter,
         "Clients that were closed at once, by the reason.",
     )?;
-    for (kind, why, count) in refusals(sends) {
-        page.explained(name, kind, why, count)?;
-    }
+    add_reasons(page, name, &refusals(sends))?;
     let name = "lb_clients_closed_total";
-    page.family(
-        name,
-        Kind::Counter,
-        "Clients that were closed before they closed their side, by the reason.",
-    )?;
-    for (kind, why, count) in closings(sends) {
-        page.explained(name, kind, why, count)?;
-    }
-    Ok(())
+    let help = "Clients that were closed before they closed their side, by the reason.";
+    family(page, name, Kind::Counter, help)?;
+    add_reasons(page, name, &closings(sends))
 }
 
-fn of_rules(page: &mut Page, ended: &[Ended]) -> Result<(), AllocError> {
+fn of_rules(alloc: Global, page: &mut Lines, ended: &[Ended]) -> Result<(), AllocError> {
     let name = "lb_rule_ended_total";
-    page.family(
+    family(
+        page,
         name,
         Kind::Counter,
         "Walks that a rule ended, by its number.",
     )?;
     for (rule, ended) in ended {
-        page.numbered(name, "rule", rule.0, *ended)?;
+        let number = rule.0;
+        let line = format!(in alloc; "{name}{{rule=\"{number}\"}} {ended}")?;
+        page.add(line.as_str())?;
     }
     Ok(())
 }
 
-fn of_servers(page: &mut Page, told: &Told) -> Result<(), AllocError> {
-    let name = "lb_server_up";
-    page.family(
-        name,
-        Kind::Gauge,
-        "Whether a server gets queries: 1 if it is up.",
-    )?;
-    for backend in &told.servers {
-        let server = backend.loaded.server.name.as_str();
-        page.labelled(name, "server", server, one_if(is_up(backend)))?;
-    }
-    let name = "lb_server_outstanding";
-    page.family(name, Kind::Gauge, "Pending queries of a server.")?;
-    for backend in &told.servers {
-        let server = backend.loaded.server.name.as_str();
-        page.labelled(name, "server", server, backend.loaded.outstanding)?;
-    }
-    let name = "lb_forwards_total";
-    page.family(name, Kind::Counter, "Queries to be sent to a server.")?;
-    for backend in &told.servers {
-        let server = backend.loaded.server.name.as_str();
-        page.labelled(name, "server", server, backend.counts.forwarded)?;
-    }
-    let name = "lb_replies_total";
-    page.family(name, Kind::Counter, "Replies of a server for clients.")?;
-    for backend in &told.servers {
-        let server = backend.loaded.server.name.as_str();
-        page.labelled(name, "server", server, backend.counts.replied)?;
-    }
-    let name = "lb_expiries_total";
-    page.family(name, Kind::Counter, "Queries to a server that timed out.")?;
-    for backend in &told.servers {
-        let server = backend.loaded.server.name.as_str();
-        page.labelled(name, "server", server, backend.counts.expired)?;
-    }
-    Ok(())
+/// A figure of a server.
+#[derive(Clone, Copy, Debug)]
+enum OfServer {
+    Up,
+    Outstanding,
+    Forwards,
+    Replies,
+    Expiries,
 }
 
-/// The times of replies, of each server that has replied.
-fn of_replies(page: &mut Page, told: &Told, sends: &Sends) -> Result<(), AllocError> {
-    let name = "lb_reply_seconds";
-    page.family(
-        name,
-        Kind::Histogram,
-        "How long a server took for replies for clients.",
-    )?;
-    for backend in &told.servers {
-        let server = &backend.loaded.server;
-        if let Some(times) = sends.reply_times(server.id) {
-            page.times(name, server.name.as_str(), &times)?;
+impl OfServer {
+    /// The figures of a server in their order, each with the name of its family, its type and what
+    /// it is.
+    const ALL: [(OfServer, &'static str, Kind, &'static str); 5] = [
+        (
+            OfServer::Up,
+            "lb_server_up",
+            Kind::Gauge,
+            "Whether a server gets queries: 1 if it is up.",
+        ),
+        (
+            OfServer::Outstanding,
+            "lb_server_outstanding",
+            Kind::Gauge,
+            "Pending queries of a server.",
+        ),
+        (
+            OfServer::Forwards,
+            "lb_forwards_total",
+            Kind::Counter,
+            "Queries to be sent to a server.",
+        ),
+        (
+            OfServer::Replies,
+            "lb_replies_total",
+            Kind::Counter,
+            "Replies of a server for clients.",
+        ),
+        (
+            OfServer::Expiries,
+            "lb_expiries_total",
+            Kind::Counter,
+            "Queries to a server that timed out.",
+        ),
+    ];
+
+    /// What it is of a server.
+    fn of(self, backend: &Backend) -> u64 {
+        match self {
+            OfServer::Up => one_if(is_up(backend)),
+            OfServer::Outstanding => backend.loaded.outstanding,
+            OfServer::Forwards => backend.counts.forwarded,
+            OfServer::Replies => backend.counts.replied,
+            OfServer::Expiries => backend.counts.expired,
+        }
+    }
+}
+
+fn of_servers(page: &mut Lines, servers: &[Backend]) -> Result<(), AllocError> {
+    for (figure, name, kind, help) in OfServer::ALL {
+        family(page, name, kind, help)?;
+        for backend in servers {
+            let server = backend.loaded.server.name.as_str();
+            page.labelled(name, "server", server, figure.of(backend))?;
         }
     }
     Ok(())
 }
 
-fn of_caches(page: &mut Page, told: &Told) -> Result<(), AllocError> {
-    let name = "lb_cache_entries";
-    page.family(name, Kind::Gauge, "Replies that the cache of a pool keeps.")?;
-    for store in &told.caches {
-        page.labelled(name, "pool", pool_with(told, store), store.kept as u64)?;
-    }
-    let name = "lb_cache_max_entries";
-    page.family(
-        name,
-        Kind::Gauge,
-        "Replies that the cache of a pool may keep.",
-    )?;
-    for store in &told.caches {
-        page.labelled(
-            name,
-            "pool",
-            pool_with(told, store),
-            u64::from(store.max.get()),
-        )?;
-    }
-    let name = "lb_cache_lookups_total";
-    page.family(
-        name,
-        Kind::Counter,
-        "Queries for which the cache of a pool was asked.",
-    )?;
-    for store in &told.caches {
-        page.labelled(name, "pool", pool_with(told, store), store.counts.asked)?;
-    }
-    let name = "lb_cache_hits_total";
-    page.family(
-        name,
-        Kind::Counter,
-        "Queries that the cache of a pool answered.",
-    )?;
-    for store in &told.caches {
-        page.labelled(name, "pool", pool_with(told, store), store.counts.hit)?;
+/// The times of replies, of each server that has replied.
+fn of_replies(
+    alloc: Global,
+    page: &mut Lines,
+    servers: &[Backend],
+    sends: &Sends,
+) -> Result<(), AllocError> {
+    let help = "How long a server took for replies for clients.";
+    family(page, TIMES, Kind::Histogram, help)?;
+    for backend in servers {
+        let server = &backend.loaded.server;
+        if let Some(times) = sends.reply_times(server.id) {
+            of_times(alloc, page, server.name.as_str(), &times)?;
+        }
     }
     Ok(())
 }
 
-fn of_the_whole(page: &mut Page, told: &Told, seconds: u64) -> Result<(), AllocError> {
-    let name = "lb_rules";
-    page.family(name, Kind::Gauge, "Rules.")?;
-    page.figure(name, told.totals.rules as u64)?;
-    let name = "lb_outstanding";
-    page.family(name, Kind::Gauge, "Pending queries.")?;
-    page.figure(name, told.totals.outstanding as u64)?;
-    let name = "lb_counts_lacking";
-    page.family(
-        name,
-        Kind::Gauge,
-        "1 if memory for a count was ever refused.",
-    )?;
-    page.figure(name, one_if(told.lacks))?;
-    let name = "lb_running_seconds";
-    page.family(name, Kind::Gauge, "For how many seconds it has run.")?;
-    page.figure(name, seconds)
+/// The family of the times of replies.
+const TIMES: &str = "lb_reply_seconds";
+
+/// The times of a server: how many replies took no longer than each bound, and all of them.
+fn of_times(
+    alloc: Global,
+    page: &mut Lines,
+    server: &str,
+    times: &ReplyTimes,
+) -> Result<(), AllocError> {
+    let (name, mut count) = (TIMES, 0u64);
+    for (counted, bound) in times.counts.iter().zip(BOUNDS) {
+        count = count.saturating_add(*counted);
+        let line = format!(in alloc;
+            "{name}_bucket{{server=\"{server}\",le=\"{bound}\"}} {count}"
+        )?;
+        page.add(line.as_str())?;
+    }
+    let (seconds, rest) = (times.sum / 1_000, times.sum % 1_000);
+    let line = format!(in alloc; "{name}_sum{{server=\"{server}\"}} {seconds}.{rest:03}")?;
+    page.add(line.as_str())?;
+    page.labelled("lb_reply_seconds_count", "server", server, count)
+}
+
+/// A figure of a cache.
+#[derive(Clone, Copy, Debug)]
+enum OfCache {
+    Entries,
+    MaxEntries,
+    Lookups,
+    Hits,
+}
+
+impl OfCache {
+    /// The figures of a cache in their order, each with the name of its family, its type and what
+    /// it is.
+    const ALL: [(OfCache, &'static str, Kind, &'static str); 4] = [
+        (
+            OfCache::Entries,
+            "lb_cache_entries",
+            Kind::Gauge,
+            "Replies that the cache of a pool keeps.",
+        ),
+        (
+            OfCache::MaxEntries,
+            "lb_cache_max_entries",
+            Kind::Gauge,
+            "Replies that the cache of a pool may keep.",
+        ),
+        (
+            OfCache::Lookups,
+            "lb_cache_lookups_total",
+            Kind::Counter,
+            "Queries for which the cache of a pool was asked.",
+        ),
+        (
+            OfCache::Hits,
+            "lb_cache_hits_total",
+            Kind::Counter,
+            "Queries that the cache of a pool answered.",
+        ),
+    ];
+
+    /// What it is of a cache.
+    fn of(self, store: &Store) -> u64 {
+        match self {
+            OfCache::Entries => store.kept as u64,
+            OfCache::MaxEntries => u64::from(store.max.get()),
+            OfCache::Lookups => store.counts.asked,
+            OfCache::Hits => store.counts.hit,
+        }
+    }
+}
+
+fn of_caches(page: &mut Lines, told: &Told) -> Result<(), AllocError> {
+    for (figure, name, kind, help) in OfCache::ALL {
+        family(page, name, kind, help)?;
+        for store in &told.caches {
+            page.labelled(name, "pool", pool_with(told, store), figure.of(store))?;
+        }
+    }
+    Ok(())
+}
+
+fn of_the_whole(page: &mut Lines, told: &Told, seconds: u64) -> Result<(), AllocError> {
+    let gauges = [
+        ("lb_rules", "Rules.", told.totals.rules as u64),
+        (
+            "lb_outstanding",
+            "Pending queries.",
+            told.totals.outstanding as u64,
+        ),
+        (
+            "lb_counts_lacking",
+            "1 if memory for a count was ever refused.",
+            one_if(told.lacks),
+        ),
+        (
+            "lb_running_seconds",
+            "For how many seconds it has run.",
+            seconds,
+        ),
+    ];
+    for (name, help, value) in gauges {
+        single(page, name, Kind::Gauge, help, value)?;
+    }
+    Ok(())
 }
 
 /// What the system says of the process; what can't be read is left out.
-fn of_process(page: &mut Page, process: Process) -> Result<(), AllocError> {
+fn of_process(page: &mut Lines, process: Process) -> Result<(), AllocError> {
     if let Some(octets) = process.resident {
         let name = "process_resident_memory_bytes";
-        page.family(name, Kind::Gauge, "Resident memory size in bytes.")?;
-        page.figure(name, octets)?;
+        single(
+            page,
+            name,
+            Kind::Gauge,
+            "Resident memory size in bytes.",
+            octets,
+        )?;
     }
     if let Some(descriptors) = process.descriptors {
-        let name = "process_open_fds";
-        page.family(name, Kind::Gauge, "Number of open file descriptors.")?;
-        page.figure(name, descriptors)?;
+        let help = "Number of open file descriptors.";
+        single(page, "process_open_fds", Kind::Gauge, help, descriptors)?;
     }
     Ok(())
-}
-
-/// 1 if it is so, else 0.
-fn one_if(is_so: bool) -> u64 {
-    if is_so { 1 } else { 0 }
 }

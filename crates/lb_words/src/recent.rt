@@ -192,15 +192,22 @@ pub(crate) fn fault(place: usize, kind: FaultKind) -> CommandFault {
     CommandFault { place, kind }
 }
 
-/// The last queries that are asked for, the newest last. `now` is the moment, in milliseconds.
+/// What a line about a query takes its words from: what the desk says, the listen lines, and the
+/// moment, in milliseconds.
+#[derive(Clone, Copy, Debug)]
+pub(crate) struct Wording<'a> {
+    pub(crate) told: &'a Told,
+    pub(crate) listeners: &'a [Listener],
+    pub(crate) now: u64,
+}
+
+/// The last queries that are asked for, the newest last.
 pub(crate) fn recent<R: Wait>(
     rt: &R,
     alloc: Global,
     rings: &Rings,
     wanted: &Wanted,
-    told: &Told,
-    listeners: &[Listener],
-    now: u64,
+    wording: Wording<'_>,
 ) -> Result<String, AllocError> {
     let mut lines = Lines::new(alloc);
     if rings.room() == 0 {
@@ -209,7 +216,7 @@ pub(crate) fn recent<R: Wait>(
     }
     let found = rings.newest(rt, alloc, wanted.most, |record| wanted.filter.takes(record))?;
     for (_, record) in found.iter().rev() {
-        let line = record_line(alloc, record, told, listeners, now)?;
+        let line = record_line(alloc, record, wording)?;
         lines.add(line.as_str())?;
     }
     lines.ended()
@@ -218,46 +225,56 @@ pub(crate) fn recent<R: Wait>(
 /// What is said where nothing is noted.
 pub(crate) const OFF: &str = "# no query is noted: LB_RECENT is not set";
 
-fn record_line(
-    alloc: Global,
-    record: &Record,
-    told: &Told,
-    listeners: &[Listener],
-    now: u64,
-) -> Result<String, AllocError> {
-    let at = record.at;
-    let ago = now.saturating_sub(at);
-    let mut line = format!(in alloc; "query at {at} ago {ago} from ")?;
-    line.push_str(addr_word(alloc, &record.source)?.as_str())?;
-    line.push_str(" ")?;
-    push_number(alloc, &mut line, u64::from(record.port))?;
-    line.push_str(" by ")?;
-    line.push_str(match listeners.get(usize::from(record.front)) {
-        Some(listener) => protocol_word(listener.protocol),
-        None => "?",
-    })?;
-    match &record.question {
-        Some(question) => {
-            line.push_str(" name ")?;
-            push_labels(alloc, &mut line, question)?;
-            line.push_str(" type ")?;
-            line.push_str(type_word(alloc, question.qtype())?.as_str())?;
-        }
-        None => line.push_str(" name - type -")?,
-    }
-    line.push_str(" answer ")?;
-    line.push_str(answer_word(record.why))?;
-    if let Some(rule) = record.rule {
-        line.push_str(" rule ")?;
-        push_number(alloc, &mut line, rule.0)?;
-    }
+/// The line of a query.
+fn record_line(alloc: Global, record: &Record, wording: Wording<'_>) -> Result<String, AllocError> {
+    let mut line = client_text(alloc, record, wording)?;
+    push_question(alloc, &mut line, record.question.as_ref())?;
+    push_answer(alloc, &mut line, record)?;
     if let Some(server) = record.server {
-        line.push_str(" server ")?;
-        push_server(alloc, &mut line, told, server)?;
+        push_server(alloc, &mut line, wording.told, server)?;
         line.push_str(" took ")?;
         push_number(alloc, &mut line, record.took)?;
     }
     Ok(line)
+}
+
+/// When a query ended, and whose it was.
+fn client_text(alloc: Global, record: &Record, wording: Wording<'_>) -> Result<String, AllocError> {
+    let at = record.at;
+    let ago = wording.now.saturating_sub(at);
+    let addr = addr_word(alloc, &record.source)?;
+    let port = record.port;
+    let protocol = match wording.listeners.get(usize::from(record.front)) {
+        Some(listener) => protocol_word(listener.protocol),
+        None => "?",
+    };
+    format!(in alloc; "query at {at} ago {ago} from {addr} {port} by {protocol}")
+}
+
+/// Puts what a query asked after a text.
+fn push_question(
+    alloc: Global,
+    line: &mut String,
+    question: Option<&Question>,
+) -> Result<(), AllocError> {
+    let Some(question) = question else {
+        return line.push_str(" name - type -");
+    };
+    line.push_str(" name ")?;
+    push_labels(alloc, line, question)?;
+    line.push_str(" type ")?;
+    line.push_str(type_word(alloc, question.qtype())?.as_str())
+}
+
+/// Puts what a query was answered with after a text, with the rule that dropped or answered it.
+fn push_answer(alloc: Global, line: &mut String, record: &Record) -> Result<(), AllocError> {
+    line.push_str(" answer ")?;
+    line.push_str(answer_word(record.why))?;
+    let Some(rule) = record.rule else {
+        return Ok(());
+    };
+    line.push_str(" rule ")?;
+    push_number(alloc, line, rule.0)
 }
 
 /// The name of an answer's reason, as `counters` has it.
@@ -277,6 +294,7 @@ fn push_server(
     told: &Told,
     server: ServerId,
 ) -> Result<(), AllocError> {
+    text.push_str(" server ")?;
     for backend in &told.servers {
         if backend.loaded.server.id == server {
             return text.push_str(backend.loaded.server.name.as_str());

@@ -7,15 +7,12 @@ use crate::texts::pool_of;
 use crate::told::{Backend, Store, Told, look, rule_at};
 use lb_chain::Rule;
 use lb_command::Listener;
-use lb_core::{CheckSpec, Command, StatedRule, Timeout};
+use lb_core::{CheckSpec, Command, FIRST_TIMEOUT, StatedRule, Timeout};
 use lb_desk::{Desk, Naming};
 use lb_servers::{Mode, Policy, Pool, PoolName, PoolNames, ServerSpec};
 use lb_typed::command_line;
 use std::alloc::{AllocError, Global};
 use std::sync::Wait;
-
-/// How long a query waits at first, in milliseconds.
-const FIRST_TIMEOUT: u32 = 2000;
 
 /// The commands that give from an empty balancer what stands now, but for numbers, after the lines
 /// of the setup file that listen and state the log's limit. What a command would say anyway is left

@@ -4,15 +4,10 @@ use lb_cache::{MaxEntries, MaxTtl, Shards, Shelf, Skips};
 use lb_chain::Rule;
 use lb_core::{Balancer, CacheCounts, Check, Counts, ServerCounts, Tally, Totals};
 use lb_desk::{Desk, Naming};
-use lb_servers::{Loaded, Pool};
+use lb_servers::{Loaded, MAX_POOLS, MAX_SERVERS, Pool};
 use lb_wire::{CacheId, RuleId};
 use std::alloc::{AllocError, Global};
 use std::sync::Wait;
-
-/// The most servers, and the most pools, each of which has one cache at most.
-const SERVERS: usize = 256;
-
-const POOLS: usize = 64;
 
 /// A server (backend), with its health check and its counts.
 #[derive(Debug, Drop)]
@@ -59,9 +54,10 @@ pub(crate) fn look<R: Wait, J: Naming>(
     alloc: Global,
     desk: &Desk<J>,
 ) -> Result<Told, AllocError> {
-    let servers = Vec::with_capacity(alloc, SERVERS)?;
-    let pools = Vec::with_capacity(alloc, POOLS)?;
-    let caches = Vec::with_capacity(alloc, POOLS)?;
+    let servers = Vec::with_capacity(alloc, MAX_SERVERS)?;
+    let pools = Vec::with_capacity(alloc, MAX_POOLS)?;
+    // a pool has one cache at most
+    let caches = Vec::with_capacity(alloc, MAX_POOLS)?;
     desk.read(
         rt,
         |balancer, tally| copied(balancer, tally, servers, pools, caches),

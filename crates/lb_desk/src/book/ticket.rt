@@ -7,7 +7,7 @@ ghost use Rattle.lb_desk.specs.Entry.{receipt};
 ghost use Rattle.lb_desk.specs.Book.{ticket_of};
 
 use crate::entry::Receipt;
-use crate::spare::Room;
+use crate::spare::AnswerRoom;
 use lb_core::{Answer, Event};
 use std::alloc::{AllocError, Global};
 
@@ -56,7 +56,7 @@ impl Answered {
 #[derive(Drop)]
 pub struct Receipts {
     pub(crate) kept: Vec<Receipt>,
-    pub(crate) room: Option<Room>,
+    pub(crate) room: Option<AnswerRoom>,
     ghost roomy: { ForSome room (λ _. vec_len kept < vec_capacity kept) },
 }
 
@@ -86,7 +86,7 @@ impl Receipts {
     {
         if self.room.is_none() {
             self.kept.reserve(1)?;
-            self.room = Some(Room::take(alloc)?);
+            self.room = Some(AnswerRoom::take(alloc)?);
         }
         Ok(())
     }

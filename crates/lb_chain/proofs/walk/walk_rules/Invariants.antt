@@ -9,8 +9,8 @@ abbrev pub invariant-rules : goal.invariant-rules
 invariant-rules l =
     (l.ahead.at ≤ length l.rules)
     × (length l.walked.passes + limiters_in (drop l.ahead.at l.rules) ≤ 16)
-    × (with_before l.walked.no_recurse l.walked.skip_cache l.walked.passes l.walked.tests (walk_of (drop l.ahead.at l.rules) l.view l.addr l.kind l.now) ≡ walk_of l.rules l.view l.addr l.kind l.now)
-    × IsAhead l.offers l.view l.addr l.ahead
+    × (with_before l.walked.no_recurse l.walked.skip_cache l.walked.passes l.walked.tests (walk_of (drop l.ahead.at l.rules) l.arrival.view.now l.arrival.addr.now l.arrival.kind l.arrival.moment) ≡ walk_of l.rules l.arrival.view.now l.arrival.addr.now l.arrival.kind l.arrival.moment)
+    × IsAhead l.offers l.arrival.view.now l.arrival.addr.now l.ahead
     × (l.walked.tests ≤ l.ahead.at)
     × (l.walked.rule ≡ None)
     × (l.walked.verdict ≡ Allow)

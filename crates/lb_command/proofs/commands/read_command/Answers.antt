@@ -1,5 +1,5 @@
 use Rattle.std.proofs.Common.{Ok, Err, rules}
-use Rattle.lb_core.specs.declared.command.Command.{Command}
+use Rattle.lb_step.specs.declared.command.Command.{Command}
 use Rattle.lb_command.specs.Reading.{Answers}
 use Rattle.lb_command.specs.Commands.{command_of}
 use Rattle.lb_command.specs.Grammar.{IsCommand}

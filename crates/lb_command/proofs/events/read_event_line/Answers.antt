@@ -1,5 +1,5 @@
 use Rattle.std.proofs.Common.{Ok, Err, rules}
-use Rattle.lb_core.specs.declared.event.Event.{Event}
+use Rattle.lb_step.specs.declared.event.Event.{Event}
 use Rattle.lb_command.specs.Reading.{Answers}
 use Rattle.lb_command.specs.Events.{event_of}
 use Rattle.lb_command.specs.Grammar.{IsEvent}

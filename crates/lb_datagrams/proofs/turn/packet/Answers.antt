@@ -1,5 +1,5 @@
 use Rattle.std.proofs.Common.{rules, ◌≡◌, false, Some, refl, sym, subst}
-use Rattle.lb_core.specs.declared.event.Event.TheVariants.{Query, Reply}
+use Rattle.lb_step.specs.declared.event.Event.TheVariants.{Query, Reply}
 use Rattle.lb_datagrams.proofs.Handling.{handles, query_of, reply_of}
 use Rattle.lb_lines.specs.Events.{asker, event_of, is_strange, timeless}
 use Rattle.lb_lines.specs.Stamps.{Bears}

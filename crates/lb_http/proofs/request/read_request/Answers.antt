@@ -1,7 +1,19 @@
+use Rattle.std.proofs.Common.{Ok, subst}
+use Rattle.lb_http.specs.Request.{ReadsHead}
+use Rattle.lb_http.specs.declared.request.DohHead.TheVariants as heads
 use Rattle.lb_http.proofs.request.read_request.Goals as goal
 
-pub returns-then-is_post-clause-reads : goal.returns-then-is_post-clause-reads
-returns-then-is_post-clause-reads c = rw (c.if-is_post.ensures, c.if-not-is_the_path.ensures) (c.read_post.ensures.reads c.args.query.now)
+pub returns-in-Ok-clause-reads : goal.returns-in-Ok-clause-reads
+returns-in-Ok-clause-reads c =
+    let is : ReadsHead c.args.method.now c.args.path.now c.args.query.now c.args.media.now (Ok heads.Body) =
+    subst (λ head. ReadsHead c.args.method.now c.args.path.now c.args.query.now c.args.media.now (Ok head)) c.in-Ok-Body.field-0-is c.in-Ok-Body.ensures in
+    rw (is.1, is.0, c.into_vec-in-Ok.ensures.octets) (c.in-Ok.ensures c.args.query.now c.args.media.now is.2)
 
-pub returns-then-is_get-clause-reads : goal.returns-then-is_get-clause-reads
-returns-then-is_get-clause-reads c = rw (c.if-is_get.ensures, c.if-not-is_the_path.ensures) (c.read_get.ensures.reads c.args.media.now c.args.body)
+pub returns-in-Err-read_body-clause-reads : goal.returns-in-Err-read_body-clause-reads
+returns-in-Err-read_body-clause-reads c =
+    let is : ReadsHead c.args.method.now c.args.path.now c.args.query.now c.args.media.now (Ok heads.Body) =
+    subst (λ head. ReadsHead c.args.method.now c.args.path.now c.args.query.now c.args.media.now (Ok head)) c.in-Ok-Body.field-0-is c.in-Ok-Body.ensures in
+    rw (is.1, is.0) (c.in-Err-read_body.ensures c.args.query.now c.args.media.now is.2)
+
+pub returns-in-Err-clause-reads : goal.returns-in-Err-clause-reads
+returns-in-Err-clause-reads c = c.in-Err.ensures c.args.body

@@ -1,4 +1,4 @@
-use Rattle.lb_core.specs.Snapshot.{snapshot_of}
+use Rattle.lb_step.specs.Snapshot.{snapshot_of}
 use Rattle.lb_loops_tests.proofs.rounds.go_round.Given as goal
 
 abbrev pub ghosts-gone_round-J-Ledger : goal.ghosts-gone_round-J-Ledger

@@ -1,5 +1,5 @@
 use Rattle.std.proofs.Common.{◌≡◌, map, take}
-use Rattle.lb_core.specs.Upstream.{server_of}
+use Rattle.lb_step.specs.Upstream.{server_of}
 use Rattle.lb_servers.specs.declared.server.Loaded.{Loaded}
 use Rattle.lb_program.specs.Servers.{placed}
 use Rattle.lb_program.proofs.servers.all_placed.Given as goal

@@ -1,7 +1,7 @@
 use Rattle.std.proofs.Common.{List, map, ap, ◌∙◌}
 use Rattle.std.proofs.lemmas.Result.{IfOk-weaker}
-use Rattle.lb_core.specs.Upstream.{server_of}
-use Rattle.lb_core.specs.declared.check.Check.{Check}
+use Rattle.lb_step.specs.Upstream.{server_of}
+use Rattle.lb_step.specs.declared.check.Check.{Check}
 use Rattle.lb_servers.specs.declared.server.Loaded.{Loaded}
 use Rattle.lb_program.specs.Servers.{placed}
 use Rattle.lb_program.proofs.ServerLists.{made_of_each}

@@ -1,4 +1,4 @@
-use Rattle.lb_core.specs.Snapshot.{snapshot_of}
+use Rattle.lb_step.specs.Snapshot.{snapshot_of}
 use Rattle.lb_scenes.proofs.desk.play_at_desk.Given as goal
 
 abbrev pub ghosts-play_at-J-Ledger : goal.ghosts-play_at-J-Ledger

@@ -1,4 +1,4 @@
-use Rattle.lb_core.specs.Snapshot.{snapshot_of}
+use Rattle.lb_step.specs.Snapshot.{snapshot_of}
 use Rattle.lb_serve.proofs.Outputs.{served_nothing}
 use Rattle.lb_serve.proofs.serving.serve_by.Goals as goal
 

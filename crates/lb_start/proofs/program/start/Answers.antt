@@ -6,7 +6,7 @@ pub returns-in-Ok-clause-asked : goal.returns-in-Ok-clause-asked
 returns-in-Ok-clause-asked g c =
     let same : c.as_slice.result.now ≡ c.in-Ok.words.items = search rules in
     let does = rw same at c.run.ensures in
-    rw c.in-Ok.is (does.0, c.run.result.told, does.1, does.2)
+    rw c.in-Ok.is (c.run.result.told, does)
 
 pub returns-in-Err-clause-unasked : goal.returns-in-Err-clause-unasked
 returns-in-Err-clause-unasked g c =

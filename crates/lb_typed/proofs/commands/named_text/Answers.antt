@@ -1,6 +1,6 @@
 use Rattle.std.proofs.Common.{◌≡◌, ◌≤◌, ◌∙◌, length, List, ℕ, [], ◌∷◌, ◌++◌, string_bytes, codes, subst, sym, ap, arith}
 use Rattle.std.specs.Fmt.{decimal}
-use Rattle.lb_core.specs.declared.command.Command.TheVariants as commands
+use Rattle.lb_step.specs.declared.command.Command.TheVariants as commands
 use Rattle.lb_command.specs.Grammar.{◌▷◌, IsCommand, action, comma_list, command, covered, says, skips, term}
 use Rattle.lb_command.specs.Reading.{max_line}
 use Rattle.lb_command.specs.Values.{word_number}

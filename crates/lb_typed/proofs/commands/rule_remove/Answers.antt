@@ -1,6 +1,6 @@
 use Rattle.std.proofs.Common.{◌≡◌, ◌∙◌, List, ℕ, [], ◌∷◌, ◌++◌, string_bytes, codes, subst, sym, ap, arith}
 use Rattle.std.specs.Fmt.{decimal}
-use Rattle.lb_core.specs.declared.command.Command.TheVariants as commands
+use Rattle.lb_step.specs.declared.command.Command.TheVariants as commands
 use Rattle.lb_command.specs.Grammar.{◌▷◌, action, command, term}
 use Rattle.lb_typed.specs.Pieces.{Spells}
 use Rattle.lb_typed.specs.Typed.{CanBeTyped, HasTypedNames, IsTypedAction}

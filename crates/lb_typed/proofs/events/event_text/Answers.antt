@@ -1,6 +1,6 @@
 use Rattle.std.proofs.Common.{◌≡◌, ◌≤◌, ◌<◌, ◌∙◌, length, List, ℕ, [], ◌∷◌, ◌++◌, string_bytes, codes, subst, sym, ap, arith}
 use Rattle.std.specs.Fmt.{decimal}
-use Rattle.lb_core.specs.declared.event.Event.TheVariants as events
+use Rattle.lb_step.specs.declared.event.Event.TheVariants as events
 use Rattle.lb_command.specs.Answers.{hex_text}
 use Rattle.lb_command.specs.Events.{told_origin}
 use Rattle.lb_command.specs.Grammar.{IsEvent, event}

@@ -29,7 +29,7 @@ returns-in-Some-Stream g c =
     let new : World = record { probes = i.probes; given = g.S.Datagrams.given i.sockets; taken = g.S.Datagrams.taken i.sockets; there = listened (g.S.Datagrams.listens i.sockets); failures = g.S.Datagrams.failures i.sockets; outbox = s.new.outbox; fronts = i.fronts.items; handed = g.P.Posts.handed i.posts; answered = g.T.Taker.answered i.taker; pairs = g.T.Taker.pairs i.taker; said = g.O.Outside.said i.outside; outside = g.O.Outside.failures i.outside; reads = g.S.Datagrams.reads i.sockets } in
     let front : slice_get old.fronts c.args.origin.front ≡ Some fronts.Stream = sym (ap (λ fs. slice_get fs c.args.origin.front) c.as_slice.ensures.value) ∙ sym c.front_of.ensures ∙ c.in-Some-Stream.is ∙ ap (λ (f : Front). Some f) c.in-Some-Stream.field-0-is in
     subst (λ (z : World). Sends z new (Some (Client c.args.origin, c.args.bytes.now)) s.result) c.self.view_is
-    (sends_job old new c.args.origin c.args.bytes.now s.result front s.ensures.comes s.ensures.sent s.ensures.apart.0 s.ensures.apart.1 s.ensures.apart.2 refl)
+    (sends_job old new c.args.origin c.args.bytes.now s.result front s.ensures.comes s.ensures.sent s.ensures.apart.0 s.ensures.apart.1 s.ensures.device refl)
 
 pub returns-in-Some-Http : goal.returns-in-Some-Http
 returns-in-Some-Http g c =
@@ -39,4 +39,4 @@ returns-in-Some-Http g c =
     let new : World = record { probes = i.probes; given = g.S.Datagrams.given i.sockets; taken = g.S.Datagrams.taken i.sockets; there = listened (g.S.Datagrams.listens i.sockets); failures = g.S.Datagrams.failures i.sockets; outbox = i.sender; fronts = i.fronts.items; handed = g.P.Posts.handed s.new.posts; answered = g.T.Taker.answered i.taker; pairs = g.T.Taker.pairs i.taker; said = g.O.Outside.said i.outside; outside = g.O.Outside.failures i.outside; reads = g.S.Datagrams.reads i.sockets } in
     let front : slice_get old.fronts c.args.origin.front ≡ Some fronts.Http = sym (ap (λ fs. slice_get fs c.args.origin.front) c.as_slice.ensures.value) ∙ sym c.front_of.ensures ∙ c.in-Some-Http.is ∙ ap (λ (f : Front). Some f) c.in-Some-Http.field-0-is in
     subst (λ (z : World). Sends z new (Some (Client c.args.origin, c.args.bytes.now)) s.result) c.self.view_is
-    (sends_post old new c.args.origin c.args.bytes.now s.result front s.ensures.comes s.ensures.handed s.ensures.apart.0 s.ensures.apart.1 s.ensures.apart.2 refl)
+    (sends_post old new c.args.origin c.args.bytes.now s.result front s.ensures.comes s.ensures.handed s.ensures.apart.0 s.ensures.apart.1 s.ensures.device refl)

@@ -1,7 +1,7 @@
 use Rattle.std.proofs.Common.{List, Some, [], ap, arith, rules, subst, sym, option_map, ◌++◌, ◌+◌, ◌<◌, ◌∙◌, ◌∷◌, ◌≡◌}
 use Rattle.std.proofs.Math.Logic.{∥∥₁_map}
-use Rattle.lb_desk.specs.declared.entry.Entry.{Entry}
-use Rattle.lb_desk.specs.declared.spare.Spare.{Spare}
+use Rattle.lb_desk.specs.declared.entry.LogEntry.{LogEntry}
+use Rattle.lb_desk.specs.declared.spare.EntryRoom.{EntryRoom}
 use Rattle.lb_desk.specs.Book.{Counted, Keeps}
 use Rattle.lb_desk.specs.Entry.{entry}
 use Rattle.lb_desk.proofs.Runs.{counted_grown, keeps_grown, seated_grown}
@@ -13,7 +13,7 @@ invariant_of-self-inside g c =
     let within : b.count < b.limit = subst (λ v. v.count < v.limit) (sym c.self.view_is) c.requires.logs in
     let ready = subst (λ v. v.ready ≡ Some c.args.event) (sym c.self.view_is) c.requires.ready in
     let spare : b.spare ≡ Some c.in-Some.field-0 = sym c.take.ensures.value ∙ c.in-Some.is in
-    let told : Some c.in-Some.field-0.event ≡ Some c.args.event = ap (option_map (λ (s : Spare). s.event)) (sym spare) ∙ ready in
+    let told : Some c.in-Some.field-0.event ≡ Some c.args.event = ap (option_map (λ (s : EntryRoom). s.event)) (sym spare) ∙ ready in
     let event : c.in-Some.field-0.event ≡ c.args.event = search rules in
     let log : c.push_reserved.new.self.items ≡ b.log.items ++ entry c.args.seat c.args.event c.step_counted-answer.result ∷ [] =
     c.push_reserved.ensures.items ∙ ap (λ e. b.log.items ++ e ∷ []) (ap (λ x. entry c.args.seat x c.copied.result) event ∙ ap (entry c.args.seat c.args.event) c.copied.ensures)
@@ -24,7 +24,7 @@ invariant_of-self-inside g c =
     let total = c.count_call.ensures.total in
     let len = c.push_reserved.ensures.len in
     let grown : ∥ Keeps g.J.Naming.opening b.limit (b.count + 1) c.push_reserved.new.self.items c.step_counted-answer.new.self ∥₁ =
-    subst (λ (l : List Entry). ∥ Keeps g.J.Naming.opening b.limit (b.count + 1) l c.step_counted-answer.new.self ∥₁) (sym log)
+    subst (λ (l : List LogEntry). ∥ Keeps g.J.Naming.opening b.limit (b.count + 1) l c.step_counted-answer.new.self ∥₁) (sym log)
     (∥∥₁_map b.told
     (keeps_grown g.J.Naming.opening b.limit b.count b.log.items b.balancer c.step_counted-answer.new.self c.args.seat c.args.event c.step_counted-answer.result within c.step_counted-answer.ensures.answers))
     in

@@ -1,6 +1,6 @@
 use Rattle.std.proofs.Common.{All, List, arith, length, refl, rules, subst, sum_by, sym, ◌∙◌, ◌≡◌, ◌≤◌}
 use Rattle.std.proofs.Math.Logic.{∥∥₁_map}
-use Rattle.lb_desk.specs.declared.entry.Entry.{Entry}
+use Rattle.lb_desk.specs.declared.entry.LogEntry.{LogEntry}
 use Rattle.lb_desk.specs.Entry.{receipts_of}
 use Rattle.lb_desk.specs.Seat.{AreAll, Seated}
 use Rattle.lb_desk.proofs.Runs.{caches_told, differs, hits_told}
@@ -46,7 +46,7 @@ returns-clause-receipts g c =
     let same : c.log.result.now ≡ log = c.log.ensures ∙ sym c.closed.ensures.log in
     let agree : All (λ (s : Seated). s.receipts ≡ receipts_of s.number c.log.result.now) c.as_slice-3.result.now = c.if-not-all_agree.ensures.equal refl in
     subst (λ (those : List Seated). All (λ (s : Seated). s.receipts ≡ receipts_of s.number log) those) c.as_slice-3.ensures.value
-    (subst (λ (entries : List Entry). All (λ (s : Seated). s.receipts ≡ receipts_of s.number entries) c.as_slice-3.result.now) same agree)
+    (subst (λ (entries : List LogEntry). All (λ (s : Seated). s.receipts ≡ receipts_of s.number entries) c.as_slice-3.result.now) same agree)
 
 pub returns-clause-whole : goal.returns-clause-whole
 returns-clause-whole g c within =
@@ -59,7 +59,7 @@ returns-clause-whole g c within =
     let agree : All (λ (s : Seated). s.receipts ≡ receipts_of s.number c.log.result.now) c.as_slice-3.result.now = c.if-not-all_agree.ensures.equal refl in
     let kept : All (λ (s : Seated). s.receipts ≡ receipts_of s.number log) seats =
     subst (λ (those : List Seated). All (λ (s : Seated). s.receipts ≡ receipts_of s.number log) those) c.as_slice-3.ensures.value
-    (subst (λ (entries : List Entry). All (λ (s : Seated). s.receipts ≡ receipts_of s.number entries) c.as_slice-3.result.now) same agree) in
+    (subst (λ (entries : List LogEntry). All (λ (s : Seated). s.receipts ≡ receipts_of s.number entries) c.as_slice-3.result.now) same agree) in
     let filled = c.closed.ensures.filled in
     let count = c.closed.ensures.count in
     let amount = c.gathered.ensures.amount in

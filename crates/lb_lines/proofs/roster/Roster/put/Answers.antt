@@ -9,8 +9,8 @@ use Rattle.lb_lines.proofs.roster.Roster.put.Goals as goal
 pub invariant_of-self-inside : goal.invariant_of-self-inside
 invariant_of-self-inside c = (search rules, (search rules, (∥∥₁_map c.self.inside.apart (λ all. subst AreApart (sym c.take_out.ensures.items) (apart_out _ _ all)), tt)))
 
-pub returns-then-len-eq-ROOM-clause-same : goal.returns-then-len-eq-ROOM-clause-same
-returns-then-len-eq-ROOM-clause-same c =
+pub returns-then-len-eq-MAX_SERVERS-clause-same : goal.returns-then-len-eq-MAX_SERVERS-clause-same
+returns-then-len-eq-MAX_SERVERS-clause-same c =
     let same : c.take_out.new.listed.items ≡ c.self.inside.listed.items = c.take_out.ensures.items ∙ whole _ _ (search rules) in
     ap (λ (l : List Listed). record { version = c.self.inside.version; listed = l }) same ∙ c.self.view_is
 

@@ -1,6 +1,6 @@
 use Rattle.std.proofs.Common.{◌-◌, ◌^◌, List}
 use Rattle.std.specs.Io.Buffered.{reader_remaining}
-use Rattle.lb_core.specs.declared.event.Event.{Event}
+use Rattle.lb_step.specs.declared.event.Event.{Event}
 use Rattle.lb_program.specs.Replaying.{Answered}
 use Rattle.lb_program.proofs.Readings.{ReadSoFar}
 use Rattle.lb_program.proofs.replaying.Player.answer_lines.Given as goal

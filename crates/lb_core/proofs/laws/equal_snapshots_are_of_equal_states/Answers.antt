@@ -1,5 +1,0 @@
-use Rattle.lb_core.proofs.Snapshots.{equal_states}
-use Rattle.lb_core.proofs.laws.equal_snapshots_are_of_equal_states.Goals as goal
-
-pub returns : goal.returns
-returns c = equal_states c.listed_alike_seen_alike.ensures

@@ -1,5 +1,0 @@
-use Rattle.lb_core.proofs.Refusals.{refusals}
-use Rattle.lb_core.proofs.laws.refusals_change_nothing.Goals as goal
-
-pub returns : goal.returns
-returns c = refusals c.seen_twice.ensures

@@ -1,5 +1,0 @@
-use Rattle.lb_core.proofs.Following.{routes_follow}
-use Rattle.lb_core.proofs.laws.routes_follow.Goals as goal
-
-pub returns : goal.returns
-returns c = routes_follow c.seen_twice.ensures

@@ -1,5 +1,0 @@
-use Rattle.std.proofs.Common.{◌≡◌, take}
-use Rattle.lb_core.proofs.upstream.list_checks.Given as goal
-
-abbrev pub invariant-loop-check : goal.invariant-loop-check
-invariant-loop-check l = l.list.items ≡ take l.check-index l.checks

@@ -1,6 +1,0 @@
-use Rattle.std.proofs.Common.{◌≡◌, map, take}
-use Rattle.lb_core.specs.Upstream.{server_of}
-use Rattle.lb_core.proofs.upstream.list_servers.Given as goal
-
-abbrev pub invariant-loop-one : goal.invariant-loop-one
-invariant-loop-one l = l.list.items ≡ map server_of (take l.one-index l.loaded)

@@ -1,8 +1,0 @@
-use Rattle.std.proofs.Common.{◌≤◌}
-use Rattle.lb_loops.specs.Running.{ReceivesOn}
-use Rattle.lb_loops.proofs.running.all_streams.Given as goal
-
-abbrev pub invariant-loop : goal.invariant-loop
-invariant-loop g l =
-    (goal.iterator-loop g).can_next l.iterator' × (goal.iterator-loop g).is_finite l.iterator'
-    × (l.fn.part.answered ≤ l.part.answered) × ReceivesOn l.fn.part.jobs l.part.jobs
