@@ -398,7 +398,7 @@ fn count_call<J: Naming>(count: &mut u64, calls: &mut ledger::Book<J>, share: &m
     *count += 1;
 }
 
-/// AnswerRoom for one more entry of a log.
+/// Room for one more entry of a log.
 fn room_for(alloc: Global, log: &mut Vec<LogEntry>, event: &Event) -> Result<EntryRoom, AllocError>
     ensures spare { IfOk result (λ spare. spare.event ≡ event.now) }
     ensures room { OnOk result (vec_len log.new < vec_capacity log.new) }
