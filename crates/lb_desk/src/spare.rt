@@ -1,4 +1,4 @@
-//! AnswerRoom for the copies of a call, taken before it.
+//! Room for the copies of a call, taken before it.
 
 ghost use Rattle.std.specs.Prelude.{IfOk, vec_capacity, vec_len, ◌≡◌, ◌≤◌};
 ghost use Rattle.lb_wire.specs.Octets.{max_message};
@@ -7,7 +7,7 @@ use lb_core::{Answer, Event};
 use lb_wire::MAX_MESSAGE;
 use std::alloc::{AllocError, Global};
 
-/// AnswerRoom for the octets of any answer.
+/// Room for the octets of any answer.
 #[derive(Debug, Drop)]
 pub(crate) struct AnswerRoom {
     octets: Vec<u8>,
