@@ -14,8 +14,8 @@ use Rattle.lb_start.specs.declared.program.Mode.{Mode}
 use Rattle.lb_start.specs.declared.program.Mode.TheVariants.{Serve, Check, Replay}
 
 -- the text of each word, as octets
-abbrev pub texts_of : List String → List (List ℕ)
-texts_of = map string_bytes
+abbrev pub texts_of : {A : Type 0} → List (String A) → List (List ℕ)
+texts_of words = map string_bytes words
 
 -- these words ask for nothing that there is
 abbrev pub AsksNothing : List (List ℕ) → Type 0
