@@ -13,11 +13,11 @@ ghost use Rattle.lb_lines.specs.declared.report.Way.TheVariants as ways;
 ghost use Rattle.lb_lines.specs.declared.roster.Listed.{Listed};
 
 use crate::clock::ClockLoop;
-use lb_core::{Answer, Event};
+use lb_core::Answer;
 use lb_health::probe;
 use lb_lines::{
-    Datagrams, End, Endpoint, Front, Line, Outcome, Outside, Posts, Sending, Socket, Taker, Way,
-    Why, letter_of,
+    Datagrams, End, Endpoint, Front, Line, Outcome, Outside, Posts, Reported, Sending, Socket,
+    Taker, Way, Why, letter_of,
 };
 use lb_outbox::{Job, Sender};
 use lb_wire::{Octets, Origin, ServerId};
@@ -30,7 +30,7 @@ impl<S: Datagrams, P: Posts, T: Taker, O: Outside> ClockLoop<S, P, T, O> {
     pub(crate) fn send_outcome<R: Wait>(
         &mut self,
         rt: &R,
-        event: &Event,
+        event: &Reported,
         outcome: &Outcome,
     ) -> Sending
         ensures { Sends self.old self.new (outcome_letter event.now outcome.now) result }

@@ -15,8 +15,8 @@ use crate::clock::ClockLoop;
 use crate::news::News;
 use crate::sending::send_probe;
 use lb_lines::{
-    Datagram, Datagrams, Gate, Line, Outcome, Outside, Posts, Received, Rooms, Roster, Sending,
-    Taker, outcome_of,
+    Datagram, Datagrams, Gate, Line, Outcome, Outside, Posts, Received, Reported, Rooms, Roster,
+    Sending, Taker, outcome_of,
 };
 use lb_probes::{Answered, Due, Waits, Watched};
 use std::sync::Wait;
@@ -126,9 +126,9 @@ impl<S: Datagrams, P: Posts, T: Taker, O: Outside> ClockLoop<S, P, T, O> {
         if !gate.pass(&event) {
             return None;
         }
+        let reported = Reported::of(&event);
         let outcome = outcome_of(&mut self.taker, event);
-        let event = news.event(now);
-        let sending = self.send_outcome(rt, &event, &outcome);
+        let sending = self.send_outcome(rt, &reported, &outcome);
         Some(Told { outcome, sending })
     }
 }
@@ -137,7 +137,8 @@ impl<S: Datagrams, P: Posts, T: Taker, O: Outside> ClockLoop<S, P, T, O> {
 pub(crate) fn line_of(news: News, now: u64, told: Told) -> Line
     ensures { result ≡ lines.Event (source_told news) (event_told news now) told.outcome told.sending }
 {
-    Line::Event(news.source(), news.event(now), told.outcome, told.sending)
+    let event = Reported::of(&news.event(now));
+    Line::Event(news.source(), event, told.outcome, told.sending)
 }
 
 /// Whether a message was sent.

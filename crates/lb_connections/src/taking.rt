@@ -11,18 +11,17 @@ use lb_lines::Peer;
 use lb_wire::Octets;
 use std::alloc::{AllocError, Global};
 
-/// The first message of a connection, twice, and who is at its other end.
+/// The first message of a connection, and who is at its other end.
 #[derive(Drop)]
 pub struct First {
     pub peer: Peer,
     pub message: Message,
-    pub copy: Message,
 }
 
 impl Connections {
     /// The first whole message of a connection. The one error is want of memory.
     pub fn first_of(&self, alloc: Global, number: u64) -> Result<Option<First>, AllocError>
-        ensures some { IfOk result (λ found. IfSome found (λ first. IsFirst number first.peer first.message self.now × (first.copy ≡ first.message))) }
+        ensures some { IfOk result (λ found. IfSome found (λ first. IsFirst number first.peer first.message self.now)) }
         ensures none { IfOk result (λ found. IfNone found (HasNone number self.now)) }
     {
         if number > self.last {
@@ -37,11 +36,9 @@ impl Connections {
         let Some(message) = connection.incoming.first(alloc)? else {
             return Ok(None);
         };
-        let copy = message.copy(alloc)?;
         Ok(Some(First {
             peer: connection.peer,
             message,
-            copy,
         }))
     }
 

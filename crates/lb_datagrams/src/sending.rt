@@ -9,10 +9,9 @@ ghost use Rattle.lb_lines.specs.Ways.{packet_in, packets, sending_of};
 ghost use Rattle.lb_lines.specs.declared.report.DeviceFault.TheVariants as devices;
 ghost use Rattle.lb_lines.specs.declared.letter.End.TheVariants.{Client, Server};
 
-use lb_core::Event;
 use lb_lines::{
-    Datagrams, DeviceFault, End, Endpoint, Line, Outcome, Roster, Sending, Socket, Way, Why,
-    fault_in, first_fault, letter_of,
+    Datagrams, DeviceFault, End, Endpoint, Line, Outcome, Reported, Roster, Sending, Socket, Way,
+    Why, fault_in, first_fault, letter_of,
 };
 use lb_wire::{Kind, Lane, Octets, Origin, ServerId};
 
@@ -55,7 +54,7 @@ fn send_line<S: Datagrams>(sockets: &mut S, roster: &Roster, line: &mut Line)
 fn send_outcome<S: Datagrams>(
     sockets: &mut S,
     roster: &Roster,
-    event: &Event,
+    event: &Reported,
     outcome: &Outcome,
 ) -> Sending
     ensures comes { Comes roster.now.listed (hears (listened (S.listens sockets.old))) (outcome_letter event.now outcome.now) result }

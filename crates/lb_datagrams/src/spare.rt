@@ -1,24 +1,20 @@
 //! Room that a loop keeps from turn to turn.
 
-ghost use Rattle.std.specs.Prelude.{[], OnOk, vec_capacity, vec_len, ◌≡◌, ◌≤◌};
-ghost use Rattle.lb_wire.specs.Octets.{max_message};
+ghost use Rattle.std.specs.Prelude.{[], vec_capacity, vec_len, ◌≡◌};
 
-use lb_core::{Answer, Event};
+use lb_core::Answer;
 use lb_lines::{Line, Outcome, Rooms};
-use lb_wire::{MAX_MESSAGE, Octets};
-use std::alloc::{AllocError, Global};
+use lb_wire::Octets;
+use std::alloc::Global;
 use std::mem;
 
-/// Room for the copy of a datagram's octets and for the lines of a report, which a loop keeps from
-/// turn to turn. A turn takes what is missing before it reads: the first is used if a copy gets no
-/// block of its own, the second goes with the report. The blocks of octets that a report had are
-/// kept for those of the next one.
+/// Room for the lines of a report, which a loop keeps from turn to turn. A turn takes what is
+/// missing before it reads. The blocks of octets that a report had are kept for the datagrams of
+/// the next turn.
 #[derive(Drop)]
 pub(crate) struct Spare {
-    room: Vec<u8>,
     pub(crate) rooms: Rooms,
     lines: Vec<Line>,
-    ghost empty: { vec_len room ≡ 0 },
     ghost blank: { (lines.items ≡ []) × (vec_len lines ≡ 0) },
 }
 
@@ -26,30 +22,8 @@ impl Spare {
     /// No room yet. It takes no memory.
     pub(crate) fn new(alloc: Global) -> Spare {
         Spare {
-            room: Vec::new(alloc),
             rooms: Rooms::new(alloc),
             lines: Vec::new(alloc),
-        }
-    }
-
-    /// Takes room for a copy of any message.
-    pub(crate) fn prepare(&mut self) -> Result<(), AllocError>
-        ensures { OnOk result (max_message ≤ vec_capacity self.new.room) }
-    {
-        self.room.reserve(MAX_MESSAGE)
-    }
-
-    /// A copy, in a block that is kept or in one of its own. If that is refused, it takes the room.
-    pub(crate) fn copied(&mut self, alloc: Global, bytes: &Octets) -> Octets
-        requires { max_message ≤ vec_capacity self.old.room }
-        ensures { result ≡ bytes.now }
-    {
-        match self.rooms.copied(bytes.as_slice()) {
-            Ok(copy) => copy,
-            Err(refused) => {
-                let room = mem::replace(&mut self.room, Vec::new(alloc));
-                bytes.copy_into(room, refused)
-            }
         }
     }
 
@@ -75,14 +49,9 @@ impl Spare {
 
 /// Keeps the blocks of the octets of a line, which is to go.
 fn keep_blocks(rooms: &mut Rooms, alloc: Global, line: &mut Line) {
-    let Line::Event(_, event, outcome, _) = line else {
+    let Line::Event(_, _, outcome, _) = line else {
         return;
     };
-    match event {
-        Event::Query { bytes, .. } => keep(rooms, alloc, bytes),
-        Event::Reply { bytes, .. } => keep(rooms, alloc, bytes),
-        _ => {}
-    }
     let Outcome::Answered(answer) = outcome else {
         return;
     };

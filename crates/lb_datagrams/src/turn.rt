@@ -15,7 +15,7 @@ use crate::datagrams::DatagramLoop;
 use lb_core::Event;
 use lb_lines::{
     Datagram, Datagrams, DeviceFault, Endpoint, Gate, Line, MAX_EVENTS_OF_TURN, Outcome, Outside,
-    Received, Report, Roster, Sending, Socket, Source, Taker, excuse, first_fault,
+    Received, Report, Reported, Roster, Sending, Socket, Source, Taker, excuse, first_fault,
 };
 use lb_wire::{Kind, Lane, Octets, Origin, ServerId};
 use std::alloc::AllocError;
@@ -97,8 +97,8 @@ impl<S: Datagrams, T: Taker, O: Outside> DatagramLoop<S, T, O> {
         report(lines, device, None)
     }
 
-    /// Asks for a moment, reads one datagram, and answers it. Room for it is taken before; refused,
-    /// none was read.
+    /// Asks for a moment, reads one datagram, and answers it. If room for it is refused, none was
+    /// read.
     fn one_round<G: Gate>(&mut self, lines: &mut Vec<Line>, gate: &G) -> Result<Step, AllocError>
         requires place { vec_len lines.old < vec_capacity lines.old }
         ensures turned { IfOk result (λ s. Round self.old self.new lines.old.items lines.new.items (option_to_list s.held) s.device) }
@@ -107,7 +107,6 @@ impl<S: Datagrams, T: Taker, O: Outside> DatagramLoop<S, T, O> {
         ensures len { vec_len lines.new ≤ vec_len lines.old + 1 }
         ensures room { vec_capacity lines.new ≡ vec_capacity lines.old }
     {
-        self.spare.prepare()?;
         let Some((now, word)) = self.outside.ask() else {
             return Ok(no_event(Some(DeviceFault::Outside), true));
         };
@@ -116,9 +115,7 @@ impl<S: Datagrams, T: Taker, O: Outside> DatagramLoop<S, T, O> {
                 if is_stranger(datagram.socket, datagram.peer) {
                     return Ok(no_event(None, false));
                 }
-                let copy = self.spare.copied(self.alloc, &datagram.bytes);
-                let stamp = (now, word);
-                Ok(packet(lines, &mut self.taker, gate, stamp, datagram, copy))
+                Ok(packet(lines, &mut self.taker, gate, (now, word), datagram))
             }
             Received::Nothing => Ok(no_event(None, true)),
             Received::Failed => Ok(no_event(Some(DeviceFault::Sockets), false)),
@@ -157,8 +154,7 @@ fn no_event(device: Option<DeviceFault>, is_last: bool) -> Step
     }
 }
 
-/// Has one datagram answered, which was read at this moment, with this word. The line has an event
-/// of the copy.
+/// Has one datagram answered, which was read at this moment, with this word.
 #[inline(always)]
 fn packet<T: Taker, G: Gate>(
     lines: &mut Vec<Line>,
@@ -166,10 +162,8 @@ fn packet<T: Taker, G: Gate>(
     gate: &G,
     stamp: (u64, u16),
     datagram: Datagram,
-    copy: Octets,
 ) -> Step
     requires known { is_strange datagram.socket datagram.peer ≡ false }
-    requires copy { copy ≡ datagram.bytes }
     requires place { vec_len lines.old < vec_capacity lines.old }
     ensures handled { Handles datagram (stamp.0, stamp.1) lines.old.items lines.new.items (T.answered taker.old) (T.answered taker.new) (T.pairs taker.old) (T.pairs taker.new) result.held }
     ensures device { result.device ≡ None }
@@ -186,27 +180,18 @@ fn packet<T: Taker, G: Gate>(
     match socket {
         Socket::Listener(front) => {
             let event = query_made(now, word, front, peer, bytes);
-            let told = query_made(now, word, front, peer, copy);
-            handled(lines, taker, gate, event, told)
+            handled(lines, taker, gate, event)
         }
         Socket::Server(server, number, _) => {
             let event = reply_made(now, server, number, bytes);
-            let told = reply_made(now, server, number, copy);
-            handled(lines, taker, gate, event, told)
+            handled(lines, taker, gate, event)
         }
     }
 }
 
 /// Has an event answered, unless the gate holds it.
 #[inline(always)]
-fn handled<T: Taker, G: Gate>(
-    lines: &mut Vec<Line>,
-    taker: &mut T,
-    gate: &G,
-    event: Event,
-    told: Event,
-) -> Step
-    requires told { told ≡ event }
+fn handled<T: Taker, G: Gate>(lines: &mut Vec<Line>, taker: &mut T, gate: &G, event: Event) -> Step
     requires place { vec_len lines.old < vec_capacity lines.old }
     ensures led { Leads event result.held lines.old.items lines.new.items (T.answered taker.old) (T.answered taker.new) (T.pairs taker.old) (T.pairs taker.new) }
     ensures device { result.device ≡ None }
@@ -221,34 +206,34 @@ fn handled<T: Taker, G: Gate>(
             is_last: true,
         };
     }
-    answered(lines, taker, event, told);
+    answered(lines, taker, event);
     no_event(None, false)
 }
 
-/// Hands an event to the desk. The line has an equal event; its send is to come.
+/// Hands an event to the desk. The line tells of it; its send is to come.
 #[inline(always)]
-fn answered<T: Taker>(lines: &mut Vec<Line>, taker: &mut T, event: Event, told: Event)
-    requires told { told ≡ event }
+fn answered<T: Taker>(lines: &mut Vec<Line>, taker: &mut T, event: Event)
     requires place { vec_len lines.old < vec_capacity lines.old }
     ensures asked { Asks event lines.old.items lines.new.items (T.answered taker.old) (T.answered taker.new) (T.pairs taker.old) (T.pairs taker.new) }
     ensures len { vec_len lines.new ≤ vec_len lines.old + 1 }
     ensures room { vec_capacity lines.new ≡ vec_capacity lines.old }
 {
+    let reported = Reported::of(&event);
     match taker.take(event) {
-        Ok(answer) => add(lines, told, Outcome::Answered(answer)),
-        Err((fault, event)) => add(lines, told, Outcome::Fault(fault, excuse(event))),
+        Ok(answer) => add(lines, reported, Outcome::Answered(answer)),
+        Err((fault, event)) => add(lines, reported, Outcome::Fault(fault, excuse(event))),
     }
 }
 
 /// Puts a line after the others, for which room was taken. Its send is to come.
 #[inline(always)]
-fn add(lines: &mut Vec<Line>, told: Event, outcome: Outcome)
+fn add(lines: &mut Vec<Line>, event: Reported, outcome: Outcome)
     requires place { vec_len lines.old < vec_capacity lines.old }
-    ensures put { lines.new.items ≡ lines.old.items ++ asked_line told outcome ∷ [] }
+    ensures put { lines.new.items ≡ lines.old.items ++ asked_line event outcome ∷ [] }
     ensures len { vec_len lines.new ≤ vec_len lines.old + 1 }
     ensures room { vec_capacity lines.new ≡ vec_capacity lines.old }
 {
-    let line = Line::Event(Source::Datagrams, told, outcome, Sending::Nothing);
+    let line = Line::Event(Source::Datagrams, event, outcome, Sending::Nothing);
     lines.push_reserved(line);
 }
 

@@ -196,7 +196,9 @@ impl<J: Naming> Book<J> {
     {
         let place = self.count;
         if place >= self.limit {
-            return (self.take_past(share, event, noted), place);
+            let mut answer = Answer::Quiet;
+            self.take_past(share, event, noted, &mut answer);
+            return (answer, place);
         }
         (self.take_logged(share, seat, event, noted), place)
     }
@@ -277,20 +279,21 @@ impl<J: Naming> Book<J> {
         self.is_full() && self.count < u64::MAX
     }
 
-    /// A call past the log's limit.
+    /// A call past the log's limit. The answer is written where it is to stand.
     #[inline(always)]
     pub(crate) fn take_past(
         &mut self,
         share: &mut Share<J>,
         event: Event,
         noted: &mut Noted,
-    ) -> Answer
+        answer: &mut Answer,
+    )
         requires part { 0 < share.old.parts }
         requires past { self.old.limit ≤ self.old.count }
         requires room { self.old.count < 2 ^ 64 - 1 }
-        ensures step { Answers self.old.balancer event result self.new.balancer }
-        ensures noted { IsNoted self.old.balancer event result noted.new }
-        ensures counts { Counts self.old.balancer event result self.old.tally self.new.tally }
+        ensures step { Answers self.old.balancer event answer.new self.new.balancer }
+        ensures noted { IsNoted self.old.balancer event answer.new noted.new }
+        ensures counts { Counts self.old.balancer event answer.new self.old.tally self.new.tally }
         ensures count { self.new.count ≡ self.old.count + 1 }
         ensures log { self.new.log ≡ self.old.log }
         ensures ready { self.new.ready ≡ self.old.ready }
@@ -306,7 +309,7 @@ impl<J: Naming> Book<J> {
             ..
         } = self;
         count_call(count, calls, share);
-        balancer.step_counted(event, tally, noted)
+        balancer.step_into(event, tally, noted, answer);
     }
 }
 

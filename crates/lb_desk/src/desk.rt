@@ -149,7 +149,34 @@ impl<J: Naming> Desk<J> {
         ensures back { IfErr result (λ fault. fault.1 ≡ event) }
         ensures same { OnErr result (seat.new ≡ seat.old) }
     {
-        self.called(rt, seat, event, self.is_full.load(Ordering::SeqCst), noted)
+        let mut answer = Answer::Quiet;
+        match self.call_into(rt, seat, event, noted, &mut answer) {
+            Ok(()) => Ok(answer),
+            Err(back) => Err(back),
+        }
+    }
+
+    /// The same call, which writes the answer where it is to stand: an answer is large, and each
+    /// function that hands one on copies it. With a refusal nothing is said of what stands there.
+    #[inline(always)]
+    pub fn call_into<R: Wait>(
+        &self,
+        rt: &R,
+        seat: &mut Seat<J>,
+        event: Event,
+        noted: &mut Noted,
+        answer: &mut Answer,
+    ) -> Result<(), (DeskFault, Event)>
+        ensures number { seat.new.number ≡ seat.old.number }
+        ensures calls { OnOk result (seat.new.calls ≡ seat.old.calls + 1) }
+        ensures receipts { OnOk result (ReceiptsAfter J.limit event answer.new seat.old.receipts seat.new.receipts) }
+        ensures noted { OnOk result (IsStep event answer.new noted.new) }
+        ensures full { seat.old.calls ≡ 2 ^ 64 - 1 → IsErrAnd result (λ fault. fault.0 ≡ CountFull) }
+        ensures back { IfErr result (λ fault. fault.1 ≡ event) }
+        ensures same { OnErr result (seat.new ≡ seat.old) }
+    {
+        let is_full = self.is_full.load(Ordering::SeqCst);
+        self.called(BeforeLock { rt, is_full }, seat, event, noted, answer)
     }
 
     /// The same call, and what a reader makes of the balancer and of the answer right after its own
@@ -194,41 +221,53 @@ impl<J: Naming> Desk<J> {
         ensures back { IfErr result (λ fault. fault.1 ≡ event) }
         ensures same { OnErr result (seat.new ≡ seat.old) }
     {
-        let mut noted = Noted::none();
-        self.called(rt, seat, event, is_full, &mut noted)
+        let (mut noted, mut answer) = (Noted::none(), Answer::Quiet);
+        match self.called(
+            BeforeLock { rt, is_full },
+            seat,
+            event,
+            &mut noted,
+            &mut answer,
+        ) {
+            Ok(()) => Ok(answer),
+            Err(back) => Err(back),
+        }
     }
 
     /// A call by a hint, with what its step leaves. Once the log is full and the seat has given back
-    /// its room for a receipt, the answer alone is handed on, and nothing is made or cleared that
-    /// only a logged call has.
+    /// its room for a receipt, the answer alone is written, and nothing is made or cleared that only
+    /// a logged call has.
     #[inline(always)]
     fn called<R: Wait>(
         &self,
-        rt: &R,
+        before: BeforeLock<'_, R>,
         seat: &mut Seat<J>,
         event: Event,
-        is_full: bool,
         noted: &mut Noted,
-    ) -> Result<Answer, (DeskFault, Event)>
+        answer: &mut Answer,
+    ) -> Result<(), (DeskFault, Event)>
         ensures number { seat.new.number ≡ seat.old.number }
         ensures calls { OnOk result (seat.new.calls ≡ seat.old.calls + 1) }
-        ensures receipts { IfOk result (λ answer. ReceiptsAfter J.limit event answer seat.old.receipts seat.new.receipts) }
-        ensures noted { IfOk result (λ answer. IsStep event answer noted.new) }
+        ensures receipts { OnOk result (ReceiptsAfter J.limit event answer.new seat.old.receipts seat.new.receipts) }
+        ensures noted { OnOk result (IsStep event answer.new noted.new) }
         ensures full { seat.old.calls ≡ 2 ^ 64 - 1 → IsErrAnd result (λ fault. fault.0 ≡ CountFull) }
         ensures back { IfErr result (λ fault. fault.1 ≡ event) }
         ensures same { OnErr result (seat.new ≡ seat.old) }
     {
-        if is_full && seat.calls < u64::MAX && !seat.account.receipts.has_room() {
-            let mut guard = self.entered(rt);
+        if before.is_full && seat.calls < u64::MAX && !seat.account.receipts.has_room() {
+            let mut guard = self.entered(before.rt);
             let book = &mut *guard;
             if book.is_past() {
                 seat.calls += 1;
-                return Ok(book.take_past(&mut seat.account.share, event, noted));
+                book.take_past(&mut seat.account.share, event, noted, answer);
+                return Ok(());
             }
         }
-        let before = BeforeLock { rt, is_full };
         match self.called_with_room(before, seat, event, noted, |_balancer, _answer| ()) {
-            Ok((answer, ())) => Ok(answer),
+            Ok((given, ())) => {
+                *answer = given;
+                Ok(())
+            }
             Err(back) => Err(back),
         }
     }

@@ -1,6 +1,7 @@
 -- shared by several files: Counts, Events, Lines, Moves, Stamps, Ways
 pub mod Counts
 pub mod Endpoint
+pub mod Head
 pub mod Letter
 pub mod Events
 pub mod Stamps

@@ -3,7 +3,9 @@
 ghost use Rattle.std.specs.Prelude.{option_map, ◌≡◌};
 ghost use Rattle.lb_lines.specs.Letter.{Excuses, outcome_letter};
 
+use crate::head::Head;
 use crate::report::Outcome;
+use crate::reported::Reported;
 use lb_core::{Answer, Event};
 use lb_wire::{Lane, Octets, Origin, Rcode, ServerId, answer_in_place, read_query};
 
@@ -18,13 +20,13 @@ pub enum End {
 
 /// What is sent for what came of an event, if anything is: whom it goes to, and its octets.
 #[inline(always)]
-pub fn letter_of<'a>(event: &Event, outcome: &'a Outcome) -> Option<(End, &'a Octets)>
+pub fn letter_of<'a>(event: &Reported, outcome: &'a Outcome) -> Option<(End, &'a Octets)>
     ensures { option_map (λ l. (l.0, l.1.now)) result ≡ outcome_letter event.now outcome.now }
 {
     match outcome {
         Outcome::Answered(Answer::Local(bytes, _) | Answer::NoMemory(bytes))
-        | Outcome::Fault(_, Some(bytes)) => match event {
-            Event::Query { origin, .. } => Some((End::Client(*origin), bytes)),
+        | Outcome::Fault(_, Some(bytes)) => match event.head() {
+            Head::Query(origin) => Some((End::Client(origin), bytes)),
             _ => None,
         },
         Outcome::Answered(Answer::Forward(server, lane, _, bytes)) => {

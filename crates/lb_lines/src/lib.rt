@@ -4,11 +4,13 @@
 
 mod answering;
 mod endpoint;
+mod head;
 mod laws;
 mod letter;
 mod limits;
 mod outcome;
 mod report;
+mod reported;
 mod rooms;
 mod roster;
 mod traffic;
@@ -16,11 +18,13 @@ mod traits;
 
 pub use answering::Answering;
 pub use endpoint::Endpoint;
+pub use head::Head;
 pub use laws::one_send_a_line;
 pub use letter::{End, excuse, letter_of};
 pub use limits::{KEPT_AFTER_QUERY, MAX_CLIENTS, MAX_CONNECTIONS, MAX_EVENTS_OF_TURN, SECOND};
 pub use outcome::{add_line, fault_in, first_fault, outcome_of};
 pub use report::{DeviceFault, Line, Outcome, Report, Sending, Source, Way, Why};
+pub use reported::Reported;
 pub use rooms::Rooms;
 pub use roster::{Place, Roster, RosterFull};
 pub use traffic::{Accepted, Datagram, Front, Peer, Read, Ready, Received, Socket, WaitFailed};

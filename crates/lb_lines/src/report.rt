@@ -2,6 +2,7 @@
 
 ghost use Rattle.std.specs.Prelude.{◌≡◌};
 
+use crate::reported::Reported;
 use lb_core::{Answer, Event};
 use lb_desk::DeskFault;
 use lb_outbox::Job;
@@ -84,7 +85,7 @@ pub enum Outcome {
 #[derive(Debug, Drop)]
 pub enum Line {
     /// An event with its source, what came of it, and what came of its send.
-    Event(Source, Event, Outcome, Sending),
+    Event(Source, Reported, Outcome, Sending),
     /// A job of another loop, and what came of its send.
     Job(Job, Sending),
     /// A probe of a server with this word, which is its own send.

@@ -116,14 +116,18 @@ impl<R: Wait, J: Naming> Taker for Caller<'_, R, J> {
             return take_noting(self.rt, self.desk, &mut self.seat, event, notes);
         }
         let now = event.now();
-        let mut noted = Noted::none();
-        let answer = self
+        let (mut noted, mut answer) = (Noted::none(), Answer::Quiet);
+        let (rt, seat) = (self.rt, &mut self.seat);
+        match self
             .desk
-            .call_noted(self.rt, &mut self.seat, event, &mut noted);
-        if let Ok(answer) = &answer {
-            note_time(&self.times, now, answer, &noted);
+            .call_into(rt, seat, event, &mut noted, &mut answer)
+        {
+            Ok(()) => {
+                note_time(&self.times, now, &answer, &noted);
+                Ok(answer)
+            }
+            Err(back) => Err(back),
         }
-        answer
     }
 }
 

@@ -5,11 +5,10 @@ ghost use Rattle.lb_loops.specs.Running as running;
 use crate::around::Around;
 use crate::fault::LoopFault;
 use lb_clock::{ClockLoop, clock_turn};
-use lb_core::Event;
 use lb_datagrams::{DatagramLoop, datagram_turn};
 use lb_lines::{
-    Datagrams, Gate, Line, MAX_EVENTS_OF_TURN, Outside, Posts, Roster, Sending, Streams, Taker,
-    Waker, Way, Why,
+    Datagrams, Gate, Head, Line, MAX_EVENTS_OF_TURN, Outside, Posts, Roster, Sending, Streams,
+    Taker, Waker, Way, Why,
 };
 use lb_streams::{StreamLoop, stream_turn};
 use std::sync::Wait;
@@ -176,8 +175,11 @@ fn send_again<R: Wait, S: Datagrams, P: Posts, T: Taker, O: Outside>(
 
 /// The moment of the tick that lines end with.
 fn last_tick(lines: &[Line]) -> Option<u64> {
-    match lines.last() {
-        Some(Line::Event(_, Event::Tick { now }, _, _)) => Some(*now),
+    let Some(Line::Event(_, event, _, _)) = lines.last() else {
+        return None;
+    };
+    match event.head() {
+        Head::Tick(now) => Some(now),
         _ => None,
     }
 }

@@ -125,7 +125,7 @@ fn keep(caches: &mut Caches, id: u64, key: Key, now: u64) -> Option<Kept>
     requires { name_of_key key ≡ (101 ∷ 120 ∷ 97 ∷ 109 ∷ 112 ∷ 108 ∷ 101 ∷ []) ∷ (99 ∷ 111 ∷ 109 ∷ []) ∷ [] }
 {
     let cache = caches.with_id(CacheId(id))?;
-    Some(caches.keep(&cache, key, REPLY.as_slice(), 1, now))
+    Some(caches.keep(&cache, &key, REPLY.as_slice(), 1, now))
 }
 
 /// Whether a number is greater than those of these caches.

@@ -80,7 +80,7 @@ fn play_from<'d, 'a: 'd, J: Naming, R: Wait>(
 }
 
 /// The handlers that call a desk from its seats.
-type Handlers<'d, R, J> = Vec<Handler<'d, Caller<'d, R, J>>>;
+type Handlers<'d, R, J> = Vec<Handler<'d, R, Caller<'d, R, J>>>;
 
 fn handlers_at<'d, 'a: 'd, J: Naming, R: Wait>(
     desk: &'d Desk<J>,
@@ -91,7 +91,7 @@ fn handlers_at<'d, 'a: 'd, J: Naming, R: Wait>(
     for _ in 0..SEATS {
         if let Some(seat) = seats.pop() {
             let caller = Caller::new(stage.rt, desk, seat);
-            handlers.push(Handler::new(caller, stage.is_full))?;
+            handlers.push(Handler::new(caller, stage.heard()?))?;
         }
     }
     Ok(handlers)

@@ -55,6 +55,8 @@ fn turn_of_datagrams<R: Wait, D: Datagrams, T: Taker, O: Outside>(
     stage: &mut Stage<'_, R>,
     datagrams: &mut DatagramLoop<D, T, O>,
 ) -> Result<(), Fault> {
+    // Those that the console and the lines themselves handed in are no lines of a report.
+    let _ = stage.take_events();
     let report = match datagram_turn(datagrams, &stage.roster, &stage.gate) {
         Ok(report) => report,
         Err(_refused) => {
@@ -62,7 +64,7 @@ fn turn_of_datagrams<R: Wait, D: Datagrams, T: Taker, O: Outside>(
             datagram_turn(datagrams, &stage.roster, &stage.gate)?
         }
     };
-    let lines = tell_report(&mut stage.told, "datagrams", report);
+    let lines = tell_report(stage, "datagrams", report);
     datagrams.take_back(lines);
     stage.show_packets();
     stage.told.room()
@@ -73,6 +75,8 @@ fn turn_of_streams<R: Wait, S: Streams, P: Posts, T: Taker, O: Outside>(
     stage: &mut Stage<'_, R>,
     streams: &mut StreamLoop<S, T, O, P>,
 ) -> Result<(), Fault> {
+    // Those that the console and the lines themselves handed in are no lines of a report.
+    let _ = stage.take_events();
     let report = match stream_turn(stage.rt, streams, &stage.roster, &stage.gate) {
         Ok(report) => report,
         Err(_refused) => {
@@ -80,7 +84,7 @@ fn turn_of_streams<R: Wait, S: Streams, P: Posts, T: Taker, O: Outside>(
             stream_turn(stage.rt, streams, &stage.roster, &stage.gate)?
         }
     };
-    let lines = tell_report(&mut stage.told, "streams", report);
+    let lines = tell_report(stage, "streams", report);
     streams.take_back(lines);
     stage.show_streams()?;
     stage.show_posts();
@@ -92,6 +96,8 @@ fn turn_of_clock<R: Wait, D: Datagrams, P: Posts, T: Taker, O: Outside>(
     stage: &mut Stage<'_, R>,
     clock: &mut ClockLoop<D, P, T, O>,
 ) -> Result<(), Fault> {
+    // Those that the console and the lines themselves handed in are no lines of a report.
+    let _ = stage.take_events();
     let report = match clock_turn(stage.rt, clock, &stage.roster, &stage.gate) {
         Ok(report) => report,
         Err(_refused) => {
@@ -99,7 +105,7 @@ fn turn_of_clock<R: Wait, D: Datagrams, P: Posts, T: Taker, O: Outside>(
             clock_turn(stage.rt, clock, &stage.roster, &stage.gate)?
         }
     };
-    let lines = tell_report(&mut stage.told, "clock", report);
+    let lines = tell_report(stage, "clock", report);
     clock.take_back(lines);
     stage.show_probes();
     stage.show_posts();

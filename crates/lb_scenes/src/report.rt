@@ -1,28 +1,39 @@
 //! Reports as a scene tells them.
 
+use crate::stage::Stage;
 use crate::told::Told;
 use lb_core::Event;
 use lb_desk::DeskFault;
 use lb_loops::{DeviceFault, Job, Line, Outcome, Report, Sending, Source, Way, Why};
+use std::collections::VecDeque;
+use std::sync::Wait;
 
 /// Tells a report: a line with the turn's name, its device fault and whether a gate held, and behind it one for each line of the report.
 /// The lines, whose room the loop takes back.
-pub(crate) fn tell_report(told: &mut Told, name: &str, report: Report) -> Vec<Line> {
+pub(crate) fn tell_report<R: Wait>(
+    stage: &mut Stage<'_, R>,
+    name: &str,
+    report: Report,
+) -> Vec<Line> {
+    let mut events = stage.take_events();
+    let told = &mut stage.told;
     told.put(name);
     told.put(marks(report.device, report.is_held));
     told.put("\n");
     for line in &report.lines {
-        tell_line(told, line);
+        tell_line(told, &mut events, line);
     }
     report.lines
 }
 
-/// One line.
-fn tell_line(told: &mut Told, line: &Line) {
+/// One line. The octets of its event are those that the desk was handed.
+fn tell_line(told: &mut Told, events: &mut VecDeque<Event>, line: &Line) {
     match line {
-        Line::Event(source, event, outcome, sending) => {
+        Line::Event(source, _, outcome, sending) => {
             tell_source(told, *source);
-            tell_event(told, event);
+            if let Some(event) = events.pop_front() {
+                tell_event(told, &event);
+            }
             tell_outcome(told, outcome);
             tell_sending(told, *sending);
         }

@@ -2,10 +2,12 @@
 
 use crate::fault::Fault;
 use crate::gate::HoldsFrom;
+use crate::handler::Heard;
 use crate::octets::Named;
 use crate::setting::Setting;
 use crate::shown::Shown;
 use crate::told::Told;
+use lb_core::Event;
 use lb_loops::{Front, Roster, Sender};
 use lb_memory::{
     Failing, MemoryDatagrams, MemoryOutside, MemoryPosts, MemoryStreams, Moments, Packets,
@@ -13,6 +15,7 @@ use lb_memory::{
 };
 use std::alloc::{AllocError, Global};
 use std::collections::VecDeque;
+use std::mem;
 use std::sync::atomic::AtomicBool;
 use std::sync::{Arc, Mutex, Wait};
 
@@ -37,6 +40,8 @@ pub(crate) struct Shared {
     pub(crate) wires: Arc<Mutex<Wires>>,
     pub(crate) requests: Arc<Mutex<Requests>>,
     pub(crate) moments: Arc<Mutex<Moments>>,
+    /// The events that the loops handed to the desk.
+    events: Arc<Mutex<VecDeque<Event>>>,
 }
 
 impl Shared {
@@ -48,6 +53,7 @@ impl Shared {
             wires: Arc::new(alloc, Mutex::new(Wires::new(alloc)))?,
             requests: Arc::new(alloc, Mutex::new(Requests::new(alloc)))?,
             moments: Arc::new(alloc, Mutex::new(Moments::new(1, 0, 16, setting.outside)))?,
+            events: Arc::new(alloc, Mutex::new(VecDeque::new(alloc)))?,
         })
     }
 }
@@ -92,6 +98,22 @@ impl<'a, R: Wait> Stage<'a, R> {
             shown: Shown::new(alloc),
             told: Told::new(alloc),
         })
+    }
+
+    /// What a handler shares with whoever plays the scene.
+    pub(crate) fn heard(&self) -> Result<Heard<'a, R>, AllocError> {
+        Ok(Heard {
+            rt: self.rt,
+            alloc: self.alloc,
+            is_full: self.is_full,
+            events: Arc::try_clone(&self.shared.events)?,
+        })
+    }
+
+    /// The events that were handed to the desk since they were last taken.
+    pub(crate) fn take_events(&mut self) -> VecDeque<Event> {
+        let mut events = self.shared.events.lock(self.rt);
+        mem::replace(&mut *events, VecDeque::new(self.alloc))
     }
 
     /// The sockets of datagrams.

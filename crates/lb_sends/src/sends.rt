@@ -3,8 +3,7 @@
 use crate::clients::{Clients, raise, read};
 use crate::probed::{Probed, Results};
 use crate::times::{ReplyTimes, Times};
-use lb_core::Event;
-use lb_lines::{Line, Sending, Why};
+use lb_lines::{Head, Line, Sending, Why};
 use lb_wire::ServerId;
 use std::alloc::{AllocError, Global};
 use std::sync::atomic::AtomicU64;
@@ -63,10 +62,12 @@ impl Sends {
                 Line::Event(_, _, _, Sending::Failed(why)) | Line::Job(_, Sending::Failed(why)) => {
                     raise(self.of(*why));
                 }
-                Line::Event(_, Event::HealthResult { now, server, ok }, _, _) => {
-                    self.results.note(*server, *now, *ok);
+                Line::Event(_, event, _, _) => {
+                    if let Head::HealthResult(now, server, ok) = event.head() {
+                        self.results.note(server, now, ok);
+                    }
                 }
-                Line::Event(..) | Line::Job(..) => {}
+                Line::Job(..) => {}
                 Line::Probe(_, _, sending) => self.note_probe(*sending),
             }
         }

@@ -1,10 +1,10 @@
 -- Which slots are empty, and the links through them.
 use Rattle.std.proofs.Common.{◌≡◌, ◌==◌, ◌<◌, ◌≤◌, ℕ, zero, suc, ◌/◌, ◌%◌, ◌^◌, true, cond}
-use Rattle.std.proofs.Common.{List, [], ◌∷◌, length, map, Option, None, Some, inl, inr}
+use Rattle.std.proofs.Common.{Bool, List, [], ◌∷◌, length, map, Option, None, Some, inl, inr}
 use Rattle.std.proofs.Common.{Result, Ok, Err, IfOk, OnErr}
 use Rattle.std.proofs.Common.{refl, sym, ap, subst, ◌∙◌, arith, rules}
 use Rattle.std.specs.Option.{IsSome}
-use Rattle.std.specs.Prelude.{slice_index_or, slice_set}
+use Rattle.std.specs.Prelude.{is_some, slice_index_or, slice_set}
 use Rattle.std.proofs.lemmas.Bool.{cases_Bool, cases_lt, eqb-true, eq-eqb}
 use Rattle.std.proofs.lemmas.List.{get_or_past, get_or_read, length-map, length-set}
 use Rattle.lb_slots.specs.declared.chunk.Cell.{Cell}
@@ -272,3 +272,9 @@ module _ {T : Type 0} where
   pub some_of : (o : Option T) → IsSome o → (value : T) × (o ≡ Some value)
   some_of None some = absurd (cc)
   some_of (Some value) some = (value, refl)
+
+  -- what is some value is that value
+  pub was_some : (o : Option T) (some : Bool) → some ≡ is_some o → some ≡ true
+      → (value : T) × (Some value ≡ o)
+  was_some None some is on = absurd (cc)
+  was_some (Some value) some is on = (value, refl)

@@ -1,7 +1,8 @@
 //! A run of slots that stays where it is.
 
 ghost use Rattle.std.specs.Prelude.{◌≡◌, ◌<◌, [], ◌∷◌, ◌++◌, length, map, slice_set};
-ghost use Rattle.std.specs.Prelude.{IfErr, IfNone, IfOk, IfSome, OnErr, option_map};
+ghost use Rattle.std.specs.Prelude.{IfErr, IfNone, IfOk, IfSome, OnErr, is_some, option_map};
+ghost use Rattle.std.specs.Bool.{OnFalse, OnTrue};
 ghost use Rattle.lb_slots.specs.Links.{link_at};
 ghost use Rattle.lb_slots.specs.Slots.{value_at, value_in};
 ghost use Rattle.lb_slots.specs.declared.chunk.Cell.TheVariants.{Free, Full};
@@ -30,6 +31,23 @@ impl<T: Drop> Cell<T> {
                 Cell::Full(value) => Some(value),
                 Cell::Free(_) => None,
             },
+        }
+    }
+}
+
+impl<T: Drop> Cell<T> {
+    /// Drops the value where it is, if there is one, and leaves this link. Whether there was one.
+    fn discard(&mut self, free: usize) -> bool
+        ensures value { result ≡ is_some (value_in self.old) }
+        ensures none { OnFalse result (self.new ≡ self.old) }
+        ensures some { OnTrue result (self.new ≡ Free free) }
+    {
+        match self {
+            Cell::Free(_) => false,
+            Cell::Full(_) => {
+                *self = Cell::Free(free);
+                true
+            }
         }
     }
 }
@@ -97,6 +115,18 @@ impl<T: Drop> Chunk<T> {
         ensures some { IfSome result (λ _. self.new ≡ slice_set self.old at (Free link)) }
     {
         self.cells.get_mut(at)?.take(link)
+    }
+
+    /// Drops the value in a place where it is, and leaves a link there. Whether there was one.
+    pub(crate) fn discard(&mut self, at: usize, link: usize) -> bool
+        ensures value { result ≡ is_some (value_at (map value_in self.old) at) }
+        ensures none { OnFalse result (self.new ≡ self.old) }
+        ensures some { OnTrue result (self.new ≡ slice_set self.old at (Free link)) }
+    {
+        match self.cells.get_mut(at) {
+            Some(cell) => cell.discard(link),
+            None => false,
+        }
     }
 
     /// Puts a value into a place.

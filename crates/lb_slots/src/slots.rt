@@ -1,7 +1,7 @@
 //! Values in numbered slots.
 
 ghost use Rattle.std.specs.Prelude.{◌≡◌, ◌≤◌, ◌<◌, ◌+◌, ◌-◌, ◌/◌, ◌%◌, ◌^◌, ℕ, length};
-ghost use Rattle.std.specs.Prelude.{None, Some, IsSome, option_map, IfErr, IfOk, IsOkAnd};
+ghost use Rattle.std.specs.Prelude.{None, Some, IsSome, is_some, option_map, IfErr, IfOk, IsOkAnd};
 ghost use Rattle.std.specs.Prelude.{OnErr, OnOk};
 ghost use Rattle.std.specs.Bool.{OnTrue};
 ghost use Rattle.lb_slots.specs.Links.{Adds, cells_at, links, with_cell};
@@ -169,5 +169,22 @@ impl<T: Drop> Slots<T> {
         let value = self.chunks.get_mut(slot / CHUNK)?.take(slot % CHUNK, free)?;
         self.free = slot;
         Some(value)
+    }
+
+    /// Drops the value in a slot where it is, which copies none of it. Whether there was one. It
+    /// takes no memory.
+    pub fn discard(&mut self, slot: usize) -> bool
+        ensures value { result ≡ is_some (get self.old slot) }
+        ensures slots { Updates self.old self.new slot None }
+    {
+        let free = self.free;
+        let Some(chunk) = self.chunks.get_mut(slot / CHUNK) else {
+            return false;
+        };
+        if !chunk.discard(slot % CHUNK, free) {
+            return false;
+        }
+        self.free = slot;
+        true
     }
 }

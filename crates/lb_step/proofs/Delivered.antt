@@ -24,7 +24,7 @@ use Rattle.lb_wire.specs.declared.reply.ReplyView.{ReplyView}
 use Rattle.lb_wire.specs.declared.transport.Lane.{Lane}
 use Rattle.lb_cache.specs.declared.cached.AttachedCache.{AttachedCache}
 use Rattle.lb_cache.specs.declared.cached.KeptReply.{KeptReply}
-use Rattle.lb_cache.specs.Caches.{IsKeepable, cache_with, has_id, is_dead_in, is_of, is_under, kept_in, name_of_key, put_unless}
+use Rattle.lb_cache.specs.Caches.{CacheLists, IsKeepable, cache_with, has_id, is_dead_in, is_of, is_under, kept_in, name_of_key, put_unless}
 use Rattle.lb_table.specs.declared.entry.Entry.{Entry}
 use Rattle.lb_table.specs.Place.{at_place}
 use Rattle.lb_table.specs.Table.{entry_at}
@@ -33,8 +33,8 @@ use Rattle.lb_step.specs.declared.answer.Answer.TheVariants.{Deliver}
 use Rattle.lb_step.specs.Answer.{is_unkept, marked}
 use Rattle.lb_step.specs.Lifetime.{HasParts, is_keepable, is_negative, least_of, life_by, life_of, longest_by, max_failure}
 use Rattle.lb_wire.specs.Options.{carries_of}
-use Rattle.lb_step.specs.Reply.{BelongsOrNot, HeldAgainst, IsLeft, Keeps, KeepsAt, MayKeep, ReplySteps, delivered_octets, kept_for, without}
-use Rattle.lb_step.specs.Upstream.{IsKeyFor, Upstreams}
+use Rattle.lb_step.specs.Reply.{BelongsOrNot, HeldAgainst, IsLeft, Keeps, KeepsAt, MayKeep, ReplySteps, delivered_octets, kept_for, only_caches, without}
+use Rattle.lb_step.specs.Upstream.{IsKeyFor, Upstreams, caches_of, with_caches}
 use Rattle.lb_step.proofs.ChainEdits.{false_true}
 use Rattle.lb_step.proofs.HitOctets.{behind, question_of}
 use Rattle.lb_step.proofs.Tied.{eq_numbers, found_at}
@@ -154,6 +154,21 @@ would : (ups : Upstreams) (moment : ℕ) (octets : List ℕ) (view : ReplyView) 
     Keeps true ups moment octets view ask kept.NoMemory list → WouldKeep ups moment octets view ask
 would ups moment octets view None list is = absurd (false_true (sym (ap is_unkept (told_second list kept.NoMemory _ is))))
 would ups moment octets view (Some ask) list is = would_at ups moment octets view ask.1 (cache_with ask.0 ups.caches) list is
+
+-- what becomes of a reply at caches, whatever else stands upstream
+over_at : (lacking : Bool) (ups : Upstreams) (lists : CacheLists) (moment : ℕ) (octets : List ℕ) (view : ReplyView) (key : Key) (cache : Option AttachedCache) (told : Kept) (list : List KeptReply) →
+    KeepsAt lacking (only_caches lists) moment octets view key cache told list → KeepsAt lacking (with_caches lists ups) moment octets view key cache told list
+over_at lacking ups lists moment octets view key None told list keeps = keeps
+over_at lacking ups lists moment octets view key (Some cache) told list keeps = keeps
+
+pub keeps_over : (lacking : Bool) (ups : Upstreams) (lists : CacheLists) (moment : ℕ) (octets : List ℕ) (view : ReplyView) (ask : Option (CacheId × Key)) (told : Kept) (list : List KeptReply) →
+    Keeps lacking (only_caches lists) moment octets view ask told list → Keeps lacking (with_caches lists ups) moment octets view ask told list
+keeps_over lacking ups lists moment octets view None told list keeps = keeps
+keeps_over lacking ups lists moment octets view (Some ask) told list keeps = over_at lacking ups lists moment octets view ask.1 (cache_with ask.0 lists.caches) told list keeps
+
+-- caches of which one keeps a reply more have their numbers still
+pub lists_left : (old new : CacheLists) (list : List KeptReply) → only_caches new ≡ record (only_caches old) { kept = list } → new ≡ record old { kept = list }
+lists_left old new list is = ap caches_of is
 
 -- what is left of a reply that was kept, or not, and delivered
 abbrev pub IsDelivered : Upstreams → Upstreams → ℕ → List ℕ → ReplyView → Entry → Answer → Type 0

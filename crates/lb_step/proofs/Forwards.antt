@@ -1,5 +1,5 @@
 -- A query that was sent is forwarded as the definition says, and shows no want of memory.
-use Rattle.std.proofs.Common.{◌≡◌, ℕ, false, List, Option, Some, None, Ok, refl, sym, ◌∙◌, ap, subst}
+use Rattle.std.proofs.Common.{◌≡◌, ℕ, false, List, Option, Some, None, Err, Ok, refl, sym, ◌∙◌, ap, subst}
 use Rattle.std.specs.Prelude.{IfSome}
 use Rattle.lb_name.specs.Name.{lower_name}
 use Rattle.lb_wire.specs.Query.{Reads}
@@ -14,16 +14,18 @@ use Rattle.lb_chain.specs.declared.walked.Verdict.TheVariants as verdicts
 use Rattle.lb_chain.specs.declared.walked.Walked.{Walked}
 use Rattle.lb_table.specs.declared.entry.Entry.{Entry}
 use Rattle.lb_table.specs.Place.{at_place}
+use Rattle.lb_table.specs.declared.fault.EnterFault.TheVariants.{LaneFull}
 use Rattle.lb_servers.specs.Pool.{cache_at}
 use Rattle.lb_cache.specs.Caches.{looked_in, name_of_key}
 use Rattle.lb_step.specs.declared.asked.Asked.{Asked}
 use Rattle.lb_step.specs.declared.asked.Routed.{Routed}
 use Rattle.lb_health.specs.declared.health.Changed.TheVariants as changes
 use Rattle.lb_step.specs.declared.answer.Answer.{Answer}
-use Rattle.lb_step.specs.declared.answer.Answer.TheVariants.{Forward}
+use Rattle.lb_step.specs.declared.answer.Answer.TheVariants.{Forward, Local}
+use Rattle.lb_step.specs.declared.answer.LocalReason.TheVariants as locals
 use Rattle.lb_step.specs.Answer.{change_told, is_refused, marked}
 use Rattle.lb_step.specs.Upstream.{Upstreams, IsAsked, SendsBy, picked_of, with_entry, with_turn}
-use Rattle.lb_step.specs.Forward.{Forwards, PickForwards, entry_of, sent, sent_of, with_id}
+use Rattle.lb_step.specs.Forward.{Forwards, PickForwards, entry_of, failure_of, sent, sent_of, with_id}
 use Rattle.lb_step.specs.Look.{AskAnswers, FoundAnswers, PoolAnswers, ask_of}
 use Rattle.lb_step.specs.Query.{EndDecides, RuleDecides, default_pool, to_pool}
 
@@ -40,6 +42,13 @@ sent_on ups new asked bytes view routed ask server lane id entry octets picked i
     let done : (new, Forward server lane id octets) ≡ sent (with_turn pool ups) asked bytes view routed ask server (Some (lane, id)) =
     ap (λ (u : Upstreams). (u, Forward server lane id octets)) left ∙ ap (λ (a : Answer). (with_entry place (entry_of ups asked bytes view ask) (with_turn pool ups), a)) told in
     subst (λ (p : Option ServerId). PickForwards ups asked bytes view routed ask p (Forward server lane id octets) new) picked (Some (lane, id), sends.0, done)
+
+-- a query for which each lane is full
+pub full_on : (ups new : Upstreams) (asked : Asked) (bytes : List ℕ) (view : QueryView) (routed : Routed) (ask : Option (CacheId × Key)) (server : ServerId) (entry : Entry) (answer : Answer) →
+    Some server ≡ picked_of ups routed.pool → answer ≡ Local (failure_of view) locals.LaneFull → SendsBy ups routed.pool server asked.kind asked.word entry (Err LaneFull) new → Forwards ups asked bytes view routed ask answer new
+full_on ups new asked bytes view routed ask server entry answer picked is sends =
+    let done : (new, answer) ≡ sent (with_turn routed.pool ups) asked bytes view routed ask server None = ap (λ (u : Upstreams). (u, answer)) sends.1 ∙ ap (λ (a : Answer). (with_turn routed.pool ups, a)) is in
+    subst (λ (p : Option ServerId). PickForwards ups asked bytes view routed ask p answer new) picked (None, sends.0, done)
 
 -- what is kept of a query that reads, and whose key is of its question
 pub asked_by : (ups : Upstreams) (asked : Asked) (bytes : List ℕ) (view : QueryView) (ask : Option (CacheId × Key)) → Reads bytes (Ok view) →

@@ -23,14 +23,18 @@ use Rattle.lb_step.specs.declared.answer.IgnoreReason.TheVariants as ignores
 use Rattle.lb_cache.specs.declared.cached.AttachedCache.{AttachedCache}
 use Rattle.lb_cache.specs.declared.cached.KeptReply.{KeptReply}
 use Rattle.lb_step.specs.Answer.{Leaves, marked}
-use Rattle.lb_cache.specs.Caches.{cache_with, kept_in}
+use Rattle.lb_cache.specs.Caches.{CacheLists, cache_with, kept_in}
 use Rattle.lb_step.specs.Forward.{with_id}
 use Rattle.lb_step.specs.Lifetime.{LivesFor}
-use Rattle.lb_step.specs.Upstream.{Upstreams}
+use Rattle.lb_step.specs.Upstream.{Upstreams, no_upstreams, with_caches}
 
 -- the outstanding queries without the one at a place
 abbrev pub without : Place → Upstreams → Upstreams
 without place ups = record ups { outstanding = taken_at ups.outstanding (waits_at place ups.outstanding) }
+
+-- caches with what they keep, and nothing else: what keeping a reply looks at and changes
+abbrev pub only_caches : CacheLists → Upstreams
+only_caches lists = with_caches lists no_upstreams
 
 -- a reply with the query's spelling of the question name, where it has a question
 abbrev pub spelled_for : Bool → List (List ℕ) → List ℕ → List ℕ

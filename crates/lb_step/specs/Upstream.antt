@@ -205,15 +205,14 @@ with_turn pool ups = record ups { pools = change_at turned_if pool.0 ups.pools }
 abbrev pub with_entry : Place → Entry → Upstreams → Upstreams
 with_entry place entry ups = record ups { outstanding = entered ups.outstanding place entry }
 
--- a query sent by a pool to a server: its turn is counted, and the query is entered by the first lane that has a free ID, under the
--- first free one there; or each lane is full, and the turn is counted alone; or memory is wanting, and nothing changes; the entry
--- that is not entered comes back
-abbrev pub SendsBy : Upstreams → PoolId → ServerId → Kind → ℕ → Entry → Result (Lane × ℕ) (EnterFault × Entry) → Upstreams → Type 0
+-- a query sent by a pool to a server: its turn is counted, and the query is entered by the first lane
+-- that has a free ID, under the first free one there; or each lane is full, and the turn is counted
+-- alone; or memory is wanting, and nothing changes
+abbrev pub SendsBy : Upstreams → PoolId → ServerId → Kind → ℕ → Entry → Result (Lane × ℕ) EnterFault → Upstreams → Type 0
 SendsBy old pool server kind word entry (Ok (lane, id)) new =
     FirstPlace old server kind word (Some (lane, id)) × (new ≡ with_entry (at_place server lane id) entry (with_turn pool old))
-SendsBy old pool server kind word entry (Err (LaneFull, back)) new =
-    FirstPlace old server kind word None × (back ≡ entry) × (new ≡ with_turn pool old)
-SendsBy old pool server kind word entry (Err (NoMemory, back)) new = (back ≡ entry) × (new ≡ old)
+SendsBy old pool server kind word entry (Err LaneFull) new = FirstPlace old server kind word None × (new ≡ with_turn pool old)
+SendsBy old pool server kind word entry (Err NoMemory) new = new ≡ old
 
 -- the key under which a reply may be kept has the question name of the query
 abbrev pub IsKeyFor : Entry → Option (CacheId × Key) → Type 0

@@ -176,9 +176,7 @@ impl Balancer {
     }
 
     /// The same step. It counts the event and its answer, and notes what it leaves beside the plain
-    /// state. If memory for a count is refused, the counts by number say so from then on. It is
-    /// made in line, as an answer is then looked at where it stands.
-    #[inline(always)]
+    /// state. If memory for a count is refused, the counts by number say so from then on.
     pub fn step_counted(&mut self, event: Event, tally: &mut Tally, noted: &mut Noted) -> Answer
         ensures answers { Answers self.old event result self.new }
         ensures noted { IsNoted self.old event result noted.new }
@@ -186,11 +184,32 @@ impl Balancer {
         ensures numbers { tally.new.by_number.lacked ≡ false → AreCounted result noted.new tally.old.by_number tally.new.by_number }
         ensures before { tally.new.by_number.lacked ≡ false → tally.old.by_number.lacked ≡ false }
     {
-        let came = Came::of(&event);
-        let answer = self.step_noted(event, noted);
-        tally.counts.count(came, &answer);
-        tally.by_number.count(&answer, noted);
+        let mut answer = Answer::Quiet;
+        self.step_into(event, tally, noted, &mut answer);
         answer
+    }
+
+    /// `step_counted`, which writes the answer where it is to stand: an answer is large, and each
+    /// function that hands one on copies it. It is made in line, as an answer is then looked at
+    /// where it stands.
+    #[inline(always)]
+    pub fn step_into(
+        &mut self,
+        event: Event,
+        tally: &mut Tally,
+        noted: &mut Noted,
+        answer: &mut Answer,
+    )
+        ensures answers { Answers self.old event answer.new self.new }
+        ensures noted { IsNoted self.old event answer.new noted.new }
+        ensures counts { AreRaised (times event answer.new) tally.old.counts.items tally.new.counts.items }
+        ensures numbers { tally.new.by_number.lacked ≡ false → AreCounted answer.new noted.new tally.old.by_number tally.new.by_number }
+        ensures before { tally.new.by_number.lacked ≡ false → tally.old.by_number.lacked ≡ false }
+    {
+        let came = Came::of(&event);
+        *answer = self.step_noted(event, noted);
+        tally.counts.count(came, answer);
+        tally.by_number.count(answer, noted);
     }
 
     /// The same step. It notes what it leaves beside the plain state.
@@ -231,7 +250,6 @@ impl Balancer {
             Event::Tick { .. } => answer_tick(&mut self.upstream, self.moment, &mut noted.served),
             Event::HealthResult { server, ok, .. } => answer_result(&mut self.upstream, server, ok),
             Event::Edit { command, .. } => {
-                let command = command.into_inner();
                 let chain = &mut self.chain;
                 edit(self.alloc, chain, &mut self.upstream, self.moment, command)
             }

@@ -14,6 +14,7 @@ ghost use Rattle.lb_step.specs.declared.answer.Note.TheVariants as notes;
 ghost use Rattle.lb_step.specs.declared.answer.Answer.{Answer};
 
 use crate::answer::{Answer, EditFault, Note};
+use crate::boxed::BoxedCommand;
 use crate::cache_spec::CacheSpec;
 use crate::check::CheckSpec;
 use crate::command::{Command, StatedAction, StatedRule};
@@ -24,8 +25,25 @@ use lb_servers::{Ident, Mode, ParkFault, Policy, PoolName, ServerSpec};
 use lb_wire::RuleId;
 use std::alloc::Global;
 
-/// Carries out a command, or refuses it.
+/// Carries out the command of an event, or refuses it. The command is large, so it leaves its own
+/// memory here alone, and not where other events pass.
 pub(crate) fn edit(
+    alloc: Global,
+    chain: &mut Chain,
+    upstream: &mut Upstream,
+    moment: u64,
+    command: BoxedCommand,
+) -> Answer
+    requires { chain.old.moment ≤ moment }
+    ensures moment { chain.new.moment ≤ moment }
+    ensures edit { (plain_of moment chain.new upstream.new, result) ≡ edit_of (marked result) (plain_of moment chain.old upstream.old) command }
+    ensures mark { IsTrue (marked result) → MayLackAt (plain_of moment chain.old upstream.old) command }
+{
+    carry_out(alloc, chain, upstream, moment, command.into_inner())
+}
+
+/// Carries out a command, or refuses it.
+fn carry_out(
     alloc: Global,
     chain: &mut Chain,
     upstream: &mut Upstream,

@@ -16,8 +16,10 @@ use crate::answer::{Answer, LocalReason};
 use crate::asked::{Asked, Routed};
 use crate::lacking::Lacking;
 use crate::upstream::Upstream;
-use lb_table::{EnterFault, Entry};
-use lb_wire::{CacheId, Key, Octets, QueryView, Rcode, answer_in_place, clear_rd, restore_id};
+use lb_table::{EnterFault, Entry, Place, Waiting};
+use lb_wire::{
+    CacheId, Key, Lane, Octets, QueryView, Rcode, ServerId, answer_in_place, clear_rd, restore_id,
+};
 use std::alloc::{AllocError, Global};
 
 /// Answers a query by a server of a pool; it asked this of a cache. Where memory is refused for its entry, nothing changes and the
@@ -41,25 +43,22 @@ pub(crate) fn forward(
     let Some(server) = upstream.pick(routed.pool) else {
         return Ok(refused(bytes, view, Rcode::ServFail, LocalReason::NoServer));
     };
-    let entry = match entry_of(
-        alloc,
-        upstream.timeout(),
-        asked,
-        bytes.as_slice(),
-        view,
-        ask,
-    ) {
-        Ok(entry) => entry,
+    let target = Target {
+        server,
+        timeout: upstream.timeout(),
+    };
+    let waiting = match target.waiting(alloc, asked, bytes.as_slice(), view, ask) {
+        Ok(waiting) => waiting,
         Err(error) => return Err((Lacking::from(error), bytes)),
     };
-    match upstream.send(routed.pool, server, asked.kind, asked.word, entry) {
+    match upstream.send(routed.pool, asked.kind, asked.word, waiting) {
         Ok((lane, id)) => Ok(Answer::Forward(
             server,
             lane,
             id,
             message(bytes, routed.no_recurse, id),
         )),
-        Err((fault, _)) => match fault {
+        Err(fault) => match fault {
             EnterFault::LaneFull => {
                 Ok(refused(bytes, view, Rcode::ServFail, LocalReason::LaneFull))
             }
@@ -68,28 +67,50 @@ pub(crate) fn forward(
     }
 }
 
-/// What is kept of a query until its reply. The one error is want of memory.
-fn entry_of(
-    alloc: Global,
+/// The server that a query is sent to, and how long it waits for the reply, in milliseconds.
+#[derive(Debug, Drop)]
+struct Target {
+    server: ServerId,
     timeout: u32,
-    asked: &Asked,
-    bytes: &[u8],
-    view: &QueryView,
-    ask: Option<(CacheId, Key)>,
-) -> Result<Entry, AllocError>
-    requires { length bytes.now ≤ max_message }
-    ensures { IfOk result (λ entry. (ups : Upstreams) → ups.timeout ≡ timeout → entry ≡ entry_of_spec ups asked.now bytes.now view.now ask) }
-{
-    Ok(Entry {
-        origin: asked.origin,
-        asked: Octets::from_vec(Vec::from_slice(alloc, bytes)?),
-        name: view.name.copy(),
-        qtype: view.qtype,
-        qclass: view.qclass,
-        began: asked.moment,
-        timeout,
-        cache: ask,
-    })
+}
+
+impl Target {
+    /// What is kept of a query until its reply. Its place has no lane and no ID yet. The one error is
+    /// lack of memory.
+    fn waiting(
+        &self,
+        alloc: Global,
+        asked: &Asked,
+        bytes: &[u8],
+        view: &QueryView,
+        ask: Option<(CacheId, Key)>,
+    ) -> Result<Waiting, AllocError>
+        requires { length bytes.now ≤ max_message }
+        ensures place { IfOk result (λ waiting. waiting.place.server ≡ self.now.server) }
+        ensures entry { IfOk result (λ waiting. (ups : Upstreams) → ups.timeout ≡ self.now.timeout → waiting.entry ≡ entry_of_spec ups asked.now bytes.now view.now ask) }
+    {
+        let unplaced = Lane {
+            kind: asked.kind,
+            number: 0,
+        };
+        Ok(Waiting {
+            place: Place {
+                server: self.server,
+                lane: unplaced,
+                id: 0,
+            },
+            entry: Entry {
+                origin: asked.origin,
+                asked: Octets::from_vec(Vec::from_slice(alloc, bytes)?),
+                name: view.name.copy(),
+                qtype: view.qtype,
+                qclass: view.qclass,
+                began: asked.moment,
+                timeout: self.timeout,
+                cache: ask,
+            },
+        })
+    }
 }
 
 /// The message to be sent, in the query's own bytes: with this ID, and with RD 0 where a rule says so.

@@ -1,6 +1,6 @@
 //! Look-up: a query is answered by a reply that its pool's cache keeps, where one lives.
 
-ghost use Rattle.std.specs.Prelude.{◌≡◌, ◌≤◌, ◌&&◌, ◌==◌, not, Bool, None, IfOk, IfErr, OnErr, drop, length, vec_len, List, ℕ};
+ghost use Rattle.std.specs.Prelude.{◌≡◌, ◌≤◌, ◌&&◌, ◌==◌, not, Bool, None, IfOk, IfErr, OnErr, drop, length, vec_capacity, vec_len, List, ℕ};
 ghost use Rattle.std.specs.List.{AllByRecursion};
 ghost use Rattle.lb_name.specs.Name.{labels_of, lower_name, IsSame};
 ghost use Rattle.lb_wire.specs.Aging.{Outlives};
@@ -70,10 +70,7 @@ pub(crate) fn answer_by_pool(
         octets,
     };
     if let Some(hit) = upstream.look(cache, &key, asked.moment) {
-        return match hit_answer(alloc, &hit, &key, view) {
-            Ok(answer) => Ok(answer),
-            Err(error) => Err((Lacking::from(error), bytes)),
-        };
+        return hit_answer(bytes, &hit, &key, view);
     }
     forward(
         alloc,
@@ -189,21 +186,39 @@ fn clear_if(bytes: &mut [u8], no_recurse: bool)
     }
 }
 
-/// A kept reply as the client of a query gets it. The one error is want of memory.
+/// A kept reply as the client of a query gets it, in the query's own memory. If more is refused, the
+/// query's bytes come back with what was refused.
 fn hit_answer(
-    alloc: Global,
+    bytes: Vec<u8>,
     hit: &Hit<'_>,
     key: &Key,
     view: &QueryView,
-) -> Result<Answer, AllocError>
+) -> Result<Answer, (Lacking, Vec<u8>)>
     requires keepable { IsKeepable key.now hit.now.bytes.now hit.now.secs }
     requires name { name_of_key key.now ≡ lower_name view.now.name }
     requires short { length hit.now.bytes.now ≤ max_message }
-    ensures { IfOk result (λ answer. (octets : List ℕ) × Hits view.now hit.now.bytes.now hit.now.secs octets × (answer ≡ Local octets locals.Hit)) }
+    ensures answer { IfOk result (λ answer. (octets : List ℕ) × Hits view.now hit.now.bytes.now hit.now.secs octets × (answer ≡ Local octets locals.Hit)) }
+    ensures back { IfErr result (λ back. back.1.items ≡ bytes.items) }
 {
-    let mut bytes = Vec::from_slice(alloc, hit.bytes)?;
-    answer_as(&mut bytes, hit.secs, view);
-    Ok(Answer::Local(Octets::from_vec(bytes), LocalReason::Hit))
+    let mut bytes = bytes;
+    if let Err(error) = bytes.reserve(hit.bytes.len().saturating_sub(bytes.len())) {
+        return Err((Lacking::from(error), bytes));
+    }
+    let mut octets = filled_with(bytes, hit.bytes);
+    answer_as(&mut octets, hit.secs, view);
+    Ok(Answer::Local(Octets::from_vec(octets), LocalReason::Hit))
+}
+
+/// A list with these octets in the place of its own. It has room for them, so it takes no memory.
+fn filled_with(mut list: Vec<u8>, octets: &[u8]) -> Vec<u8>
+    requires room { length octets.now ≤ vec_capacity list }
+    ensures { result.items ≡ octets.now }
+{
+    list.clear();
+    match list.extend_from_slice(octets) {
+        Ok(()) => list,
+        Err(_) => unreachable!(),
+    }
 }
 
 /// Makes the octets of a kept reply those of a query's answer, so many seconds later: with its ID,

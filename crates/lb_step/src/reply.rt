@@ -9,7 +9,7 @@ ghost use Rattle.lb_wire.specs.declared.reply.ReplyView.{ReplyView};
 ghost use Rattle.lb_wire.specs.declared.reply.ReplyFault.{ReplyFault};
 ghost use Rattle.lb_step.specs.Noted.{reply_served};
 ghost use Rattle.lb_step.specs.Upstream.{IsAsked};
-ghost use Rattle.lb_step.specs.Reply.{spelled_for, Keeps, KeepsAndDelivers, MayKeep, ReplySteps};
+ghost use Rattle.lb_step.specs.Reply.{only_caches, spelled_for, Keeps, KeepsAndDelivers, MayKeep, ReplySteps};
 ghost use Rattle.lb_step.specs.Answer.{marked};
 ghost use Rattle.lb_cache.specs.Caches.{name_of_key};
 ghost use Rattle.lb_step.specs.Forward.{with_id};
@@ -21,6 +21,7 @@ use crate::answer::{Answer, IgnoreReason};
 use crate::lifetime::lifetime;
 use crate::noted::Served;
 use crate::upstream::Upstream;
+use lb_cache::Caches;
 use lb_name::{Name, splits_back};
 use lb_table::Entry;
 use lb_wire::{
@@ -28,8 +29,8 @@ use lb_wire::{
     none_is_outlived, read_reply, respell, restore_id,
 };
 
-/// Answers a reply, step by step: it is read, the query that waits for it is found, the reply is held against its
-/// question, the query goes, the reply is kept where that may be, and its client gets it.
+/// Answers a reply, step by step: it is read, the query that waits for it is found, the reply is
+/// held against its question and kept if that may be, its client gets it, and the query goes.
 pub(crate) fn answer_reply(
     upstream: &mut Upstream,
     moment: u64,
@@ -49,59 +50,45 @@ pub(crate) fn answer_reply(
         Err(ReplyFault::Short) => return Answer::Ignored(IgnoreReason::Short),
         Err(ReplyFault::NotReply) => return Answer::Ignored(IgnoreReason::NotReply),
     };
-    let Some(waiting) = upstream.find(server, lane, view.id) else {
-        return Answer::Ignored(IgnoreReason::Unknown);
-    };
-    if !view.belongs_to(&waiting.name, waiting.qtype, waiting.qclass) {
-        return Answer::Ignored(IgnoreReason::Mismatch);
-    }
-    match upstream.take(server, lane, view.id) {
-        Some(entry) => {
-            *served = Some(Served {
-                server,
-                began: entry.began,
-            });
-            keep_and_deliver(upstream, moment, bytes, &view, entry)
-        }
-        None => Answer::Ignored(IgnoreReason::Unknown),
-    }
+    upstream.deliver((server, lane), moment, bytes, &view, served)
 }
 
-/// Keeps a reply where that may be, and delivers it.
-fn keep_and_deliver(
-    upstream: &mut Upstream,
+/// Keeps a reply if that may be, and delivers it to the client of its query.
+pub(crate) fn keep_and_deliver(
+    caches: &mut Caches,
     moment: u64,
     bytes: Vec<u8>,
     view: &ReplyView,
-    entry: Entry,
+    entry: &Entry,
 ) -> Answer
     requires reads { Replies bytes.items view.now }
     requires short { vec_len bytes ≤ max_message }
-    requires asked { IsAsked entry }
-    requires same { view.now.questions ≡ 1 → AsksSame view.now.question entry.name }
-    ensures { KeepsAndDelivers upstream.old moment bytes.items view.now entry result upstream.new }
+    requires asked { IsAsked entry.now }
+    requires same { view.now.questions ≡ 1 → AsksSame view.now.question entry.now.name }
+    ensures { KeepsAndDelivers (only_caches caches.old) moment bytes.items view.now entry.now result (only_caches caches.new) }
 {
     // A law, which does nothing.
     splits_back();
-    let kept = keep(upstream, moment, bytes.as_slice(), view, entry.cache);
+    let kept = keep(caches, moment, bytes.as_slice(), view, &entry.cache);
     let id = query_id(entry.asked.as_slice());
     let octets = delivered(bytes, view, &entry.name, id);
     Answer::Deliver(entry.origin, octets, kept)
 }
 
-/// Keeps a reply in the cache that its query asked, where that is still attached, for as long as it lives.
+/// Keeps a reply in the cache that its query asked, if that is still attached, for as long as it
+/// lives.
 fn keep(
-    upstream: &mut Upstream,
+    caches: &mut Caches,
     moment: u64,
     bytes: &[u8],
     view: &ReplyView,
-    ask: Option<(CacheId, Key)>,
+    ask: &Option<(CacheId, Key)>,
 ) -> Kept
     requires reads { Replies bytes.now view.now }
     requires short { length bytes.now ≤ max_message }
-    requires key { IfSome ask (λ ask. (m : Message) → Lays bytes.now m → lower_name m.name ≡ name_of_key ask.1) }
-    ensures kept { Keeps (lacks result) upstream.old moment bytes.now view.now ask result upstream.new.kept }
-    ensures others { upstream.new ≡ record upstream.old { kept = upstream.new.kept } }
+    requires key { IfSome ask.now (λ ask. (m : Message) → Lays bytes.now m → lower_name m.name ≡ name_of_key ask.1) }
+    ensures kept { Keeps (lacks result) (only_caches caches.old) moment bytes.now view.now ask.now result caches.new.kept }
+    ensures others { caches.new.caches ≡ caches.old.caches }
 {
     // Laws, which do nothing.
     least_is_outlived();
@@ -109,14 +96,14 @@ fn keep(
     let Some((id, key)) = ask else {
         return Kept::No;
     };
-    let Some(cache) = upstream.cache_with(id) else {
+    let Some(cache) = caches.with_id(*id) else {
         return Kept::No;
     };
     let life = lifetime(bytes, view, cache.max_ttl, cache.skips.as_slice());
     if life == 0 {
         return Kept::No;
     }
-    upstream.keep(&cache, key, bytes, life, moment)
+    caches.keep(&cache, key, bytes, life, moment)
 }
 
 /// The reply as the client of a query gets it, in the reply's own bytes.

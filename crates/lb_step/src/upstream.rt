@@ -1,37 +1,41 @@
 //! Servers with their health, pools with their caches, and outstanding queries, kept together: each
 //! server's count is the number of its outstanding queries, and its mark is what its health says.
 
-ghost use Rattle.std.specs.Prelude.{◌≡◌, ◌<◌, ◌≤◌, ℕ, IfOk, IfSome, Some, length, map, not, option_map};
+ghost use Rattle.std.specs.Prelude.{◌≡◌, ◌<◌, ◌≤◌, ℕ, IfOk, IfSome, IsTrue, None, Ok, Some, length, map, not, option_map, vec_len};
 ghost use Rattle.std.specs.List.{AllByRecursion, filter, position};
 ghost use Rattle.lb_wire.specs.Octets.{max_message};
 ghost use Rattle.lb_servers.specs.Park.{AreBackends, added_pool, changed_pool, changed_server, lacks};
-ghost use Rattle.lb_cache.specs.Cache.{lacks as lacks_kept};
 ghost use Rattle.lb_servers.specs.Pool.{cache_at, pool_named, with_policy, change_at};
 ghost use Rattle.lb_servers.specs.Server.{marked};
 ghost use Rattle.lb_table.specs.Place.{at_place};
 ghost use Rattle.lb_table.specs.Table.{AreWaiting, due, entry_at};
-ghost use Rattle.lb_cache.specs.Caches.{AreKept, cache_with, lists_of, looked_in, skips_of, IsKeepable};
+ghost use Rattle.lb_cache.specs.Caches.{AreKept, lists_of, looked_in, skips_of, IsKeepable};
 ghost use Rattle.lb_step.specs.Upstream.{added_checked, attached_cache, caches_of, detached_cache, expunged_cache, totals_of, backends_of, no_upstreams, on_backends, picked_of, put_into, removed_checked, server_of, AreNumbered, ByNumber, IsAsked, IsChecked, SendsBy, takes_turns as takes_turns_of, turned_if, is_check};
 ghost use Rattle.lb_step.specs.Edit.{server_by};
 ghost use Rattle.lb_step.specs.Expiry.{without_expired};
 ghost use Rattle.lb_step.specs.Health.{result_taken};
 ghost use Rattle.lb_step.specs.Plain.{plain_of};
-ghost use Rattle.lb_step.specs.Reply.{kept_under, without};
+ghost use Rattle.lb_step.specs.Reply.{MayKeep, ReplySteps};
+ghost use Rattle.lb_step.specs.Answer.{marked as is_marked};
+ghost use Rattle.lb_step.specs.Noted.{served_if};
+ghost use Rattle.lb_wire.specs.Reply.{Replies};
 ghost use Rattle.lb_step.specs.Snapshot.{snapshot_of};
 
-use crate::answer::Totals;
+use crate::answer::{Answer, IgnoreReason, Totals};
 use crate::cache_spec::CacheSpec;
 use crate::check::{Check, CheckSpec};
+use crate::noted::Served;
 use crate::plain::Plain;
+use crate::reply::keep_and_deliver;
 use crate::timeout::Timeout;
-use lb_cache::{AttachedCache, Cache, Caches, Covered, Hit, Shelf, Swept};
+use lb_cache::{Cache, Caches, Covered, Hit, Shelf, Swept};
 use lb_chain::Chain;
 use lb_health::Changed;
 use lb_servers::{
     Ident, Loaded, Mode, Park, ParkFault, Policy, Pool, PoolName, Server, ServerSpec,
 };
-use lb_table::{EnterFault, Entry, Table, Waiting};
-use lb_wire::{CacheId, Kept, Key, Kind, Lane, PoolId, ServerId};
+use lb_table::{EnterFault, Table, Waiting};
+use lb_wire::{CacheId, Key, Kind, Lane, PoolId, ReplyView, ServerId};
 use std::alloc::{AllocError, Global};
 use std::marker::Model;
 
@@ -125,57 +129,73 @@ impl Upstream {
         self.park.pick(pool)
     }
 
-    /// Enters a query that this pool sends to this server, and gives the lane by which it is sent
-    /// and the ID with which: of the server's lanes of this transport the first from the word's on
-    /// that has a free ID, and the first free one there. The pool's turn is counted, even if each
-    /// lane is full. If memory is lacking, nothing changes. An entry that is not entered comes
-    /// back.
+    /// Enters a query that this pool sends to the server of its place, and gives the lane by which it
+    /// is sent and the ID with which: of the server's lanes of this transport the first from the
+    /// word's on that has a free ID, and the first free one there. The pool's turn is counted, even
+    /// if each lane is full. If memory is lacking, nothing changes. A query that is not entered is
+    /// dropped.
     pub(crate) fn send(
         &mut self,
         pool: PoolId,
-        server: ServerId,
         kind: Kind,
         word: u16,
-        entry: Entry,
-    ) -> Result<(Lane, u16), (EnterFault, Entry)>
-        requires given { server.0 < self.old.next_server }
-        requires asked { IsAsked entry }
-        ensures { SendsBy self.old pool server kind word entry result self.new }
+        waiting: Waiting,
+    ) -> Result<(Lane, u16), EnterFault>
+        requires given { waiting.place.server.0 < self.old.next_server }
+        requires asked { IsAsked waiting.entry }
+        ensures { SendsBy self.old pool waiting.place.server kind word waiting.entry result self.new }
     {
+        let server = waiting.place.server;
         let lanes = self.park.lanes(server);
-        match self.table.enter_by(server, kind, lanes, word, entry) {
+        match self.table.enter_by(kind, lanes, word, waiting) {
             Ok((lane, id)) => {
                 self.park.began(server);
                 count_turn(&mut self.park, pool);
                 Ok((lane, id))
             }
-            Err((fault, entry)) => match fault {
+            Err(fault) => match fault {
                 EnterFault::LaneFull => {
                     count_turn(&mut self.park, pool);
-                    Err((fault, entry))
+                    Err(fault)
                 }
-                EnterFault::NoMemory => Err((fault, entry)),
+                EnterFault::NoMemory => Err(fault),
             },
         }
     }
 
-    /// The query that waits for a reply of this server, by this lane, with this ID.
-    pub(crate) fn find(&self, server: ServerId, lane: Lane, id: u16) -> Option<&Entry>
-        ensures { option_map (λ entry. entry.now) result ≡ entry_at self.now.outstanding (at_place server lane id) }
+    /// What becomes of a reply of a server by a lane. If it belongs to the query that waits there, it
+    /// is kept if that may be, its client gets it, and the query goes. That is read and dropped where
+    /// it stands, as it is large. Its server may have been removed.
+    pub(crate) fn deliver(
+        &mut self,
+        from: (ServerId, Lane),
+        moment: u64,
+        bytes: Vec<u8>,
+        view: &ReplyView,
+        served: &mut Option<Served>,
+    ) -> Answer
+        requires reads { Replies bytes.items view.now }
+        requires short { vec_len bytes ≤ max_message }
+        requires served { served.old ≡ None }
+        ensures step { ReplySteps (is_marked result) self.old from.0 from.1 moment bytes.items (Ok view.now) result self.new }
+        ensures mark { IsTrue (is_marked result) → MayKeep self.old from.0 from.1 moment bytes.items }
+        ensures served { served.new ≡ served_if result from.0 (entry_at self.old.outstanding (at_place from.0 from.1 view.now.id)) }
     {
-        self.table.find(server, lane, id)
-    }
-
-    /// Takes the query out that waits for a reply of this server, by this lane, with this ID. The
-    /// server may have been removed.
-    pub(crate) fn take(&mut self, server: ServerId, lane: Lane, id: u16) -> Option<Entry>
-        ensures entry { result ≡ entry_at self.old.outstanding (at_place server lane id) }
-        ensures asked { IfSome result (λ entry. IsAsked entry) }
-        ensures without { self.new ≡ without (at_place server lane id) self.old }
-    {
-        let entry = self.table.take(server, lane, id)?;
+        let (server, lane) = from;
+        let Some(waiting) = self.table.find(server, lane, view.id) else {
+            return Answer::Ignored(IgnoreReason::Unknown);
+        };
+        if !view.belongs_to(&waiting.name, waiting.qtype, waiting.qclass) {
+            return Answer::Ignored(IgnoreReason::Mismatch);
+        }
+        *served = Some(Served {
+            server,
+            began: waiting.began,
+        });
+        let answer = keep_and_deliver(&mut self.caches, moment, bytes, view, waiting);
+        let _ = self.table.discard(server, lane, view.id);
         self.park.ended(server);
-        Some(entry)
+        answer
     }
 
     /// Takes the query of least deadline out that is given up by now, of equal ones the one that
@@ -283,13 +303,6 @@ impl Upstream {
         self.park.cache_of(pool)
     }
 
-    /// The attached cache with a number.
-    pub(crate) fn cache_with(&self, id: CacheId) -> Option<AttachedCache>
-        ensures { result ≡ cache_with id self.now.caches }
-    {
-        self.caches.with_id(id)
-    }
-
     /// The codes of the options that the keys of a cache leave out.
     pub(crate) fn skips_of(&self, id: CacheId) -> &[u16]
         ensures { result.now ≡ skips_of id self.now.caches }
@@ -304,25 +317,6 @@ impl Upstream {
         ensures short { IfSome result (λ hit. length hit.bytes.now ≤ max_message) }
     {
         self.caches.look(id, key, now)
-    }
-
-    /// Keeps a reply in an attached cache under a key, for so many seconds from a moment on, in
-    /// milliseconds.
-    pub(crate) fn keep(
-        &mut self,
-        cache: &AttachedCache,
-        key: Key,
-        bytes: &[u8],
-        life: u32,
-        now: u64,
-    ) -> Kept
-        requires attached { cache_with cache.now.id self.old.caches ≡ Some cache.now }
-        requires keepable { IsKeepable key bytes.now life }
-        requires short { length bytes.now ≤ max_message }
-        ensures kept { (self.new.kept, result) ≡ kept_under (lacks_kept result) cache.now self.old.kept key bytes.now life now }
-        ensures others { self.new ≡ record self.old { kept = self.new.kept } }
-    {
-        self.caches.keep(cache, key, bytes, life, now)
     }
 
     /// Gives a pool a new cache in the place of the one that it has. Room for it is taken before

@@ -1,6 +1,6 @@
 //! The rounds of a turn: a job, what a socket has, and an event.
 
-ghost use Rattle.std.specs.Prelude.{[], false, option_to_list, ◌∷◌, ◌≡◌, ◌+◌, ◌≤◌};
+ghost use Rattle.std.specs.Prelude.{[], List, false, option_to_list, ◌∷◌, ◌≡◌, ◌+◌, ◌≤◌, ℕ};
 ghost use Rattle.lb_connections.specs.Table.{IsFirst};
 ghost use Rattle.lb_streams.specs.Goes.{IsUndone, reads_of};
 ghost use Rattle.lb_streams.specs.Lines.{event_by};
@@ -12,7 +12,8 @@ use lb_connections::First;
 use lb_core::{Answer, Event};
 use lb_frames::Message;
 use lb_lines::{
-    Gate, Line, Outcome, Outside, Peer, Posts, Ready, Roster, Source, Streams, Taker, outcome_of,
+    Gate, Line, Outcome, Outside, Peer, Posts, Ready, Reported, Roster, Source, Streams, Taker,
+    outcome_of,
 };
 use lb_outbox::Job;
 use lb_wire::{Kind, Lane, Octets, Origin};
@@ -123,31 +124,19 @@ impl<S: Streams, T: Taker, O: Outside, P: Posts> StreamLoop<S, T, O, P> {
             }
             Err(_refused) => return Step::Wanting,
         };
-        let First {
-            peer,
-            message,
-            copy,
-        } = first;
+        let First { peer, message } = first;
         let heard = Heard {
             moment: now,
             word,
             number,
             peer,
         };
-        self.told(roster, gate, heard, message, copy)
+        self.told(roster, gate, heard, message)
     }
 
-    /// The same for this first message and its copy, if the gate lets its event pass.
-    fn told<G: Gate>(
-        &mut self,
-        roster: &Roster,
-        gate: &G,
-        heard: Heard,
-        message: Message,
-        copy: Message,
-    ) -> Step
+    /// The same for this first message, if the gate lets its event pass.
+    fn told<G: Gate>(&mut self, roster: &Roster, gate: &G, heard: Heard, message: Message) -> Step
         requires first { IsFirst heard.number heard.peer message self.old.net.table }
-        requires copy { copy ≡ message }
         ensures turns { TurnsFromStamp (heard.moment, heard.word) roster.now.listed self.old self.new (lines_of result) (is_blind result) }
         ensures reads { reads_of self.new.net ≡ reads_of self.old.net }
     {
@@ -155,23 +144,21 @@ impl<S: Streams, T: Taker, O: Outside, P: Posts> StreamLoop<S, T, O, P> {
         if !gate.pass(&event) {
             return Step::Held;
         }
-        Step::Told(self.answered(roster, heard, event, copy))
+        Step::Told(self.answered(roster, heard, event))
     }
 
     /// Takes the message of an event off its connection, hands the event to the desk, and sends
-    /// what comes of it. The connection is closed if it is at its end then. The line has an event
-    /// of the message's copy.
-    fn answered(&mut self, roster: &Roster, heard: Heard, event: Event, copy: Message) -> Line
-        requires made { event ≡ event_by heard.moment heard.word heard.number heard.peer copy }
-        requires first { IsFirst heard.number heard.peer copy self.old.net.table }
+    /// what comes of it. The connection is closed if it is at its end then.
+    fn answered(&mut self, roster: &Roster, heard: Heard, event: Event) -> Line
+        requires first { (message : List ℕ) × (event ≡ event_by heard.moment heard.word heard.number heard.peer message) × IsFirst heard.number heard.peer message self.old.net.table }
         ensures turns { TurnsFromStamp (heard.moment, heard.word) roster.now.listed self.old self.new (result ∷ []) false }
         ensures settled { IsUndone heard.number self.new.net }
         ensures reads { reads_of self.new.net ≡ reads_of self.old.net }
     {
         self.links.drop_first(heard.number);
+        let told = Reported::of(&event);
         let outcome = outcome_of(&mut self.taker, event);
         self.links.owe(heard.number, is_sent_on(&outcome));
-        let told = event_made(heard, copy);
         let sending = self.send_outcome(roster, &told, &outcome);
         self.links.settle(heard.number);
         Line::Event(Source::Connection(heard.number), told, outcome, sending)

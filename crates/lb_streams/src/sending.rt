@@ -10,10 +10,10 @@ ghost use Rattle.lb_streams.specs.Turn.{Sends};
 
 use crate::links::Links;
 use crate::streams::StreamLoop;
-use lb_core::{Answer, Event};
+use lb_core::Answer;
 use lb_lines::{
-    End, Endpoint, Front, Outcome, Outside, Posts, Roster, Sending, Streams, Taker, Way, Why,
-    letter_of,
+    End, Endpoint, Front, Outcome, Outside, Posts, Reported, Roster, Sending, Streams, Taker, Way,
+    Why, letter_of,
 };
 use lb_wire::{Kind, Lane, Octets, Origin, ServerId};
 use std::alloc::Global;
@@ -92,7 +92,7 @@ impl<S: Streams, T: Taker, O: Outside, P: Posts> StreamLoop<S, T, O, P> {
     pub(crate) fn send_outcome(
         &mut self,
         roster: &Roster,
-        event: &Event,
+        event: &Reported,
         outcome: &Outcome,
     ) -> Sending
         ensures sends { Sends roster.now.listed self.old self.new (outcome_letter event.now outcome.now) result }

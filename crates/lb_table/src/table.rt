@@ -1,6 +1,6 @@
 //! The table of outstanding queries.
 
-ghost use Rattle.std.specs.Prelude.{◌≡◌, ◌+◌, ◌^◌, ◌<◌, ◌≤◌, IfErr, IfOk, IfSome, OnOk, [], false, length, option_map};
+ghost use Rattle.std.specs.Prelude.{is_some, ◌≡◌, ◌+◌, ◌^◌, ◌<◌, ◌≤◌, IfErr, IfOk, IfSome, OnOk, [], false, length, option_map};
 ghost use Rattle.std.specs.List.{AllByRecursion, count_by};
 ghost use Rattle.lb_table.specs.Entry.{deadline_of};
 ghost use Rattle.lb_table.specs.Place.{at_place};
@@ -98,58 +98,61 @@ impl Table {
         let Some(id) = self.index.free(server, lane, word) else {
             return Err((EnterFault::LaneFull, entry));
         };
-        match self.enter_at(Place { server, lane, id }, entry) {
+        let place = Place { server, lane, id };
+        match self.enter_at(Waiting { place, entry }) {
             Ok(()) => Ok(id),
-            Err((refused, entry)) => Err((EnterFault::from(refused), entry)),
+            Err((refused, Waiting { place: _, entry })) => {
+                Err((EnterFault::from(refused), entry))
+            }
         }
     }
 
-    /// Enters a query that is sent to a server that has so many lanes of this transport: on the lane that
-    /// `choose` gives, under the ID that `enter` gives there. `LaneFull` comes if each lane is full or there
-    /// is none, and then `NoMemory`; the query comes back with it, and nothing changes.
+    /// Enters a query that is sent to the server of its place, which has so many lanes of this
+    /// transport: on the lane that `choose` gives, under the ID that `enter` gives there. Its place
+    /// has both then. `LaneFull` comes if each lane is full or there is none, and then `NoMemory`;
+    /// the query is dropped with it, and nothing changes.
     pub fn enter_by(
         &mut self,
-        server: ServerId,
         kind: Kind,
         lanes: u8,
         word: u16,
-        entry: Entry,
-    ) -> Result<(Lane, u16), (EnterFault, Entry)>
-        ensures enters { EntersBy self.old server kind lanes word entry result self.new }
+        mut waiting: Waiting,
+    ) -> Result<(Lane, u16), EnterFault>
+        ensures enters { EntersBy self.old waiting.place.server kind lanes word waiting.entry result self.new }
         // the list fits the machine, as after `enter`
         ensures room { IfOk result (λ _. length self.new + 1 < 2 ^ 64) }
     {
+        let server = waiting.place.server;
         let Some((lane, id)) = self.index.place(server, kind, lanes, word) else {
-            return Err((EnterFault::LaneFull, entry));
+            return Err(EnterFault::LaneFull);
         };
-        match self.enter_at(Place { server, lane, id }, entry) {
+        waiting.place = Place { server, lane, id };
+        match self.enter_at(waiting) {
             Ok(()) => Ok((lane, id)),
-            Err((refused, entry)) => Err((EnterFault::from(refused), entry)),
+            Err((refused, _)) => Err(EnterFault::from(refused)),
         }
     }
 
     /// Enters a query at a place at which none waits. If memory is refused, the query comes back, and
     /// nothing changes.
-    fn enter_at(&mut self, place: Place, entry: Entry) -> Result<(), (AllocError, Entry)>
-        requires { is_used self.old place ≡ false }
-        ensures entered { OnOk result (self.new ≡ entered self.old place entry) }
-        ensures back { IfErr result (λ back. (back.1 ≡ entry) × (self.new ≡ self.old)) }
+    fn enter_at(&mut self, waiting: Waiting) -> Result<(), (AllocError, Waiting)>
+        requires { is_used self.old waiting.place ≡ false }
+        ensures entered { OnOk result (self.new ≡ entered self.old waiting.place waiting.entry) }
+        ensures back { IfErr result (λ back. (back.1 ≡ waiting) × (self.new ≡ self.old)) }
         ensures room { length self.new + 1 < 2 ^ 64 }
     {
         self.line.law_of_line();
-        let slot = match self.line.enter(Waiting { place, entry }) {
+        let place = waiting.place;
+        let slot = match self.line.enter(waiting) {
             Ok(slot) => slot,
-            Err((refused, Waiting { place: _, entry })) => return Err((refused, entry)),
+            Err(back) => return Err(back),
         };
         match self.index.add(&place, slot) {
             Ok(()) => {
                 self.line.law_of_line();
                 Ok(())
             }
-            Err(refused) => {
-                let Waiting { place: _, entry } = self.line.remove(slot).unwrap();
-                Err((refused, entry))
-            }
+            Err(refused) => Err((refused, self.line.remove(slot).unwrap())),
         }
     }
 
@@ -170,6 +173,19 @@ impl Table {
         let slot = self.index.take(&Place { server, lane, id })?;
         let Waiting { place: _, entry } = self.line.remove(slot)?;
         Some(entry)
+    }
+
+    /// Drops the query that waits for a reply of this server, by this lane, with this ID, where it
+    /// is: `take` without a copy of it. Whether one waited. It takes no memory.
+    pub fn discard(&mut self, server: ServerId, lane: Lane, id: u16) -> bool
+        ensures was { result ≡ is_some (entry_at self.old (at_place server lane id)) }
+        ensures table { self.new ≡ taken_at self.old (waits_at (at_place server lane id) self.old) }
+    {
+        let Some(slot) = self.index.take(&Place { server, lane, id }) else {
+            return false;
+        };
+        self.line.discard(slot);
+        true
     }
 
     /// Takes the query of least deadline out that is given up by now, of equal ones the one that was entered first, and tells

@@ -1,8 +1,10 @@
-use Rattle.std.proofs.Common.{ℕ, List, None, Some, sym, subst, ◌∙◌, ap}
+use Rattle.std.proofs.Common.{◌≡◌, ℕ, List, None, Some, sym, subst, ◌∙◌, ap}
 use Rattle.lb_wire.specs.declared.key.Key.{Key}
 use Rattle.lb_step.specs.declared.answer.Answer.{Answer}
 use Rattle.lb_step.specs.Forward.{Forwards}
-use Rattle.lb_step.specs.Look.{PoolAnswers}
+use Rattle.lb_step.specs.Look.{Hits, PoolAnswers}
+use Rattle.lb_step.specs.declared.answer.Answer.TheVariants.{Local}
+use Rattle.lb_step.specs.declared.answer.LocalReason.TheVariants as locals
 use Rattle.lb_step.proofs.AskSo.{pool_none, pool_so, each_answer}
 use Rattle.lb_step.proofs.look.answer_by_pool.Goals as goal
 
@@ -15,13 +17,17 @@ returns-in_default-clause-answers c =
     (λ answer. PoolAnswers ups c.args.asked.now c.args.bytes.items c.args.view.now c.args.routed answer new) c.forward.result c.forward.ensures.forwards
     (λ answer forwards. pool_none ups new c.args.asked.now c.args.bytes.items c.args.view.now c.args.routed of.0 answer of.1 of.3 (sym c.cache_asked.ensures ∙ c.in_default.is) forwards)
 
-pub returns-in-Ok-hit_answer-clause-answers : goal.returns-in-Ok-hit_answer-clause-answers
-returns-in-Ok-hit_answer-clause-answers c =
+pub returns-in-Some-look-clause-answers : goal.returns-in-Some-look-clause-answers
+returns-in-Some-look-clause-answers c =
     let of = c.requires.view in
-    let hit = c.in-Ok-hit_answer.ensures in
-    pool_so c.args.upstream.now c.args.upstream.now c.args.asked.now c.args.bytes.items c.args.view.now c.args.routed of.0 c.in-Some.cache c.in-Ok.octets _ c.in-Ok-hit_answer.answer of.1 of.3
+    let ups = c.args.upstream.now in
+    let hit = c.in-Some-look.hit in
+    each_answer (λ answer. (octets : List ℕ) × Hits c.args.view.now hit.bytes.now hit.secs octets × (answer ≡ Local octets locals.Hit))
+    (λ answer. PoolAnswers ups c.args.asked.now c.args.bytes.items c.args.view.now c.args.routed answer ups) c.hit_answer.result c.hit_answer.ensures.answer
+    (λ answer hits.
+    pool_so ups ups c.args.asked.now c.args.bytes.items c.args.view.now c.args.routed of.0 c.in-Some.cache c.in-Ok.octets _ answer of.1 of.3
     (sym c.cache_asked.ensures ∙ c.in-Some.is) (c.in-Ok.ensures.key of.0 of.1) c.in-Some-look.ensures.found
-    (hit.0, hit.1, ap (λ (a : Answer). (c.args.upstream.now, a)) hit.2)
+    (hits.0, hits.1, ap (λ (a : Answer). (ups, a)) hits.2))
 
 pub returns-clause-answers : goal.returns-clause-answers
 returns-clause-answers c =

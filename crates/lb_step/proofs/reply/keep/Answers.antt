@@ -10,12 +10,12 @@ use Rattle.lb_step.proofs.reply.keep.Goals as goal
 
 pub keep-requires-clause-attached : goal.keep-requires-clause-attached
 keep-requires-clause-attached c =
-    let caches = c.args.upstream.now.caches in
-    let found : cache_with c.in-Some.id caches ≡ Some c.in-Some-cache_with.cache = sym c.in-Some-cache_with.ensures in
-    ap (λ (id : CacheId). cache_with id caches) (found_cache c.in-Some.id caches c.in-Some-cache_with.cache found) ∙ found
+    let caches = c.args.caches.now.caches in
+    let found : cache_with c.in-Some.id caches ≡ Some c.in-Some-with_id.cache = sym c.in-Some-with_id.ensures in
+    ap (λ (id : CacheId). cache_with id caches) (found_cache c.in-Some.id caches c.in-Some-with_id.cache found) ∙ found
 
 pub keep-requires-clause-keepable : goal.keep-requires-clause-keepable
 keep-requires-clause-keepable c =
-    keepable c.least_is_outlived.ensures c.none_is_outlived.ensures c.in-Some-cache_with.cache.max_ttl c.as_slice.result.now c.args.bytes.now c.args.view.now c.in-Some.key c.lifetime-life.result
+    keepable c.least_is_outlived.ensures c.none_is_outlived.ensures c.in-Some-with_id.cache.max_ttl c.as_slice.result.now c.args.bytes.now c.args.view.now c.in-Some.key c.lifetime-life.result
     c.lifetime-life.ensures.0 c.lifetime-life.ensures.1 c.lifetime-life.ensures.2 c.if-life-eq0.false
     (subst (λ (ask : Option (CacheId × Key)). IfSome ask (λ ask. (m : Message) → Lays c.args.bytes.now m → lower_name m.name ≡ name_of_key ask.1)) c.in-Some.is c.requires.key)

@@ -13,12 +13,12 @@ invariant_of-self-inside g c =
     let raised = c.count_call.ensures.count in
     let total = c.count_call.ensures.total in
     let told =
-    subst (λ n. ∥ Keeps g.J.Naming.opening b.limit n b.log.items c.step_counted.new.self ∥₁) (sym raised)
-    (∥∥₁_map b.told (keeps_past g.J.Naming.opening b.limit b.count b.log.items b.balancer c.step_counted.new.self past))
+    subst (λ n. ∥ Keeps g.J.Naming.opening b.limit n b.log.items c.step_into.new.self ∥₁) (sym raised)
+    (∥∥₁_map b.told (keeps_past g.J.Naming.opening b.limit b.count b.log.items b.balancer c.step_into.new.self past))
     in
     let tallied =
-    subst (λ n. ∥ Counted g.J.Naming.opening n c.step_counted.new.self c.step_counted.new.tally ∥₁) (sym raised)
-    (∥∥₁_map b.tallied (counted_grown g.J.Naming.opening b.count b.balancer c.step_counted.new.self b.tally c.step_counted.new.tally c.args.event c.step_counted.result c.step_counted.new.noted c.step_counted.ensures.answers c.step_counted.ensures.noted c.step_counted.ensures.counts c.step_counted.ensures.numbers c.step_counted.ensures.before))
+    subst (λ n. ∥ Counted g.J.Naming.opening n c.step_into.new.self c.step_into.new.tally ∥₁) (sym raised)
+    (∥∥₁_map b.tallied (counted_grown g.J.Naming.opening b.count b.balancer c.step_into.new.self b.tally c.step_into.new.tally c.args.event c.step_into.new.answer c.step_into.new.noted c.step_into.ensures.answers c.step_into.ensures.noted c.step_into.ensures.counts c.step_into.ensures.numbers c.step_into.ensures.before))
     in (
       omega arith,
       (b.limited, (omega arith, (b.seated, (b.roomy, (told, (tallied, tt)))))),
@@ -27,7 +27,7 @@ invariant_of-self-inside g c =
 pub returns-clause-counts : goal.returns-clause-counts
 returns-clause-counts g c =
     rw (← c.self.view_is)
-    (record { raised = c.step_counted.ensures.counts; numbers = (c.step_counted.new.noted, c.step_counted.ensures.noted, c.step_counted.ensures.numbers) })
+    (record { raised = c.step_into.ensures.counts; numbers = (c.step_into.new.noted, c.step_into.ensures.noted, c.step_into.ensures.numbers) })
 
 pub returns-clause-noted : goal.returns-clause-noted
-returns-clause-noted g c = rw (← c.self.view_is) c.step_counted.ensures.noted
+returns-clause-noted g c = rw (← c.self.view_is) c.step_into.ensures.noted

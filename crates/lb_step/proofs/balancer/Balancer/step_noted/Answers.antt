@@ -20,8 +20,8 @@ returns-in-Reply-clause-answers c =
 
 pub returns-in-Edit-clause-answers : goal.returns-in-Edit-clause-answers
 returns-in-Edit-clause-answers c =
-    rw (← c.self.view_is, c.in-Edit.is, ← c.into_inner-command.ensures)
-    (edit_answers c.seen_twice.ensures c.self.inside.moment c.in-Edit.now c.max-self-inside.result c.self.inside.chain c.edit.new.chain c.self.inside.upstream c.edit.new.upstream c.into_inner-command.result c.edit.result
+    rw (← c.self.view_is, c.in-Edit.is)
+    (edit_answers c.seen_twice.ensures c.self.inside.moment c.in-Edit.now c.max-self-inside.result c.self.inside.chain c.edit.new.chain c.self.inside.upstream c.edit.new.upstream c.in-Edit.command c.edit.result
     (c.max-self-inside.ensures ∙ ap (max c.self.inside.moment) (c.now.ensures ∙ ap moment_of c.in-Edit.is)) c.edit.ensures.edit c.edit.ensures.mark)
 
 pub returns-in-Query-clause-noted : goal.returns-in-Query-clause-noted

@@ -21,9 +21,9 @@ turn_keeps park turned checks t new pools turn same is =
 
 pub invariant_of-self : goal.invariant_of-self
 invariant_of-self c = (
-  sent_keeps c.self.inside.park c.began.new.self c.count_turn.new.park c.self.inside.checks.items c.self.inside.table c.enter_by.new.self c.args.server _ c.began.ensures c.count_turn.ensures
-      (sent_tied c.self.inside.park c.began.new.self c.count_turn.new.park c.self.inside.table c.enter_by.new.self (at_place c.args.server c.in-Ok.lane c.in-Ok.id) c.args.entry _
-      c.self.invariant.0.tied (subst (λ (u : Upstreams). c.args.server.0 < u.next_server) (sym c.self.view_is) c.requires.given) c.requires.asked
+  sent_keeps c.self.inside.park c.began.new.self c.count_turn.new.park c.self.inside.checks.items c.self.inside.table c.enter_by.new.self c.args.waiting.place.server _ c.began.ensures c.count_turn.ensures
+      (sent_tied c.self.inside.park c.began.new.self c.count_turn.new.park c.self.inside.table c.enter_by.new.self (at_place c.args.waiting.place.server c.in-Ok.lane c.in-Ok.id) c.args.waiting.entry _
+      c.self.invariant.0.tied (subst (λ (u : Upstreams). c.args.waiting.place.server.0 < u.next_server) (sym c.self.view_is) c.requires.given) c.requires.asked
       c.began.ensures c.count_turn.ensures c.in-Ok.ensures.enters.1)
       c.self.invariant.0,
   numbers_still c.self.inside.caches.caches c.self.inside.park c.count_turn.new.park (ap (λ (p : Backends). p.next_cache) c.count_turn.ensures ∙ ap (λ (p : Backends). p.next_cache) c.began.ensures) c.self.invariant.1,
@@ -32,26 +32,25 @@ invariant_of-self c = (
 pub invariant_of-self-in-LaneFull : goal.invariant_of-self-in-LaneFull
 invariant_of-self-in-LaneFull c =
     let full = rw c.in-LaneFull.is at c.in-Err.ensures.enters in (
-      turn_keeps c.self.inside.park c.count_turn-in-LaneFull.new.park c.self.inside.checks.items c.self.inside.table c.enter_by.new.self _ c.count_turn-in-LaneFull.ensures full.2 c.self.invariant.0,
+      turn_keeps c.self.inside.park c.count_turn-in-LaneFull.new.park c.self.inside.checks.items c.self.inside.table c.enter_by.new.self _ c.count_turn-in-LaneFull.ensures full.1 c.self.invariant.0,
       numbers_still c.self.inside.caches.caches c.self.inside.park c.count_turn-in-LaneFull.new.park (ap (λ (p : Backends). p.next_cache) c.count_turn-in-LaneFull.ensures) c.self.invariant.1,
     )
 
 pub returns-in-Ok : goal.returns-in-Ok
 returns-in-Ok c =
-    let counted = c.lanes-lanes.ensures ∙ ap (λ (servers : List Loaded). lanes_of servers c.args.server) (sym (counted_anew c.self.inside.table c.self.inside.park.servers c.self.invariant.0.tied.loads)) in
+    let counted = c.lanes-lanes.ensures ∙ ap (λ (servers : List Loaded). lanes_of servers c.args.waiting.place.server) (sym (counted_anew c.self.inside.table c.self.inside.park.servers c.self.invariant.0.tied.loads)) in
     rw (← c.self.view_is) (
-      (subst (λ (lanes : ℕ). FirstLane c.self.inside.table c.args.server c.args.kind lanes c.args.word (Some c.in-Ok.lane)) counted c.in-Ok.ensures.enters.0.0, c.in-Ok.ensures.enters.0.1),
-      sent_seen c.self.inside.timeout c.self.inside.caches c.self.inside.checks.items c.self.inside.park c.began.new.self c.count_turn.new.park c.self.inside.table c.enter_by.new.self (at_place c.args.server c.in-Ok.lane c.in-Ok.id) c.args.entry c.args.pool
+      (subst (λ (lanes : ℕ). FirstLane c.self.inside.table c.args.waiting.place.server c.args.kind lanes c.args.word (Some c.in-Ok.lane)) counted c.in-Ok.ensures.enters.0.0, c.in-Ok.ensures.enters.0.1),
+      sent_seen c.self.inside.timeout c.self.inside.caches c.self.inside.checks.items c.self.inside.park c.began.new.self c.count_turn.new.park c.self.inside.table c.enter_by.new.self (at_place c.args.waiting.place.server c.in-Ok.lane c.in-Ok.id) c.args.waiting.entry c.args.pool
           c.began.ensures c.count_turn.ensures c.in-Ok.ensures.enters.1,
     )
 
 pub returns-in-LaneFull : goal.returns-in-LaneFull
 returns-in-LaneFull c =
     let full = rw c.in-LaneFull.is at c.in-Err.ensures.enters in
-    let counted = c.lanes-lanes.ensures ∙ ap (λ (servers : List Loaded). lanes_of servers c.args.server) (sym (counted_anew c.self.inside.table c.self.inside.park.servers c.self.invariant.0.tied.loads)) in
+    let counted = c.lanes-lanes.ensures ∙ ap (λ (servers : List Loaded). lanes_of servers c.args.waiting.place.server) (sym (counted_anew c.self.inside.table c.self.inside.park.servers c.self.invariant.0.tied.loads)) in
     rw (c.in-LaneFull.is, ← c.self.view_is) (
-      subst (λ (lanes : ℕ). FirstLane c.self.inside.table c.args.server c.args.kind lanes c.args.word None) counted full.0,
-      full.1,
+      subst (λ (lanes : ℕ). FirstLane c.self.inside.table c.args.waiting.place.server c.args.kind lanes c.args.word None) counted full.0,
       ap (λ (p : Backends). seen_as c.self.inside.timeout c.self.inside.caches c.self.inside.checks.items p c.enter_by.new.self) c.count_turn-in-LaneFull.ensures
-          ∙ ap (λ (t : List Waiting). with_turn c.args.pool (seen_as c.self.inside.timeout c.self.inside.caches c.self.inside.checks.items c.self.inside.park t)) full.2,
+          ∙ ap (λ (t : List Waiting). with_turn c.args.pool (seen_as c.self.inside.timeout c.self.inside.caches c.self.inside.checks.items c.self.inside.park t)) full.1,
     )

@@ -11,38 +11,38 @@ use Rattle.lb_table.proofs.table.Table.enter_at.Goals as goal
 
 pub invariant_of-self-in-Ok-add : goal.invariant_of-self-in-Ok-add
 invariant_of-self-in-Ok-add c =
-    let w : Waiting = record { place = c.args.place; entry = c.args.entry } in
-    let free = is_free c.self.inside.line c.args.place (subst (λ (xs : List Waiting). is_used xs c.args.place ≡ false) (sym c.self.view_is) c.requires) in
+    let w : Waiting = c.args.waiting in
+    let free = is_free c.self.inside.line c.args.waiting.place (subst (λ (xs : List Waiting). is_used xs c.args.waiting.place ≡ false) (sym c.self.view_is) c.requires) in
     table_came c.self.inside.line c.enter.new.self c.self.inside.index c.add.new.self c.in-Ok.slot w c.self.invariant free c.in-Ok.ensures.free c.in-Ok.ensures.entered (c.in-Ok-add.ensures.added c.self.inside.line w c.self.invariant.index refl free)
 
-pub unwrap-entry-requires : goal.unwrap-entry-requires
-unwrap-entry-requires c =
-    let w : Waiting = record { place = c.args.place; entry = c.args.entry } in
+pub unwrap-requires : goal.unwrap-requires
+unwrap-requires c =
+    let w : Waiting = c.args.waiting in
     let found = ap (λ (l : List (ℕ × Waiting)). option_map query_of (find (in_slot c.in-Ok.slot) l)) c.in-Ok.ensures.entered ∙ ap (option_map query_of) (came c.self.inside.line c.in-Ok.slot w c.in-Ok.ensures.free) in
     subst IsSome (sym (c.remove.ensures.query ∙ found)) (given w)
 
 pub invariant_of-self-in-Err-add : goal.invariant_of-self-in-Err-add
 invariant_of-self-in-Err-add c =
-    let w : Waiting = record { place = c.args.place; entry = c.args.entry } in
+    let w : Waiting = c.args.waiting in
     let back = c.remove.ensures.line ∙ ap (without_first (in_slot c.in-Ok.slot)) c.in-Ok.ensures.entered ∙ went c.self.inside.line c.in-Ok.slot w c.in-Ok.ensures.free in
     table_same c.self.inside.line c.remove.new.self c.self.inside.index c.add.new.self c.self.invariant back (c.in-Err-add.ensures.kept c.self.inside.line c.self.invariant.index)
 
 pub returns-in-Ok-add-clause-entered : goal.returns-in-Ok-add-clause-entered
 returns-in-Ok-add-clause-entered c =
-    let w : Waiting = record { place = c.args.place; entry = c.args.entry } in
-    subst (λ (xs : List Waiting). queries c.enter.new.self ≡ entered xs c.args.place c.args.entry) c.self.view_is (entered_list c.self.inside.line c.enter.new.self c.in-Ok.slot w c.in-Ok.ensures.entered)
+    let w : Waiting = c.args.waiting in
+    subst (λ (xs : List Waiting). queries c.enter.new.self ≡ entered xs c.args.waiting.place c.args.waiting.entry) c.self.view_is (entered_list c.self.inside.line c.enter.new.self c.in-Ok.slot w c.in-Ok.ensures.entered)
 
 pub returns-in-Err-add-clause-back : goal.returns-in-Err-add-clause-back
 returns-in-Err-add-clause-back c =
-    let w : Waiting = record { place = c.args.place; entry = c.args.entry } in
+    let w : Waiting = c.args.waiting in
     let found = ap (λ (l : List (ℕ × Waiting)). option_map query_of (find (in_slot c.in-Ok.slot) l)) c.in-Ok.ensures.entered ∙ ap (option_map query_of) (came c.self.inside.line c.in-Ok.slot w c.in-Ok.ensures.free) in
-    let some : Some c.unwrap-entry.result ≡ Some w = sym c.unwrap-entry.ensures ∙ c.remove.ensures.query ∙ found in
-    let same : c.unwrap-entry.result ≡ w = cc in
+    let some : Some c.unwrap.result ≡ Some w = sym c.unwrap.ensures ∙ c.remove.ensures.query ∙ found in
+    let same : c.unwrap.result ≡ w = cc in
     let back = c.remove.ensures.line ∙ ap (without_first (in_slot c.in-Ok.slot)) c.in-Ok.ensures.entered ∙ went c.self.inside.line c.in-Ok.slot w c.in-Ok.ensures.free in
-    (ap (λ (v : Waiting). v.entry) same, ap queries back ∙ c.self.view_is)
+    (same, ap queries back ∙ c.self.view_is)
 
 pub returns-in-Err-add-clause-room : goal.returns-in-Err-add-clause-room
 returns-in-Err-add-clause-room c =
-    let w : Waiting = record { place = c.args.place; entry = c.args.entry } in
+    let w : Waiting = c.args.waiting in
     let back = c.remove.ensures.line ∙ ap (without_first (in_slot c.in-Ok.slot)) c.in-Ok.ensures.entered ∙ went c.self.inside.line c.in-Ok.slot w c.in-Ok.ensures.free in
     room_kept c.self.inside.line c.remove.new.self c.law_of_line.ensures.room back
