@@ -3,7 +3,7 @@ use Rattle.std.proofs.Common.{◌≡◌, ℕ, suc, ◌+◌, Bool, true, false, n
 use Rattle.std.specs.Prelude.{replicate}
 use Rattle.std.proofs.lemmas.Bool.{cond-true, lt-ltb}
 use Rattle.std.proofs.lemmas.List.Folds.{find_at}
-use Rattle.std.proofs.lemmas.Option.{slice_get_cases}
+use Rattle.std.proofs.lemmas.Option.{none-some, slice_get_cases}
 use Rattle.lb_wire.specs.declared.addr.Origin.{Origin}
 use Rattle.std.specs.List.{AllByRecursion, filter, find, position_or_len, remove}
 use Rattle.lb_chain.specs.declared.numbered.Numbered.{Numbered}
@@ -20,8 +20,6 @@ use Rattle.lb_step.specs.Reading.{Reading, OfNone, OfQuery, OfReply}
 use Rattle.lb_step.specs.Step.{StepsAt}
 use Rattle.lb_step.specs.Upstream.{Upstreams}
 use Rattle.lb_core.specs.Runs.{GivesUp, GiveUp, IsRun}
-use Rattle.lb_step.proofs.Refusals.{left_of, told_of}
-use Rattle.lb_step.proofs.Tied.{none_some, some_same}
 
 -- a list without the first element that passes
 abbrev gone : {X : Type 0} → (X → Bool) → List X → List X
@@ -46,7 +44,7 @@ module _ {X : Type 0} (p : X → Bool) where
   first_and_others (x ∷ xs) w is = by (p x) (first_and_others xs w) refl is
     where
       by : (b : Bool) → (find p xs ≡ Some w → filter p xs ≡ w ∷ filter p (gone p xs)) → p x ≡ b → cond b (Some x) (find p xs) ≡ Some w → cond b (x ∷ filter p xs) (filter p xs) ≡ w ∷ filter p (cond b xs (x ∷ gone p xs))
-      by true rest here is = ap (λ (y : X). y ∷ filter p xs) (some_same x w is)
+      by true rest here is = let same : x ≡ w = cc is in ap (λ (y : X). y ∷ filter p xs) same
       by false rest here is = rest is ∙ sym (ap (λ (b : Bool). w ∷ cond b (x ∷ filter p (gone p xs)) (filter p (gone p xs))) here)
 
   -- the others that do not pass
@@ -83,7 +81,7 @@ without_first now t w is =
     let n = position_or_len (is_due now) t in
     elim ((slice_get_cases t n).1) [
       | inl h ↦ ap (taken_at t) (cond-true _ _ _ (lt-ltb n (length t) h.1)) ∙ removed_first (is_due now) t
-      | inr h ↦ absurd (none_some w (sym (find_at (is_due now) t ∙ h.1) ∙ is))
+      | inr h ↦ absurd (none-some w (sym (find_at (is_due now) t ∙ h.1) ∙ is))
     ]
 
 -- the answer to a tick
@@ -107,9 +105,9 @@ quiet_tick : (p : Plain) (ups : Upstreams) (d : Option Waiting) → due p.moment
     (filter (is_due p.moment) p.outstanding ≡ []) × (with_upstreams ups p ≡ waiting_so (filter (λ w. not (is_due p.moment w)) p.outstanding) p)
 quiet_tick p ups None is step = (
   none_passes (is_due p.moment) p.outstanding is,
-  ap (λ (u : Upstreams). with_upstreams u p) (left_of ups Quiet _ step) ∙ ap (λ (t : List Waiting). waiting_so t p) (sym (all_stay (is_due p.moment) p.outstanding is)),
+  ap (λ (u : Upstreams). with_upstreams u p) (ap (λ (d : Upstreams × Answer). d.0) step) ∙ ap (λ (t : List Waiting). waiting_so t p) (sym (all_stay (is_due p.moment) p.outstanding is)),
 )
-quiet_tick p ups (Some w) is step = absurd (quiet_expired w.entry.origin (failure_of step.0) (told_of ups Quiet _ step.2))
+quiet_tick p ups (Some w) is step = absurd (quiet_expired w.entry.origin (failure_of step.0) (ap (λ (d : Upstreams × Answer). d.1) step.2))
 
 -- a tick that is not quiet gives one up
 record Gave (p : Plain) (answer : Answer) (ups : Upstreams) : Type 0 where
@@ -119,12 +117,12 @@ record Gave (p : Plain) (answer : Answer) (ups : Upstreams) : Type 0 where
   left : with_upstreams ups p ≡ waiting_so (gone (is_due p.moment) p.outstanding) p
 
 loud_tick : (p : Plain) (ups : Upstreams) (answer : Answer) (d : Option Waiting) → (answer ≡ Quiet → ⊥) → due p.moment p.outstanding ≡ d → Ends (upstreams_of p) p.moment d answer ups → Gave p answer ups
-loud_tick p ups answer None loud is step = absurd (loud (told_of ups answer _ step))
+loud_tick p ups answer None loud is step = absurd (loud (ap (λ (d : Upstreams × Answer). d.1) step))
 loud_tick p ups answer (Some w) loud is step = record {
   w = w;
-  gives = (step.0, step.1, told_of ups answer _ step.2);
+  gives = (step.0, step.1, ap (λ (d : Upstreams × Answer). d.1) step.2);
   first = first_and_others (is_due p.moment) p.outstanding w is;
-  left = ap (λ (u : Upstreams). with_upstreams u p) (left_of ups answer _ step.2) ∙ ap (λ (t : List Waiting). waiting_so t p) (without_first p.moment p.outstanding w is);
+  left = ap (λ (u : Upstreams). with_upstreams u p) (ap (λ (d : Upstreams × Answer). d.0) step.2) ∙ ap (λ (t : List Waiting). waiting_so t p) (without_first p.moment p.outstanding w is);
 }
 
 -- the state with these outstanding queries, at the same moment again

@@ -21,6 +21,7 @@ pub use Rattle.lb_step.specs.Step
 pub use Rattle.lb_step.specs.Noted
 pub use Rattle.lb_step.specs.Snapshot as StepSnapshot
 pub use Rattle.lb_step.specs.Laws as StepLaws
+pub use Rattle.lb_step.specs.Results
 pub use Rattle.lb_step.specs.Counts as StepCounts
 pub use Rattle.lb_step.specs.CountsByNumber as StepCountsByNumber
 pub mod Provenance

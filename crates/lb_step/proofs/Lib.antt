@@ -20,6 +20,7 @@ pub mod Steps
 pub mod Follows
 pub mod Refusals
 pub mod Following
+pub mod HealthSteps
 pub mod Lists
 pub mod Snapshots
 pub mod CheckSpecs

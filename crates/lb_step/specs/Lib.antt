@@ -1,4 +1,4 @@
--- shared by several files: Reading, Routes, Snapshot, Step
+-- shared by several files: Reading, Results, Routes, Snapshot, Step
 pub use Rattle.lb_name.specs.Name
 pub use Rattle.lb_wire.specs.Octets
 pub use Rattle.lb_wire.specs.BigEndian
@@ -47,6 +47,7 @@ pub mod Routes
 pub mod Step
 pub mod Snapshot
 pub mod Laws
+pub mod Results
 pub mod Noted
 pub mod Counts
 pub mod CountsByNumber

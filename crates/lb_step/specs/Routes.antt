@@ -1,6 +1,6 @@
 -- What decides where a query goes, and which cache it asks: the rules with their passes, the pools by name, and their caches.
 -- No server, no outstanding query and no kept reply has a part in it.
-use Rattle.std.specs.Prelude.{ℕ, zero, suc, ◌+◌, max, Bool, true, false, not, ◌||◌, List, [], ◌∷◌, ◌++◌, map, Option, None, Some, option_map, Ok, slice_get}
+use Rattle.std.specs.Prelude.{◌≡◌, ℕ, zero, suc, ◌+◌, max, Bool, true, false, not, ◌||◌, List, [], ◌∷◌, ◌++◌, map, Option, None, Some, option_map, Ok, slice_get}
 use Rattle.std.specs.List.{filter, position}
 use Rattle.lb_wire.specs.Query.{view_of}
 use Rattle.lb_wire.specs.declared.ids.CacheId.{CacheId}
@@ -14,7 +14,7 @@ use Rattle.lb_chain.specs.Counting.{counted}
 use Rattle.lb_chain.specs.Seen.{seen_rules}
 use Rattle.lb_servers.specs.declared.pool.Pool.{Pool}
 use Rattle.lb_servers.specs.declared.pool.PoolName.{PoolName}
-use Rattle.lb_servers.specs.Pool.{same_name}
+use Rattle.lb_servers.specs.Pool.{cache_at, pool_named, same_name}
 use Rattle.lb_step.specs.declared.asked.Asked.{Asked}
 use Rattle.lb_step.specs.declared.event.Event.{Event}
 use Rattle.lb_step.specs.declared.event.Event.TheVariants.{Query, Edit}
@@ -141,3 +141,8 @@ left_by routes _ _ _ = routes
 -- the routes after an event
 abbrev pub routes_after : Routes → Event → Reading → Answer → Routes
 routes_after routes event reading answer = left_by (at_routes (moment_of event) routes) event reading answer
+
+-- a pool's number and its cache are found among the routes as in the list of pools
+abbrev pub PoolsAreFoundInRoutes : Type 0
+PoolsAreFoundInRoutes = ((name : PoolName) (pools : List Pool) → route_named (map route_of pools) name ≡ pool_named pools name)
+    × ((at : ℕ) (pools : List Pool) → cache_routed (map route_of pools) at ≡ cache_at pools at)

@@ -2,6 +2,8 @@
 //! nothing but bring it to the caller's proof.
 
 ghost use Rattle.std.specs.Thread.{IsSend, IsSync};
+ghost use Rattle.lb_step.specs.Results.{HealthFollows};
+ghost use Rattle.lb_step.specs.Routes.{PoolsAreFoundInRoutes};
 ghost use Rattle.lb_step.specs.Snapshot.{EqualSnapshotsEqualStates};
 ghost use Rattle.lb_step.specs.Step.{RefusalsChangeNothing, RoutesFollow};
 ghost use Rattle.lb_step.specs.contracts.balancer.Balancer as balancer;
@@ -9,6 +11,7 @@ ghost use Rattle.lb_step.specs.contracts.event.Event as event;
 ghost use Rattle.lb_step.specs.contracts.plain.Plain as plain;
 
 use lb_chain::{chains_cross_threads, listed_alike_seen_alike, seen_twice};
+use lb_health::last_of_a_row_from;
 use lb_terms::terms_cross_threads;
 
 /// An event that is refused, or that met want of memory, changes nothing but the moment.
@@ -24,6 +27,20 @@ pub fn routes_follow()
     ensures { RoutesFollow }
 {
     seen_twice();
+}
+
+/// A pool's number and its cache are found among the routes as in the list of pools.
+pub fn pools_are_found_in_routes()
+    ensures { PoolsAreFoundInRoutes }
+{}
+
+/// What is told of a server's health after an event follows from what was told before it, the event,
+/// and its answer: the results given since the server was added. The answer tells that it came up or
+/// went down exactly at the last of a row of results.
+pub fn health_follows()
+    ensures { HealthFollows }
+{
+    last_of_a_row_from();
 }
 
 /// Equal snapshots are of equal states.

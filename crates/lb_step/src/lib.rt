@@ -40,8 +40,8 @@ pub use counts::Counts;
 pub use counts_by_number::{CacheCounts, CountsByNumber, ServerCounts};
 pub use event::Event;
 pub use laws::{
-    balancers_cross_threads, equal_snapshots_are_of_equal_states, refusals_change_nothing,
-    routes_follow,
+    balancers_cross_threads, equal_snapshots_are_of_equal_states, health_follows,
+    pools_are_found_in_routes, refusals_change_nothing, routes_follow,
 };
 pub use noted::{Noted, Served};
 pub use plain::Plain;
