@@ -13,7 +13,7 @@ use Rattle.lb_lines.specs.Lines.{pair_in, pairs}
 use Rattle.lb_lines.specs.Ways.{job_in, jobs_sent, letter_of, post_in, posts, sending_of}
 use Rattle.lb_lines.specs.declared.report.DeviceFault.{DeviceFault}
 use Rattle.lb_lines.specs.declared.report.Line.{Line}
-use Rattle.lb_lines.specs.declared.traffic.Front.{Front}
+use Rattle.lb_lines.specs.declared.traffic.Service.{Service}
 use Rattle.lb_outbox.specs.Outbox.{Sending}
 use Rattle.lb_outbox.specs.declared.job.Job.{Job}
 use Rattle.lb_probes.specs.Probes.{Probed}
@@ -45,7 +45,7 @@ grows_on old mid new these more first after =
       λ full. after.1 (omega arith) ∙ ap (λ zs. zs ++ more) (first.1 (omega arith)) ∙ append_assoc old these more,
     )
 
-are_on : (fronts : List Front) (there : List Bool) (ls xs : List Line) → AreLines fronts there ls → AreLines fronts there xs → AreLines fronts there (ls ++ xs)
+are_on : (fronts : List Service) (there : List Bool) (ls xs : List Line) → AreLines fronts there ls → AreLines fronts there xs → AreLines fronts there (ls ++ xs)
 are_on fronts there [] xs all more = more
 are_on fronts there (l ∷ ls) xs all more = (all.0, are_on fronts there ls xs all.1 more)
 

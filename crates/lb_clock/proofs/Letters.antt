@@ -13,7 +13,7 @@ use Rattle.lb_lines.specs.declared.report.Sending.TheVariants.{Failed, Nothing}
 use Rattle.lb_lines.specs.declared.report.Way.TheVariants as ways
 use Rattle.lb_lines.specs.declared.report.Why.TheVariants as whys
 use Rattle.lb_lines.specs.declared.roster.Listed.{Listed}
-use Rattle.lb_lines.specs.declared.traffic.Front.TheVariants as fronts
+use Rattle.lb_lines.specs.declared.traffic.Service.TheVariants as services
 use Rattle.lb_outbox.specs.declared.job.Job.{Job}
 use Rattle.lb_wire.specs.declared.addr.Origin.{Origin}
 use Rattle.lb_wire.specs.declared.ids.ServerId.{ServerId}
@@ -62,7 +62,7 @@ sends_nowhere w origin bytes none = record {
 }
 
 -- by the socket of a listener
-pub sends_packet : (old new : World) (origin : Origin) (bytes : List ℕ) (sending : Sending) → slice_get old.fronts origin.front ≡ Some fronts.Datagram
+pub sends_packet : (old new : World) (origin : Origin) (bytes : List ℕ) (sending : Sending) → slice_get old.fronts origin.front ≡ Some services.Datagram
     → ComesBy (if origin.slot == 0 then Some ways.Datagram else None) (get_or old.there origin.front false) sending
     → ((roster : List Listed) → new.taken ≡ old.taken ++ packet_in roster (Some (Client origin, bytes)) sending)
     → job_in (Some (Client origin, bytes)) sending ≡ [] → post_in (Some (Client origin, bytes)) sending ≡ []
@@ -78,7 +78,7 @@ sends_packet old new origin bytes sending front comes taken jobs posts failed sa
 }
 
 -- by the outbox
-pub sends_job : (old new : World) (origin : Origin) (bytes : List ℕ) (sending : Sending) → slice_get old.fronts origin.front ≡ Some fronts.Stream
+pub sends_job : (old new : World) (origin : Origin) (bytes : List ℕ) (sending : Sending) → slice_get old.fronts origin.front ≡ Some services.Stream
     → ((there : Bool) → ComesBy (Some ways.Outbox) there sending)
     → new.outbox ≡ record old.outbox { sent = old.outbox.sent ++ job_in (Some (Client origin, bytes)) sending }
     → ((roster : List Listed) → packet_in roster (Some (Client origin, bytes)) sending ≡ []) → post_in (Some (Client origin, bytes)) sending ≡ [] → is_by_device sending ≡ false
@@ -94,7 +94,7 @@ sends_job old new origin bytes sending front comes sent packets posts device sam
 }
 
 -- to the request that waits for it
-pub sends_post : (old new : World) (origin : Origin) (bytes : List ℕ) (sending : Sending) → slice_get old.fronts origin.front ≡ Some fronts.Http
+pub sends_post : (old new : World) (origin : Origin) (bytes : List ℕ) (sending : Sending) → slice_get old.fronts origin.front ≡ Some services.Http
     → ((there : Bool) → ComesBy (Some ways.Post) there sending)
     → new.handed ≡ old.handed ++ post_in (Some (Client origin, bytes)) sending
     → ((roster : List Listed) → packet_in roster (Some (Client origin, bytes)) sending ≡ []) → job_in (Some (Client origin, bytes)) sending ≡ [] → is_by_device sending ≡ false

@@ -19,8 +19,8 @@ use Rattle.lb_lines.specs.declared.report.Why.{Why}
 use Rattle.lb_lines.specs.declared.report.Why.TheVariants as whys
 use Rattle.lb_lines.specs.declared.roster.Listed.{Listed}
 use Rattle.lb_lines.specs.declared.traffic.Datagram.{Datagram}
-use Rattle.lb_lines.specs.declared.traffic.Front.{Front}
-use Rattle.lb_lines.specs.declared.traffic.Front.TheVariants as fronts
+use Rattle.lb_lines.specs.declared.traffic.Service.{Service}
+use Rattle.lb_lines.specs.declared.traffic.Service.TheVariants as services
 use Rattle.lb_lines.specs.declared.traffic.Socket.TheVariants as sockets
 use Rattle.lb_outbox.specs.declared.job.Job.{Job}
 use Rattle.lb_outbox.specs.declared.job.Job.TheVariants as jobs
@@ -28,15 +28,15 @@ use Rattle.lb_wire.specs.declared.addr.Origin.{Origin}
 use Rattle.lb_wire.specs.declared.ids.ServerId.{ServerId}
 
 -- the way to a client that asked by this listener, in this slot: its datagrams have slot 0; a console, and no listener, is no way
-abbrev pub way_to : Option Front → ℕ → Option Way
-way_to (Some fronts.Datagram) slot = if slot == 0 then Some ways.Datagram else None
-way_to (Some fronts.Stream) slot = Some ways.Outbox
-way_to (Some fronts.Http) slot = Some ways.Post
-way_to (Some fronts.Console) slot = None
+abbrev pub way_to : Option Service → ℕ → Option Way
+way_to (Some services.Datagram) slot = if slot == 0 then Some ways.Datagram else None
+way_to (Some services.Stream) slot = Some ways.Outbox
+way_to (Some services.Http) slot = Some ways.Post
+way_to (Some services.Console) slot = None
 way_to None slot = None
 
 -- the way of a letter: to a client by what its listener is; to a server there is none
-abbrev pub way_of : List Front → Letter → Option Way
+abbrev pub way_of : List Service → Letter → Option Way
 way_of fronts (Client origin, bytes) = way_to (slice_get fronts origin.front) origin.slot
 way_of fronts (Server server lane, bytes) = None
 
@@ -69,7 +69,7 @@ ComesBy way there (Done by) = way ≡ Some by
 ComesBy way there (Failed why) = Fits way there why
 
 -- what comes of a send: nothing where there is no letter
-abbrev pub Comes : List Front → List Bool → Option Letter → Sending → Type 0
+abbrev pub Comes : List Service → List Bool → Option Letter → Sending → Type 0
 Comes fronts there None sending = sending ≡ Nothing
 Comes fronts there (Some letter) sending = ComesBy (way_of fronts letter) (is_listened there letter) sending
 
@@ -81,12 +81,12 @@ ProbeComes (Failed whys.NoMemory) = Unit {0}
 ProbeComes _ = ⊥
 
 -- a line of the clock: an event, with what came of it and of its send; or a probe
-abbrev pub IsLine : List Front → List Bool → Line → Type 0
+abbrev pub IsLine : List Service → List Bool → Line → Type 0
 IsLine fronts there (lines.Event source event outcome sending) = IsOutcome event outcome × Comes fronts there (outcome_letter event outcome) sending
 IsLine fronts there (lines.Probe server word sending) = ProbeComes sending
 IsLine fronts there (lines.Job job sending) = ⊥
 
-abbrev pub AreLines : List Front → List Bool → List Line → Type 0
+abbrev pub AreLines : List Service → List Bool → List Line → Type 0
 AreLines fronts there [] = Unit {0}
 AreLines fronts there (line ∷ more) = IsLine fronts there line × AreLines fronts there more
 
@@ -105,12 +105,12 @@ unsent (lines.Event source event outcome (Failed whys.NoMemory)) = expired_in ou
 unsent _ = None
 
 -- the job that carries a message to a client of this listener, if it is one of streams
-abbrev pub stream_job : Option Front → Origin → List ℕ → Option Job
-stream_job (Some fronts.Stream) origin bytes = Some (jobs.ToClient origin bytes)
+abbrev pub stream_job : Option Service → Origin → List ℕ → Option Job
+stream_job (Some services.Stream) origin bytes = Some (jobs.ToClient origin bytes)
 stream_job _ origin bytes = None
 
 -- the job that carries such an answer itself
-abbrev pub job_again : List Front → Option (Origin × List ℕ) → Option Job
+abbrev pub job_again : List Service → Option (Origin × List ℕ) → Option Job
 job_again fronts (Some (origin, bytes)) = stream_job (slice_get fronts origin.front) origin bytes
 job_again fronts None = None
 

@@ -5,7 +5,7 @@ use Rattle.lb_step.specs.declared.answer.Answer.{Answer}
 use Rattle.lb_step.specs.declared.event.Event.{Event}
 use Rattle.lb_lines.specs.Stamps.{Stamp}
 use Rattle.lb_lines.specs.declared.traffic.Datagram.{Datagram}
-use Rattle.lb_lines.specs.declared.traffic.Front.{Front}
+use Rattle.lb_lines.specs.declared.traffic.Service.{Service}
 use Rattle.lb_outbox.specs.Outbox.{Sending}
 use Rattle.lb_outbox.specs.declared.job.Job.{Job}
 use Rattle.lb_probes.specs.Probes.{Probed}
@@ -22,7 +22,7 @@ pub record World : Type 0 where
   pub there : List Bool
   pub failures : ℕ
   pub outbox : Sending
-  pub fronts : List Front
+  pub fronts : List Service
   pub handed : List (Origin × List ℕ)
   pub answered : ℕ
   pub pairs : List (Event × Answer)

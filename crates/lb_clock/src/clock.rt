@@ -7,7 +7,7 @@ ghost use Rattle.lb_probes.specs.Probes.{Each, IsQuietFor};
 
 use crate::sending::{job_again, unsent};
 use lb_lines::{
-    Answering, Datagrams, Front, Line, MAX_EVENTS_OF_TURN, Outside, Posts, Roster, Taker,
+    Answering, Datagrams, Line, MAX_EVENTS_OF_TURN, Outside, Posts, Roster, Service, Taker,
     WaitFailed,
 };
 use lb_outbox::{Job, Sender};
@@ -27,7 +27,7 @@ pub struct ClockLoop<S: Datagrams, P: Posts, T: Taker, O: Outside> {
     pub(crate) probes: Probes,
     pub(crate) sockets: S,
     pub(crate) sender: Sender,
-    pub(crate) fronts: Vec<Front>,
+    pub(crate) fronts: Vec<Service>,
     pub(crate) posts: P,
     pub(crate) taker: T,
     pub(crate) outside: O,

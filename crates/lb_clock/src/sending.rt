@@ -16,7 +16,7 @@ use crate::clock::ClockLoop;
 use lb_core::Answer;
 use lb_health::probe;
 use lb_lines::{
-    Datagrams, End, Endpoint, Front, Line, Outcome, Outside, Posts, Reported, Sending, Socket,
+    Datagrams, End, Endpoint, Line, Outcome, Outside, Posts, Reported, Sending, Service, Socket,
     Taker, Way, Why, letter_of,
 };
 use lb_outbox::{Job, Sender};
@@ -47,17 +47,17 @@ impl<S: Datagrams, P: Posts, T: Taker, O: Outside> ClockLoop<S, P, T, O> {
     fn send_to_client<R: Wait>(&mut self, rt: &R, origin: Origin, bytes: &Octets) -> Sending
         ensures { Sends self.old self.new (Some (Client origin, bytes.now)) result }
     {
-        match front_of(self.fronts.as_slice(), origin) {
-            None | Some(Front::Console) => Sending::Failed(Why::Gone),
-            Some(Front::Datagram) => send_packet(&mut self.sockets, origin, bytes),
-            Some(Front::Stream) => send_job(rt, self.alloc, &mut self.sender, origin, bytes),
-            Some(Front::Http) => hand(&mut self.posts, origin, bytes),
+        match service_of(self.fronts.as_slice(), origin) {
+            None | Some(Service::Console) => Sending::Failed(Why::Gone),
+            Some(Service::Datagram) => send_packet(&mut self.sockets, origin, bytes),
+            Some(Service::Stream) => send_job(rt, self.alloc, &mut self.sender, origin, bytes),
+            Some(Service::Http) => hand(&mut self.posts, origin, bytes),
         }
     }
 }
 
 /// What listens at the place that a query came to.
-fn front_of(fronts: &[Front], origin: Origin) -> Option<Front>
+fn service_of(fronts: &[Service], origin: Origin) -> Option<Service>
     ensures { result ≡ slice_get fronts.now origin.front }
 {
     fronts.get(usize::from(origin.front)).copied()
@@ -134,12 +134,12 @@ fn expired_in(outcome: Outcome) -> Option<(Origin, Octets)>
 }
 
 /// The job that carries such an answer itself, if its client is one of streams.
-pub(crate) fn job_again(fronts: &[Front], unsent: Option<(Origin, Octets)>) -> Option<Job>
+pub(crate) fn job_again(fronts: &[Service], unsent: Option<(Origin, Octets)>) -> Option<Job>
     ensures { result ≡ job_again_spec fronts.now unsent }
 {
     let (origin, bytes) = unsent?;
-    match front_of(fronts, origin) {
-        Some(Front::Stream) => Some(Job::ToClient(origin, bytes)),
+    match service_of(fronts, origin) {
+        Some(Service::Stream) => Some(Job::ToClient(origin, bytes)),
         _ => None,
     }
 }

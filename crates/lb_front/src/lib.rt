@@ -25,6 +25,6 @@ pub use lb_doh::{
 };
 pub use paced::Paced;
 pub use serving::{
-    Bound, END_MILLISECONDS, FrontEnded, FrontParts, Room, front_runtime, run_front,
+    Admission, Bound, END_MILLISECONDS, FrontEnded, FrontParts, front_runtime, run_front,
     serve_connections, settings,
 };

@@ -5,7 +5,7 @@ ghost use Rattle.lb_front.specs.Response.{IsBuilt, IsUnbuilt};
 
 use crate::cut::Cut;
 use bytes::Bytes;
-use http::{Response, StatusCode, header};
+use http::{HeaderValue, Response, StatusCode, header};
 use http_body_util::Full;
 use lb_doh::DohResponse;
 use std::alloc::{AllocError, Global};
@@ -45,10 +45,11 @@ fn with_message(
         Ok(body) => body,
         Err(refused) => return Err(Cut::from(AllocError::from(refused))),
     };
+    let media = HeaderValue::from_static("application/dns-message");
     let response = Response::builder(alloc)
         .status(status)
-        .header(header::CONTENT_TYPE, "application/dns-message")
-        .header(header::CACHE_CONTROL, kept.as_str());
+        .header(header::CONTENT_TYPE, media)
+        .header(header::CACHE_CONTROL, kept);
     Ok(response.body(Full::new(body))?)
 }
 

@@ -133,8 +133,8 @@ fn serve_by<
     let shared = shared_by(alloc, runtime.handle().time(), asker, requests, &sends)?;
     let listeners = registered(alloc, listeners, runtime.handle().reactor())?;
     sends.http().bound(clients.min(CONNECTIONS) as u64);
-    let room = (listeners, clients);
-    serve_shared(rt, alloc, &mut runtime, room, end, (&shared, sends))?;
+    let admission = (listeners, clients);
+    serve_shared(rt, alloc, &mut runtime, admission, end, (&shared, sends))?;
     ended(&rt, &shared)
 }
 
@@ -173,7 +173,7 @@ fn shared_by<T: Taker, O: Outside, W: Waker>(
 }
 
 /// Listeners, each with its place, and how many clients are connected at most.
-pub type Room = (Vec<(u8, TcpListener)>, usize);
+pub type Admission = (Vec<(u8, TcpListener)>, usize);
 
 /// Serves the connections of the listeners, which share this and are counted there, until it is
 /// told to end.
@@ -186,12 +186,12 @@ fn serve_shared<
     rt: R,
     alloc: Global,
     runtime: &mut LocalRuntime,
-    room: Room,
+    admission: Admission,
     end: oneshot::Receiver<()>,
     shared: (&Arc<Shared<T, O, W>>, Arc<Sends>),
 ) -> Result<(), FrontFault> {
     let maker = maker_of(rt, alloc, runtime.handle().time(), shared)?;
-    serve_connections(&rt, alloc, runtime, room, end, maker)
+    serve_connections(&rt, alloc, runtime, admission, end, maker)
 }
 
 /// Serves the connections of the listeners until it is told to end: until `end` is sent, or its
@@ -201,11 +201,11 @@ pub fn serve_connections<R: Wait + Clock + Net + RandomSource + AllocGlobal, M: 
     rt: &R,
     alloc: Global,
     runtime: &mut LocalRuntime,
-    room: Room,
+    admission: Admission,
     end: oneshot::Receiver<()>,
     maker: M,
 ) -> Result<(), FrontFault> {
-    let (listeners, clients) = room;
+    let (listeners, clients) = admission;
     let places = Semaphore::new(alloc, clients.min(CONNECTIONS))?;
     let places = Arc::new(alloc, places)?;
     let timers = runtime.handle().time().clone()?;

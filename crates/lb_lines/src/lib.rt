@@ -27,5 +27,5 @@ pub use report::{DeviceFault, Line, Outcome, Report, Sending, Source, Way, Why};
 pub use reported::Reported;
 pub use rooms::Rooms;
 pub use roster::{Place, Roster, RosterFull};
-pub use traffic::{Accepted, Datagram, Front, Peer, Read, Ready, Received, Socket, WaitFailed};
+pub use traffic::{Accepted, Datagram, Peer, Read, Ready, Received, Service, Socket, WaitFailed};
 pub use traits::{Datagrams, Gate, Outside, Posts, Streams, Taker, Waker};

@@ -33,7 +33,7 @@ pub enum Received {
 
 /// What listens at a place of the listen lines.
 #[derive(Clone, Copy, Debug, PartialEq, Eq)]
-pub enum Front {
+pub enum Service {
     /// Queries by datagrams.
     Datagram,
     /// Queries by streams.

@@ -22,9 +22,9 @@ pub use lb_connections::Connections;
 pub use lb_datagrams::{DatagramLoop, datagram_turn};
 pub use lb_frames::{Framer, Incoming, Message, Outgoing, cuts_do_not_matter, frame, one_division};
 pub use lb_lines::{
-    Accepted, Answering, Datagram, Datagrams, DeviceFault, End, Endpoint, Front, Gate, Head, Line,
+    Accepted, Answering, Datagram, Datagrams, DeviceFault, End, Endpoint, Gate, Head, Line,
     Outcome, Outside, Peer, Place, Posts, Read, Ready, Received, Report, Reported, Roster,
-    RosterFull, Sending, Socket, Source, Streams, Taker, WaitFailed, Waker, Way, Why,
+    RosterFull, Sending, Service, Socket, Source, Streams, Taker, WaitFailed, Waker, Way, Why,
     one_send_a_line,
 };
 pub use lb_outbox::{Delivery, Job, Outbox, Receiver, Sender, SenderId, Settled, finish};

@@ -2,7 +2,7 @@
 //! of what it is made of, so that a thread takes none before its first turn.
 
 use lb_connections::Connections;
-use lb_lines::{Front, Roster};
+use lb_lines::{Roster, Service};
 use lb_outbox::{Receiver, Sender};
 use lb_probes::Probes;
 use lb_sends::Sends;
@@ -34,7 +34,7 @@ pub struct StreamParts<S, T, O, P> {
     /// The jobs that other loops send to it.
     pub receiver: Receiver,
     /// What listens at each place of the listen lines.
-    pub fronts: Vec<Front>,
+    pub fronts: Vec<Service>,
     /// The HTTP requests that wait.
     pub posts: P,
     /// Its event handler.
@@ -58,7 +58,7 @@ pub struct ClockParts<S, T, O, P> {
     /// Sender two of the outbox.
     pub sender: Sender,
     /// What listens at each place of the listen lines.
-    pub fronts: Vec<Front>,
+    pub fronts: Vec<Service>,
     /// The HTTP requests that wait.
     pub posts: P,
     /// Its event handler.

@@ -5,8 +5,8 @@ use crate::callers::{AtDesk, has_ruled, is_raised};
 use lb_core::{Answer, Event, StatedAction};
 use lb_desk::{Desk, DeskFault, Naming, Seat, desks_cross_threads};
 use lb_loops::{
-    ClockParts, Connections, Datagram, DatagramParts, Ended, Endpoint, Front, Gate, LoopFault,
-    Outbox, Parts, Probes, Receiver, Roster, Sender, Socket, StreamParts, Taker, Waker, frame,
+    ClockParts, Connections, Datagram, DatagramParts, Ended, Endpoint, Gate, LoopFault, Outbox,
+    Parts, Probes, Receiver, Roster, Sender, Service, Socket, StreamParts, Taker, Waker, frame,
     run_loops,
 };
 use lb_memory::{
@@ -451,7 +451,7 @@ struct StreamRoom<'a, R: Wait> {
     sockets: MemoryStreams<'a, R>,
     table: Connections,
     roster: Roster,
-    fronts: Vec<Front>,
+    fronts: Vec<Service>,
     posts: MemoryPosts<'a, R>,
     outside: MemoryOutside<'a, R>,
 }
@@ -490,7 +490,7 @@ impl<'a, R: Wait> StreamRoom<'a, R> {
 struct ClockRoom<'a, R: Wait> {
     room: Room<'a, R>,
     probes: Probes,
-    fronts: Vec<Front>,
+    fronts: Vec<Service>,
     posts: MemoryPosts<'a, R>,
 }
 
@@ -649,6 +649,6 @@ fn posts<'a, R: Wait>(rt: &'a R, alloc: Global) -> Result<MemoryPosts<'a, R>, Al
 }
 
 /// One listener of datagrams and one of streams.
-fn fronts(alloc: Global) -> Result<Vec<Front>, AllocError> {
-    Vec::from_slice(alloc, &[Front::Datagram, Front::Stream])
+fn fronts(alloc: Global) -> Result<Vec<Service>, AllocError> {
+    Vec::from_slice(alloc, &[Service::Datagram, Service::Stream])
 }

@@ -8,7 +8,7 @@ use crate::setting::Setting;
 use crate::shown::Shown;
 use crate::told::Told;
 use lb_core::Event;
-use lb_loops::{Front, Roster, Sender};
+use lb_loops::{Roster, Sender, Service};
 use lb_memory::{
     Failing, MemoryDatagrams, MemoryOutside, MemoryPosts, MemoryStreams, Moments, Packets,
     Requests, Wires,
@@ -20,13 +20,13 @@ use std::sync::atomic::AtomicBool;
 use std::sync::{Arc, Mutex, Wait};
 
 /// What listens at each place.
-const FRONTS: [Front; 6] = [
-    Front::Datagram,
-    Front::Datagram,
-    Front::Stream,
-    Front::Stream,
-    Front::Http,
-    Front::Console,
+const FRONTS: [Service; 6] = [
+    Service::Datagram,
+    Service::Datagram,
+    Service::Stream,
+    Service::Stream,
+    Service::Http,
+    Service::Console,
 ];
 
 /// How many of them are of datagrams.
@@ -166,6 +166,6 @@ impl<'a, R: Wait> Stage<'a, R> {
 #[derive(Drop)]
 pub(crate) struct Sides<'a, R: Wait> {
     pub(crate) posts: MemoryPosts<'a, R>,
-    pub(crate) fronts: Vec<Front>,
+    pub(crate) fronts: Vec<Service>,
     pub(crate) outside: MemoryOutside<'a, R>,
 }

@@ -5,8 +5,8 @@ use Rattle.lb_command.specs.declared.setup.Listener.{Listener}
 use Rattle.lb_command.specs.declared.setup.Protocol.{Protocol}
 use Rattle.lb_command.specs.declared.setup.Protocol.TheVariants as protocols
 use Rattle.lb_lines.specs.declared.endpoint.Endpoint.{Endpoint}
-use Rattle.lb_lines.specs.declared.traffic.Front.{Front}
-use Rattle.lb_lines.specs.declared.traffic.Front.TheVariants as fronts
+use Rattle.lb_lines.specs.declared.traffic.Service.{Service}
+use Rattle.lb_lines.specs.declared.traffic.Service.TheVariants as services
 
 -- the end that a line listens at
 abbrev pub end_of : Listener → Endpoint
@@ -24,15 +24,15 @@ abbrev pub end_by : Protocol → Listener → Option Endpoint
 end_by protocol line = end_between protocol line.protocol (end_of line)
 
 -- what listens at the place of a line
-abbrev pub front_by : Protocol → Front
-front_by protocols.Udp = fronts.Datagram
-front_by protocols.Tcp = fronts.Stream
-front_by protocols.Doh = fronts.Http
-front_by protocols.Console = fronts.Console
+abbrev pub service_by : Protocol → Service
+service_by protocols.Udp = services.Datagram
+service_by protocols.Tcp = services.Stream
+service_by protocols.Doh = services.Http
+service_by protocols.Console = services.Console
 
-abbrev pub front_of : Listener → Front
-front_of line = front_by line.protocol
+abbrev pub service_of : Listener → Service
+service_of line = service_by line.protocol
 
 -- what listens at each place of these lines, for two loops
-abbrev pub AreFronts : List Front → List Front → List Listener → Type 0
-AreFronts one other lines = (one ≡ map front_of lines) × (other ≡ map front_of lines)
+abbrev pub AreFronts : List Service → List Service → List Listener → Type 0
+AreFronts one other lines = (one ≡ map service_of lines) × (other ≡ map service_of lines)

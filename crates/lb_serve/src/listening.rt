@@ -7,7 +7,7 @@ use crate::fault::Fault;
 use crate::switches::Switch;
 use lb_command::{Listener, Protocol, begins_listen};
 use lb_front::Bound;
-use lb_loops::{Endpoint, Front};
+use lb_loops::{Endpoint, Service};
 use lb_sockets::{
     BindFault, ListenSockets, Share, TcpListeners, listener_at, listeners, std_listener_at,
     stream_listeners,
@@ -192,20 +192,20 @@ fn end_by(protocol: Protocol, line: &Listener) -> Option<Endpoint>
 }
 
 /// What listens at each place. The one error is lack of memory.
-pub(crate) fn fronts(alloc: Global, lines: &[Listener]) -> Result<Vec<Front>, AllocError>
-    ensures { IfOk result (λ fronts. fronts.items ≡ map spec.front_of lines.now) }
+pub(crate) fn fronts(alloc: Global, lines: &[Listener]) -> Result<Vec<Service>, AllocError>
+    ensures { IfOk result (λ fronts. fronts.items ≡ map spec.service_of lines.now) }
 {
-    lines.iter().map(front_of).collect(alloc)
+    lines.iter().map(service_of).collect(alloc)
 }
 
-fn front_of(line: &Listener) -> Front
-    ensures { result ≡ spec.front_of line.now }
+fn service_of(line: &Listener) -> Service
+    ensures { result ≡ spec.service_of line.now }
 {
     match line.protocol {
-        Protocol::Udp => Front::Datagram,
-        Protocol::Tcp => Front::Stream,
-        Protocol::Doh => Front::Http,
-        Protocol::Console => Front::Console,
+        Protocol::Udp => Service::Datagram,
+        Protocol::Tcp => Service::Stream,
+        Protocol::Doh => Service::Http,
+        Protocol::Console => Service::Console,
     }
 }
 

@@ -14,7 +14,7 @@ use crate::hears::Hears;
 use crate::listening::{Listening, fronts};
 use crate::operator::Operator;
 use crate::pages::DeskPage;
-use crate::shared::{Rooms, Shared, shared_by};
+use crate::shared::{LoopTables, Shared, shared_by};
 use crate::sockets::{BoundSockets, Devices, Sockets};
 use crate::switches::Switches;
 use crate::threads::{Fronting, LoopParts, Over, Services};
@@ -24,7 +24,7 @@ use lb_desk::{Desk, Naming, Seat};
 use lb_doh::{HttpPosts, Requests};
 use lb_front::{Bound, FrontParts, front_runtime};
 use lb_loops::{
-    Caller, ClockParts, DatagramParts, Front, Parts, Receiver, Roster, Sender, StreamParts,
+    Caller, ClockParts, DatagramParts, Parts, Receiver, Roster, Sender, Service, StreamParts,
 };
 use lb_metrics::{MetricsParts, Page, metrics_runtime};
 use lb_program::ServerPlace;
@@ -127,9 +127,9 @@ fn words_of<R: Clock>(
 struct OfLoops<'a, R: Wait + Net + Clock + RandomSource> {
     streams: TcpSockets<'a, R>,
     clock: UdpSockets<'a, R>,
-    rooms: Rooms,
+    tables: LoopTables,
     /// What listens at each place of the listen lines, for the loop of streams and for the clock.
-    fronts: (Vec<Front>, Vec<Front>),
+    fronts: (Vec<Service>, Vec<Service>),
     posts: (HttpPosts<'a, R>, HttpPosts<'a, R>),
     jobs: (Sender, Receiver),
     outside: SystemOutside<'a, R>,
@@ -149,7 +149,7 @@ impl<'a, R: Wait + Net + Clock + RandomSource> OfLoops<'a, R> {
         let OfLoops {
             streams,
             clock,
-            rooms,
+            tables,
             fronts,
             posts,
             jobs,
@@ -166,8 +166,8 @@ impl<'a, R: Wait + Net + Clock + RandomSource> OfLoops<'a, R> {
         let (datagrams, takers) = rows;
         let streams = StreamParts {
             sockets: streams,
-            table: rooms.table,
-            roster: rooms.streams,
+            table: tables.table,
+            roster: tables.streams,
             receiver,
             fronts: stream_fronts,
             posts: stream_posts,
@@ -177,8 +177,8 @@ impl<'a, R: Wait + Net + Clock + RandomSource> OfLoops<'a, R> {
         };
         let clock = ClockParts {
             sockets: clock,
-            probes: rooms.probes,
-            roster: rooms.clock,
+            probes: tables.probes,
+            roster: tables.clock,
             sender,
             fronts: clock_fronts,
             posts: clock_posts,
@@ -330,7 +330,7 @@ struct Tools {
     words: Words,
     console: ConsoleSockets,
     waker: mio::Waker,
-    fronts: (Vec<Front>, Vec<Front>),
+    fronts: (Vec<Service>, Vec<Service>),
     streams: PollWaker,
     roster: Arc<Mutex<Roster>>,
     sends: Arc<Sends>,
@@ -366,7 +366,10 @@ impl Tools {
 }
 
 /// The fronts of these lines, for two loops.
-fn fronts_for_two(alloc: Global, lines: &[Listener]) -> Result<(Vec<Front>, Vec<Front>), AllocError>
+fn fronts_for_two(
+    alloc: Global,
+    lines: &[Listener],
+) -> Result<(Vec<Service>, Vec<Service>), AllocError>
     ensures { IfOk result (λ r. AreFronts r.0.items r.1.items lines.now) }
 {
     Ok((fronts(alloc, lines)?, fronts(alloc, lines)?))
@@ -423,7 +426,7 @@ impl<'a, R: Wait + Net + Clock + RandomSource> Made<'a, R> {
         let loops = OfLoops {
             streams: sockets.streams,
             clock: sockets.clock,
-            rooms: shared.rooms,
+            tables: shared.tables,
             fronts: tools.fronts,
             posts,
             jobs: (ties.clock, ties.receiver),

@@ -26,23 +26,23 @@ pub(crate) struct Shared {
     pub(crate) sends: Arc<Sends>,
     /// A copy of the roster for each loop of datagrams.
     pub(crate) rosters: Vec<Roster>,
-    pub(crate) rooms: Rooms,
+    pub(crate) tables: LoopTables,
 }
 
 /// Room that the loops of streams and of the clock need for as long as they run: a copy of the
 /// roster for each, the table of connections over TCP, and the servers that are probed.
 #[derive(Drop)]
-pub(crate) struct Rooms {
+pub(crate) struct LoopTables {
     pub(crate) streams: Roster,
     pub(crate) clock: Roster,
     pub(crate) table: Connections,
     pub(crate) probes: Probes,
 }
 
-impl Rooms {
+impl LoopTables {
     /// The one error is lack of memory.
-    fn made(alloc: Global) -> Result<Rooms, AllocError> {
-        Ok(Rooms {
+    fn made(alloc: Global) -> Result<LoopTables, AllocError> {
+        Ok(LoopTables {
             streams: Roster::made(alloc)?,
             clock: Roster::made(alloc)?,
             table: Connections::made(alloc)?,
@@ -70,7 +70,7 @@ impl Shared {
             requests: Arc::new(alloc, Mutex::new(Waiting::new(alloc)))?,
             sends: Arc::new(alloc, Sends::made(alloc, loops.saturating_add(1))?)?,
             rosters: rosters(alloc, loops)?,
-            rooms: Rooms::made(alloc)?,
+            tables: LoopTables::made(alloc)?,
         })
     }
 

@@ -28,21 +28,21 @@ const STARVED: u64 = 100;
 /// The most octets that are written at one time.
 pub(crate) const WRITTEN: usize = 65_536;
 
-/// A kind of what there is to do.
+/// What there is to do, by turns.
 #[derive(Clone, Copy)]
-enum Kind {
+enum Turn {
     Writing,
     Incoming,
     Reading,
 }
 
-impl Kind {
-    /// The kind whose turn is next.
-    fn after(self) -> Kind {
+impl Turn {
+    /// The one that is next.
+    fn after(self) -> Turn {
         match self {
-            Kind::Writing => Kind::Incoming,
-            Kind::Incoming => Kind::Reading,
-            Kind::Reading => Kind::Writing,
+            Turn::Writing => Turn::Incoming,
+            Turn::Incoming => Turn::Reading,
+            Turn::Reading => Turn::Writing,
         }
     }
 }
@@ -55,8 +55,8 @@ pub(crate) struct Arrivals {
     clients: Clients,
     reading: Queue,
     writing: Queue,
-    /// Which kind is told next.
-    kind: Kind,
+    /// Whose turn is next.
+    turn: Turn,
 }
 
 impl Arrivals {
@@ -73,7 +73,7 @@ impl Arrivals {
             clients: Clients::made(alloc, listeners, limits, sends)?,
             reading: Queue::made(alloc)?,
             writing: Queue::made(alloc)?,
-            kind: Kind::Writing,
+            turn: Turn::Writing,
         })
     }
 
@@ -120,28 +120,28 @@ impl Arrivals {
         self.clients.feed();
     }
 
-    /// The next thing to do, of each kind in turn.
+    /// The next thing to do, by turns.
     pub(crate) fn next(&mut self) -> Ready {
         for _ in 0..3 {
-            let kind = self.kind;
-            self.kind = kind.after();
-            if let Some(ready) = self.next_of(kind) {
+            let turn = self.turn;
+            self.turn = turn.after();
+            if let Some(ready) = self.next_of(turn) {
                 return ready;
             }
         }
         Ready::Nothing
     }
 
-    /// The next thing to do of a kind.
-    fn next_of(&mut self, kind: Kind) -> Option<Ready> {
-        match kind {
-            Kind::Writing => {
+    /// The next thing to do of those whose turn it is.
+    fn next_of(&mut self, turn: Turn) -> Option<Ready> {
+        match turn {
+            Turn::Writing => {
                 let number = next_in(&mut self.writing, &self.connections)?;
                 Some(Ready::Writable(number))
             }
-            Kind::Incoming if self.clients.may_wait() => Some(Ready::Incoming),
-            Kind::Incoming => None,
-            Kind::Reading => {
+            Turn::Incoming if self.clients.may_wait() => Some(Ready::Incoming),
+            Turn::Incoming => None,
+            Turn::Reading => {
                 let number = next_in(&mut self.reading, &self.connections)?;
                 Some(Ready::Readable(number))
             }

@@ -14,7 +14,7 @@ use Rattle.lb_lines.specs.declared.report.Sending.TheVariants.{Done, Failed, Not
 use Rattle.lb_lines.specs.declared.report.Why.{Why}
 use Rattle.lb_lines.specs.declared.report.Why.TheVariants as whys
 use Rattle.lb_lines.specs.declared.roster.Listed.{Listed}
-use Rattle.lb_lines.specs.declared.traffic.Front.{Front}
+use Rattle.lb_lines.specs.declared.traffic.Service.{Service}
 use Rattle.lb_lines.specs.declared.traffic.Peer.TheVariants as peers
 use Rattle.lb_streams.proofs.Faring.{rose_earlier, rose_later}
 use Rattle.lb_streams.proofs.Then.{closed_before, closed_later, full_before, full_later, no_client_later, number_before, number_later, over_before, over_later, peer_before, peer_later, servers_later}
@@ -67,12 +67,12 @@ either_later : (http : Bool) (X Y Z : Type 0) → (Y → Z) → by_front http X 
 either_later true X Y Z f is = is
 either_later false X Y Z f is = f is
 
-to_later : (listens : List Front) (roster : List Listed) (a b c : Net) (m s sends : ℕ → List (List ℕ)) (letter : Letter) (sending : Sending) → Goes b c m s → ComesTo listens roster a b sends letter sending → ComesTo listens roster a c sends letter sending
+to_later : (listens : List Service) (roster : List Listed) (a b c : Net) (m s sends : ℕ → List (List ℕ)) (letter : Letter) (sending : Sending) → Goes b c m s → ComesTo listens roster a b sends letter sending → ComesTo listens roster a c sends letter sending
 to_later listens roster a b c m s sends (Client origin, bytes) sending two is =
     either_later (is_http (slice_get listens origin.front)) (ComesPost sending) (ComesClient a b sends origin.slot bytes sending) (ComesClient a c sends origin.slot bytes sending) (client_comes_later a b c m s sends origin.slot bytes sending two) is
 to_later listens roster a b c m s sends (Server server lane, bytes) sending two is = server_comes_later a b c m s sends server lane (end_of server roster) bytes sending two is
 
-pub comes_later : (listens : List Front) (roster : List Listed) (a b c : Net) (m s sends : ℕ → List (List ℕ)) (letter : Option Letter) (sending : Sending) → Goes b c m s
+pub comes_later : (listens : List Service) (roster : List Listed) (a b c : Net) (m s sends : ℕ → List (List ℕ)) (letter : Option Letter) (sending : Sending) → Goes b c m s
     → Comes listens roster a b sends letter sending → Comes listens roster a c sends letter sending
 comes_later listens roster a b c m s sends None sending two is = is
 comes_later listens roster a b c m s sends (Some letter) sending two is = to_later listens roster a b c m s sends letter sending two is
@@ -116,12 +116,12 @@ server_comes_before a b c m s r q sends server lane (Some to) bytes Nothing one 
 server_comes_before a b c m s r q sends server lane (Some to) bytes (Done way) one two is = is
 server_comes_before a b c m s r q sends server lane (Some to) bytes (Failed why) one two is = server_before a b c m s r q sends server to lane bytes why one two is
 
-to_before : (listens : List Front) (roster : List Listed) (a b c : Net) (m s r q sends : ℕ → List (List ℕ)) (letter : Letter) (sending : Sending) → Goes a b m s → Goes b c r q → ComesTo listens roster b c sends letter sending → ComesTo listens roster a c (both s sends) letter sending
+to_before : (listens : List Service) (roster : List Listed) (a b c : Net) (m s r q sends : ℕ → List (List ℕ)) (letter : Letter) (sending : Sending) → Goes a b m s → Goes b c r q → ComesTo listens roster b c sends letter sending → ComesTo listens roster a c (both s sends) letter sending
 to_before listens roster a b c m s r q sends (Client origin, bytes) sending one two is =
     either_later (is_http (slice_get listens origin.front)) (ComesPost sending) (ComesClient b c sends origin.slot bytes sending) (ComesClient a c (both s sends) origin.slot bytes sending) (client_comes_before a b c m s sends origin.slot bytes sending one) is
 to_before listens roster a b c m s r q sends (Server server lane, bytes) sending one two is = server_comes_before a b c m s r q sends server lane (end_of server roster) bytes sending one two is
 
-pub comes_before : (listens : List Front) (roster : List Listed) (a b c : Net) (m s r q sends : ℕ → List (List ℕ)) (letter : Option Letter) (sending : Sending) → Goes a b m s → Goes b c r q
+pub comes_before : (listens : List Service) (roster : List Listed) (a b c : Net) (m s r q sends : ℕ → List (List ℕ)) (letter : Option Letter) (sending : Sending) → Goes a b m s → Goes b c r q
     → Comes listens roster b c sends letter sending → Comes listens roster a c (both s sends) letter sending
 comes_before listens roster a b c m s r q sends None sending one two is = is
 comes_before listens roster a b c m s r q sends (Some letter) sending one two is = to_before listens roster a b c m s r q sends letter sending one two is
@@ -158,7 +158,7 @@ server_comes_as a b s r server lane (Some to) bytes Nothing e is = is
 server_comes_as a b s r server lane (Some to) bytes (Done way) e is = is
 server_comes_as a b s r server lane (Some to) bytes (Failed why) e is = server_as a b s r server to lane bytes why e is
 
-pub comes_as : (listens : List Front) (roster : List Listed) (a b : Net) (s r : ℕ → List (List ℕ)) (letter : Option Letter) (sending : Sending) → ((c : ℕ) → s c ≡ r c) → Comes listens roster a b s letter sending → Comes listens roster a b r letter sending
+pub comes_as : (listens : List Service) (roster : List Listed) (a b : Net) (s r : ℕ → List (List ℕ)) (letter : Option Letter) (sending : Sending) → ((c : ℕ) → s c ≡ r c) → Comes listens roster a b s letter sending → Comes listens roster a b r letter sending
 comes_as listens roster a b s r None sending e is = is
 comes_as listens roster a b s r (Some (Client origin, bytes)) sending e is =
     either_later (is_http (slice_get listens origin.front)) (ComesPost sending) (ComesClient a b s origin.slot bytes sending) (ComesClient a b r origin.slot bytes sending) (client_comes_as a b s r origin.slot bytes sending e) is
@@ -166,7 +166,7 @@ comes_as listens roster a b s r (Some (Server server lane, bytes)) sending e is 
 
 -- Lines.
 
-line_later : (listens : List Front) (roster : List Listed) (a b c : Net) (m s sends : ℕ → List (List ℕ)) (line : Line) → Goes b c m s → IsLine listens roster a b sends line → IsLine listens roster a c sends line
+line_later : (listens : List Service) (roster : List Listed) (a b c : Net) (m s sends : ℕ → List (List ℕ)) (line : Line) → Goes b c m s → IsLine listens roster a b sends line → IsLine listens roster a c sends line
 line_later listens roster a b c m s sends (lines.Event source event outcome sending) two is = (
   (is.0.0, is.0.1, record { peer = is.0.2.peer; is = peer_later is.0.0 a b c m s is.0.2.peer two is.0.2.is; now = is.0.2.now; word = is.0.2.word; bytes = is.0.2.bytes; made = is.0.2.made }),
   is.1,
@@ -175,7 +175,7 @@ line_later listens roster a b c m s sends (lines.Event source event outcome send
 line_later listens roster a b c m s sends (lines.Job job sending) two is = comes_later listens roster a b c m s sends (Some (job_letter job)) sending two is
 line_later listens roster a b c m s sends (lines.Probe server word sending) two is = is
 
-line_before : (listens : List Front) (roster : List Listed) (a b c : Net) (m s r q sends : ℕ → List (List ℕ)) (line : Line) → Goes a b m s → Goes b c r q → IsLine listens roster b c sends line → IsLine listens roster a c (both s sends) line
+line_before : (listens : List Service) (roster : List Listed) (a b c : Net) (m s r q sends : ℕ → List (List ℕ)) (line : Line) → Goes a b m s → Goes b c r q → IsLine listens roster b c sends line → IsLine listens roster a c (both s sends) line
 line_before listens roster a b c m s r q sends (lines.Event source event outcome sending) one two is = (
   (is.0.0, is.0.1, record { peer = is.0.2.peer; is = peer_before is.0.0 a b c m s r q is.0.2.peer one two is.0.2.is; now = is.0.2.now; word = is.0.2.word; bytes = is.0.2.bytes; made = is.0.2.made }),
   is.1,
@@ -184,23 +184,23 @@ line_before listens roster a b c m s r q sends (lines.Event source event outcome
 line_before listens roster a b c m s r q sends (lines.Job job sending) one two is = comes_before listens roster a b c m s r q sends (Some (job_letter job)) sending one two is
 line_before listens roster a b c m s r q sends (lines.Probe server word sending) one two is = is
 
-line_as : (listens : List Front) (roster : List Listed) (a b : Net) (s r : ℕ → List (List ℕ)) (line : Line) → ((c : ℕ) → s c ≡ r c) → IsLine listens roster a b s line → IsLine listens roster a b r line
+line_as : (listens : List Service) (roster : List Listed) (a b : Net) (s r : ℕ → List (List ℕ)) (line : Line) → ((c : ℕ) → s c ≡ r c) → IsLine listens roster a b s line → IsLine listens roster a b r line
 line_as listens roster a b s r (lines.Event source event outcome sending) e is = (is.0, is.1, comes_as listens roster a b s r (outcome_letter event outcome) sending e is.2)
 line_as listens roster a b s r (lines.Job job sending) e is = comes_as listens roster a b s r (Some (job_letter job)) sending e is
 line_as listens roster a b s r (lines.Probe server word sending) e is = is
 
-are_later : (listens : List Front) (roster : List Listed) (a b c : Net) (m s sends : ℕ → List (List ℕ)) (ls : List Line) → Goes b c m s → AreLines listens roster a b sends ls → AreLines listens roster a c sends ls
+are_later : (listens : List Service) (roster : List Listed) (a b c : Net) (m s sends : ℕ → List (List ℕ)) (ls : List Line) → Goes b c m s → AreLines listens roster a b sends ls → AreLines listens roster a c sends ls
 are_later listens roster a b c m s sends [] two is = tt
 are_later listens roster a b c m s sends (l ∷ ls) two is = (line_later listens roster a b c m s sends l two is.0, are_later listens roster a b c m s (both sends (sends_to (l ∷ []))) ls two is.1)
 
-are_as : (listens : List Front) (roster : List Listed) (a b : Net) (s r : ℕ → List (List ℕ)) (ls : List Line) → ((c : ℕ) → s c ≡ r c) → AreLines listens roster a b s ls → AreLines listens roster a b r ls
+are_as : (listens : List Service) (roster : List Listed) (a b : Net) (s r : ℕ → List (List ℕ)) (ls : List Line) → ((c : ℕ) → s c ≡ r c) → AreLines listens roster a b s ls → AreLines listens roster a b r ls
 are_as listens roster a b s r [] e is = tt
 are_as listens roster a b s r (l ∷ ls) e is = (
   line_as listens roster a b s r l e is.0,
   are_as listens roster a b (both s (sends_to (l ∷ []))) (both r (sends_to (l ∷ []))) ls (λ c. ap (λ zs. zs ++ sends_to (l ∷ []) c) (e c)) is.1,
 )
 
-are_before : (listens : List Front) (roster : List Listed) (a b c : Net) (m s r q sends : ℕ → List (List ℕ)) (ls : List Line) → Goes a b m s → Goes b c r q → AreLines listens roster b c sends ls → AreLines listens roster a c (both s sends) ls
+are_before : (listens : List Service) (roster : List Listed) (a b c : Net) (m s r q sends : ℕ → List (List ℕ)) (ls : List Line) → Goes a b m s → Goes b c r q → AreLines listens roster b c sends ls → AreLines listens roster a c (both s sends) ls
 are_before listens roster a b c m s r q sends [] one two is = tt
 are_before listens roster a b c m s r q sends (l ∷ ls) one two is = (
   line_before listens roster a b c m s r q sends l one two is.0,
@@ -211,7 +211,7 @@ are_before listens roster a b c m s r q sends (l ∷ ls) one two is = (
 sends_of_one : (l : Line) (ls : List Line) (c : ℕ) → sends_to (l ∷ []) c ++ sends_to ls c ≡ sends_to (l ∷ ls) c
 sends_of_one l ls c = ap (λ zs. zs ++ sends_to ls c) (append-nil (message_in c (letter_of l) (sending_of l)))
 
-are_joined : (listens : List Front) (roster : List Listed) (a c : Net) (sends : ℕ → List (List ℕ)) (ls xs : List Line) → AreLines listens roster a c sends ls → AreLines listens roster a c (both sends (sends_to ls)) xs → AreLines listens roster a c sends (ls ++ xs)
+are_joined : (listens : List Service) (roster : List Listed) (a c : Net) (sends : ℕ → List (List ℕ)) (ls xs : List Line) → AreLines listens roster a c sends ls → AreLines listens roster a c (both sends (sends_to ls)) xs → AreLines listens roster a c sends (ls ++ xs)
 are_joined listens roster a c sends [] xs one two = are_as listens roster a c (both sends (sends_to [])) sends xs (λ k. append-nil (sends k)) two
 are_joined listens roster a c sends (l ∷ ls) xs one two = (
   one.0,
@@ -220,7 +220,7 @@ are_joined listens roster a c sends (l ∷ ls) xs one two = (
       (λ k. ap (λ zs. sends k ++ zs) (sym (sends_of_one l ls k)) ∙ sym (append_assoc (sends k) (sends_to (l ∷ []) k) (sends_to ls k))) two),
 )
 
-pub are_on : (listens : List Front) (roster : List Listed) (a b c : Net) (m r : ℕ → List (List ℕ)) (ls xs : List Line) → Goes a b m (sends_to ls) → Goes b c r (sends_to xs)
+pub are_on : (listens : List Service) (roster : List Listed) (a b c : Net) (m r : ℕ → List (List ℕ)) (ls xs : List Line) → Goes a b m (sends_to ls) → Goes b c r (sends_to xs)
     → AreLines listens roster a b none ls → AreLines listens roster b c none xs → AreLines listens roster a c none (ls ++ xs)
 are_on listens roster a b c m r ls xs one two first second = are_joined listens roster a c none ls xs
     (are_later listens roster a b c r (sends_to xs) none ls two first)

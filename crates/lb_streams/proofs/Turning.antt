@@ -19,7 +19,7 @@ use Rattle.lb_lines.specs.declared.report.Outcome.{Outcome}
 use Rattle.lb_lines.specs.declared.report.Sending.{Sending}
 use Rattle.lb_lines.specs.declared.report.Source.TheVariants as sources
 use Rattle.lb_lines.specs.declared.roster.Listed.{Listed}
-use Rattle.lb_lines.specs.declared.traffic.Front.{Front}
+use Rattle.lb_lines.specs.declared.traffic.Service.{Service}
 use Rattle.lb_lines.specs.declared.traffic.Peer.{Peer}
 use Rattle.lb_lines.specs.declared.traffic.Peer.TheVariants as peers
 use Rattle.lb_outbox.specs.Outbox.{Receiving}
@@ -57,7 +57,7 @@ turns_on roster n m k j a b c ls xs blind one two =
           (λ i. sym (flat_map-append (message_by i) ls xs)) (λ i. sym (flat_map-append (λ (l : Line). message_in i (letter_of l) (sending_of l)) ls xs))
           (all_on a.net b.net c.net (messages_by ls) (messages_by xs) (sends_to ls) (sends_to xs) one.goes two.goes);
       settles = settles_on a.net b.net c.net one.settles two.settles;
-      are = are_on a.fronts roster a.net b.net c.net (messages_by ls) (messages_by xs) ls xs one.goes two.goes one.are (subst (λ (fs : List Front). AreLines fs roster b.net c.net none xs) one.fronts two.are);
+      are = are_on a.fronts roster a.net b.net c.net (messages_by ls) (messages_by xs) ls xs one.goes two.goes one.are (subst (λ (fs : List Service). AreLines fs roster b.net c.net none xs) one.fronts two.are);
       received = subst (λ (js : List Job). Receives a.jobs c.jobs js) (sym jobs) (received_on a.jobs b.jobs c.jobs (jobs_received ls) (jobs_received xs) one.received two.received);
       handed = grown_by (λ (l : Line). post_in (letter_of l) (sending_of l)) a.handed b.handed c.handed ls xs one.handed two.handed;
       counted = omega (arith, pairs_len, count_one, count_two);
@@ -157,7 +157,7 @@ turns_job roster a b c from job sending came sent =
     record {
       goes = goes_as a.net c.net none (messages_by (line ∷ [])) (λ i. message_in i (Some (job_letter job)) sending) (sends_to (line ∷ [])) (λ i. refl) (λ i. one_send (Some (job_letter job)) sending line i refl refl) goes;
       settles = subst (λ (z : Net). Settles z c.net) net sent.settles;
-      are = (subst (λ (z : Net). Comes a.fronts roster z c.net none (Some (job_letter job)) sending) net (subst (λ (fs : List Front). Comes fs roster b.net c.net none (Some (job_letter job)) sending) fronts sent.comes), tt);
+      are = (subst (λ (z : Net). Comes a.fronts roster z c.net none (Some (job_letter job)) sending) net (subst (λ (fs : List Service). Comes fs roster b.net c.net none (Some (job_letter job)) sending) fronts sent.comes), tt);
       received = record { deliveries = delivery from job ∷ []; are = (refl, tt); received = jobs };
       handed = sent.handed ∙ ap (λ (w : World). w.handed ++ post_in (Some (job_letter job)) sending) came ∙ ap (λ zs. a.handed ++ zs) (sym (append-nil (post_in (Some (job_letter job)) sending)));
       counted = omega (arith, answered);
@@ -199,7 +199,7 @@ turns_told roster a mid sent b n now word peer bytes event outcome sending said 
     let goes_sent : Goes a.net sent.net (just n bytes) (λ i. message_in i letter sending) = goes_then a.net mid.net sent.net (just n bytes) (λ i. message_in i letter sending) took sends.goes in
     let goes_all : Goes a.net b.net (just n bytes) (λ i. message_in i letter sending) = goes_after a.net sent.net b.net (just n bytes) (λ i. message_in i letter sending) goes_sent settled in
     let comes_sent : Comes mid.fronts roster a.net sent.net none letter sending = comes_before mid.fronts roster a.net mid.net sent.net (just n bytes) none none (λ c. message_in c letter sending) none letter sending took sends.goes sends.comes in
-    let comes_all : Comes a.fronts roster a.net b.net none letter sending = subst (λ (fs : List Front). Comes fs roster a.net b.net none letter sending) fronts (comes_later mid.fronts roster a.net sent.net b.net none none none letter sending settled comes_sent) in
+    let comes_all : Comes a.fronts roster a.net b.net none letter sending = subst (λ (fs : List Service). Comes fs roster a.net b.net none letter sending) fronts (comes_later mid.fronts roster a.net sent.net b.net none none none letter sending settled comes_sent) in
     let failures = settled.failures in let before = took.failures in
     record {
       goes = goes_as a.net b.net (just n bytes) (messages_by (line ∷ [])) (λ i. message_in i letter sending) (sends_to (line ∷ [])) (λ i. taken_by now word n peer bytes event outcome sending i made) (λ i. one_send letter sending line i refl refl) goes_all;

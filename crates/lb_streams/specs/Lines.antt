@@ -19,8 +19,8 @@ use Rattle.lb_lines.specs.declared.report.Way.TheVariants as ways
 use Rattle.lb_lines.specs.declared.report.Why.{Why}
 use Rattle.lb_lines.specs.declared.report.Why.TheVariants as whys
 use Rattle.lb_lines.specs.declared.roster.Listed.{Listed}
-use Rattle.lb_lines.specs.declared.traffic.Front.{Front}
-use Rattle.lb_lines.specs.declared.traffic.Front.TheVariants as fronts
+use Rattle.lb_lines.specs.declared.traffic.Service.{Service}
+use Rattle.lb_lines.specs.declared.traffic.Service.TheVariants as services
 use Rattle.lb_lines.specs.declared.traffic.Peer.{Peer}
 use Rattle.lb_lines.specs.declared.traffic.Peer.TheVariants as peers
 use Rattle.lb_streams.specs.Goes.{IsFull, IsOver, NoClient, NoNumber, both}
@@ -64,8 +64,8 @@ abbrev pub sends_to : List Line → ℕ → List (List ℕ)
 sends_to lines c = messages_to c lines
 
 -- whether HTTP requests come by a listener
-abbrev pub is_http : Option Front → Bool
-is_http (Some fronts.Http) = true
+abbrev pub is_http : Option Service → Bool
+is_http (Some services.Http) = true
 is_http _ = false
 
 -- a connection was closed in this time
@@ -133,21 +133,21 @@ by_front true http stream = http
 by_front false http stream = stream
 
 -- what comes of a letter
-abbrev pub ComesTo : List Front → List Listed → Net → Net → (ℕ → List (List ℕ)) → Letter → Sending → Type 0
+abbrev pub ComesTo : List Service → List Listed → Net → Net → (ℕ → List (List ℕ)) → Letter → Sending → Type 0
 ComesTo listens roster old new sends (Client origin, bytes) sending = by_front (is_http (slice_get listens origin.front)) (ComesPost sending) (ComesClient old new sends origin.slot bytes sending)
 ComesTo listens roster old new sends (Server server lane, bytes) sending = ComesServer old new sends server lane (end_of server roster) bytes sending
 
 -- what comes of a send: nothing where there is no letter
-abbrev pub Comes : List Front → List Listed → Net → Net → (ℕ → List (List ℕ)) → Option Letter → Sending → Type 0
+abbrev pub Comes : List Service → List Listed → Net → Net → (ℕ → List (List ℕ)) → Option Letter → Sending → Type 0
 Comes listens roster old new sends None sending = sending ≡ Nothing
 Comes listens roster old new sends (Some letter) sending = ComesTo listens roster old new sends letter sending
 
 -- a line: an event that a message of a connection made, or a job; what came of it; and what came of its send, behind these
-abbrev pub IsLine : List Front → List Listed → Net → Net → (ℕ → List (List ℕ)) → Line → Type 0
+abbrev pub IsLine : List Service → List Listed → Net → Net → (ℕ → List (List ℕ)) → Line → Type 0
 IsLine listens roster old new sends (lines.Event source event outcome sending) = ((n : ℕ) × (source ≡ sources.Connection n) × IsFrom old new n event) × IsOutcome event outcome × Comes listens roster old new sends (outcome_letter event outcome) sending
 IsLine listens roster old new sends (lines.Job job sending) = Comes listens roster old new sends (Some (job_letter job)) sending
 IsLine listens roster old new sends (lines.Probe server word sending) = ⊥
 
-abbrev pub AreLines : List Front → List Listed → Net → Net → (ℕ → List (List ℕ)) → List Line → Type 0
+abbrev pub AreLines : List Service → List Listed → Net → Net → (ℕ → List (List ℕ)) → List Line → Type 0
 AreLines listens roster old new sends [] = Unit {0}
 AreLines listens roster old new sends (line ∷ more) = IsLine listens roster old new sends line × AreLines listens roster old new (both sends (sends_to (line ∷ []))) more

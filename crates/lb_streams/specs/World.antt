@@ -3,7 +3,7 @@ use Rattle.std.specs.Prelude.{ℕ, List}
 use Rattle.lb_step.specs.declared.answer.Answer.{Answer}
 use Rattle.lb_step.specs.declared.event.Event.{Event}
 use Rattle.lb_lines.specs.Stamps.{Stamp}
-use Rattle.lb_lines.specs.declared.traffic.Front.{Front}
+use Rattle.lb_lines.specs.declared.traffic.Service.{Service}
 use Rattle.lb_outbox.specs.Outbox.{Receiving}
 use Rattle.lb_streams.specs.Links.{Net}
 use Rattle.lb_wire.specs.declared.addr.Origin.{Origin}
@@ -13,7 +13,7 @@ use Rattle.lb_wire.specs.declared.addr.Origin.{Origin}
 pub record World : Type 0 where
   pub net : Net
   pub jobs : Receiving
-  pub fronts : List Front
+  pub fronts : List Service
   pub handed : List (Origin × List ℕ)
   pub answered : ℕ
   pub pairs : List (Event × Answer)

@@ -12,8 +12,8 @@ use crate::links::Links;
 use crate::streams::StreamLoop;
 use lb_core::Answer;
 use lb_lines::{
-    End, Endpoint, Front, Outcome, Outside, Posts, Reported, Roster, Sending, Streams, Taker, Way,
-    Why, letter_of,
+    End, Endpoint, Outcome, Outside, Posts, Reported, Roster, Sending, Service, Streams, Taker,
+    Way, Why, letter_of,
 };
 use lb_wire::{Kind, Lane, Octets, Origin, ServerId};
 use std::alloc::Global;
@@ -137,7 +137,7 @@ impl<S: Streams, T: Taker, O: Outside, P: Posts> StreamLoop<S, T, O, P> {
         ensures { result ≡ is_http (slice_get self.now.fronts origin.front) }
     {
         match self.fronts.get(usize::from(origin.front)) {
-            Some(Front::Http) => true,
+            Some(Service::Http) => true,
             _ => false,
         }
     }

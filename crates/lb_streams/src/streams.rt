@@ -4,7 +4,7 @@ ghost use Rattle.std.specs.Prelude.{[], None, length, vec_capacity, vec_len, ◌
 
 use crate::links::Links;
 use lb_connections::Connections;
-use lb_lines::{Answering, Front, Line, Outside, Posts, Streams, Taker, WaitFailed};
+use lb_lines::{Answering, Line, Outside, Posts, Service, Streams, Taker, WaitFailed};
 use lb_outbox::Receiver;
 use std::alloc::Global;
 use std::marker::Model;
@@ -18,7 +18,7 @@ pub struct StreamLoop<S: Streams, T: Taker, O: Outside, P: Posts> {
     pub(crate) alloc: Global,
     pub(crate) links: Links<S>,
     pub(crate) receiver: Receiver,
-    pub(crate) fronts: Vec<Front>,
+    pub(crate) fronts: Vec<Service>,
     pub(crate) posts: P,
     pub(crate) taker: T,
     pub(crate) outside: O,

@@ -13,7 +13,7 @@ use std::alloc::{AllocError, Global};
 
 /// The type of a family of figures.
 #[derive(Clone, Copy, Debug, PartialEq, Eq)]
-enum Kind {
+enum MetricType {
     /// It only grows.
     Counter,
     /// It is a current number.
@@ -29,11 +29,11 @@ const BOUNDS: [&str; 14] = [
 ];
 
 /// A family begins: its name, its type and what it is.
-fn family(page: &mut Lines, name: &str, kind: Kind, help: &str) -> Result<(), AllocError> {
+fn family(page: &mut Lines, name: &str, kind: MetricType, help: &str) -> Result<(), AllocError> {
     let kind = match kind {
-        Kind::Counter => "counter",
-        Kind::Gauge => "gauge",
-        Kind::Histogram => "histogram",
+        MetricType::Counter => "counter",
+        MetricType::Gauge => "gauge",
+        MetricType::Histogram => "histogram",
     };
     page.words("# HELP", name, help)?;
     page.words("# TYPE", name, kind)
@@ -43,7 +43,7 @@ fn family(page: &mut Lines, name: &str, kind: Kind, help: &str) -> Result<(), Al
 fn single(
     page: &mut Lines,
     name: &str,
-    kind: Kind,
+    kind: MetricType,
     help: &str,
     value: u64,
 ) -> Result<(), AllocError> {
@@ -82,7 +82,7 @@ fn of_events(
     family(
         page,
         "lb_queries_total",
-        Kind::Counter,
+        MetricType::Counter,
         "Queries that came by a listener.",
     )?;
     add_queries(alloc, page, told, listeners)?;
@@ -90,7 +90,7 @@ fn of_events(
     family(
         page,
         name,
-        Kind::Counter,
+        MetricType::Counter,
         "Events that were answered, by their kind.",
     )?;
     add_counts(page, &told.counts, name, "kind", &EVENTS)?;
@@ -98,7 +98,7 @@ fn of_events(
     family(
         page,
         name,
-        Kind::Counter,
+        MetricType::Counter,
         "What became of the events, by the reason.",
     )?;
     add_counts(page, &told.counts, name, "why", &ANSWERS)
@@ -109,7 +109,7 @@ fn of_sends(page: &mut Lines, sends: &Sends) -> Result<(), AllocError> {
     family(
         page,
         name,
-        Kind::Counter,
+        MetricType::Counter,
         "Messages that could not be sent, by the cause.",
     )?;
     for (cause, count) in sends.failed() {
@@ -129,7 +129,7 @@ fn of_sends(page: &mut Lines, sends: &Sends) -> Result<(), AllocError> {
         ),
     ];
     for (name, help, count) in counters {
-        single(page, name, Kind::Counter, help, count)?;
+        single(page, name, MetricType::Counter, help, count)?;
     }
     Ok(())
 }
@@ -139,7 +139,7 @@ fn of_clients(page: &mut Lines, sends: &Sends) -> Result<(), AllocError> {
     family(
         page,
         name,
-        Kind::Counter,
+        MetricType::Counter,
         "Clients that were taken in, by the protocol.",
     )?;
     for (kind, clients) in kinds(sends) {
@@ -149,7 +149,7 @@ fn of_clients(page: &mut Lines, sends: &Sends) -> Result<(), AllocError> {
     family(
         page,
         name,
-        Kind::Gauge,
+        MetricType::Gauge,
         "Clients that are connected, by the protocol.",
     )?;
     for (kind, clients) in kinds(sends) {
@@ -159,13 +159,13 @@ fn of_clients(page: &mut Lines, sends: &Sends) -> Result<(), AllocError> {
     family(
         page,
         name,
-        Kind::Counter,
+        MetricType::Counter,
         "Clients that were closed at once, by the reason.",
     )?;
     add_reasons(page, name, &refusals(sends))?;
     let name = "lb_clients_closed_total";
     let help = "Clients that were closed before they closed their side, by the reason.";
-    family(page, name, Kind::Counter, help)?;
+    family(page, name, MetricType::Counter, help)?;
     add_reasons(page, name, &closings(sends))
 }
 
@@ -174,7 +174,7 @@ fn of_rules(alloc: Global, page: &mut Lines, ended: &[Ended]) -> Result<(), Allo
     family(
         page,
         name,
-        Kind::Counter,
+        MetricType::Counter,
         "Walks that a rule ended, by its number.",
     )?;
     for (rule, ended) in ended {
@@ -198,35 +198,35 @@ enum OfServer {
 impl OfServer {
     /// The figures of a server in their order, each with the name of its family, its type and what
     /// it is.
-    const ALL: [(OfServer, &'static str, Kind, &'static str); 5] = [
+    const ALL: [(OfServer, &'static str, MetricType, &'static str); 5] = [
         (
             OfServer::Up,
             "lb_server_up",
-            Kind::Gauge,
+            MetricType::Gauge,
             "Whether a server gets queries: 1 if it is up.",
         ),
         (
             OfServer::Outstanding,
             "lb_server_outstanding",
-            Kind::Gauge,
+            MetricType::Gauge,
             "Pending queries of a server.",
         ),
         (
             OfServer::Forwards,
             "lb_forwards_total",
-            Kind::Counter,
+            MetricType::Counter,
             "Queries to be sent to a server.",
         ),
         (
             OfServer::Replies,
             "lb_replies_total",
-            Kind::Counter,
+            MetricType::Counter,
             "Replies of a server for clients.",
         ),
         (
             OfServer::Expiries,
             "lb_expiries_total",
-            Kind::Counter,
+            MetricType::Counter,
             "Queries to a server that timed out.",
         ),
     ];
@@ -262,7 +262,7 @@ fn of_replies(
     sends: &Sends,
 ) -> Result<(), AllocError> {
     let help = "How long a server took for replies for clients.";
-    family(page, TIMES, Kind::Histogram, help)?;
+    family(page, TIMES, MetricType::Histogram, help)?;
     for backend in servers {
         let server = &backend.loaded.server;
         if let Some(times) = sends.reply_times(server.id) {
@@ -308,29 +308,29 @@ enum OfCache {
 impl OfCache {
     /// The figures of a cache in their order, each with the name of its family, its type and what
     /// it is.
-    const ALL: [(OfCache, &'static str, Kind, &'static str); 4] = [
+    const ALL: [(OfCache, &'static str, MetricType, &'static str); 4] = [
         (
             OfCache::Entries,
             "lb_cache_entries",
-            Kind::Gauge,
+            MetricType::Gauge,
             "Replies that the cache of a pool keeps.",
         ),
         (
             OfCache::MaxEntries,
             "lb_cache_max_entries",
-            Kind::Gauge,
+            MetricType::Gauge,
             "Replies that the cache of a pool may keep.",
         ),
         (
             OfCache::Lookups,
             "lb_cache_lookups_total",
-            Kind::Counter,
+            MetricType::Counter,
             "Queries for which the cache of a pool was asked.",
         ),
         (
             OfCache::Hits,
             "lb_cache_hits_total",
-            Kind::Counter,
+            MetricType::Counter,
             "Queries that the cache of a pool answered.",
         ),
     ];
@@ -376,7 +376,7 @@ fn of_the_whole(page: &mut Lines, told: &Told, seconds: u64) -> Result<(), Alloc
         ),
     ];
     for (name, help, value) in gauges {
-        single(page, name, Kind::Gauge, help, value)?;
+        single(page, name, MetricType::Gauge, help, value)?;
     }
     Ok(())
 }
@@ -388,14 +388,20 @@ fn of_process(page: &mut Lines, process: Process) -> Result<(), AllocError> {
         single(
             page,
             name,
-            Kind::Gauge,
+            MetricType::Gauge,
             "Resident memory size in bytes.",
             octets,
         )?;
     }
     if let Some(descriptors) = process.descriptors {
         let help = "Number of open file descriptors.";
-        single(page, "process_open_fds", Kind::Gauge, help, descriptors)?;
+        single(
+            page,
+            "process_open_fds",
+            MetricType::Gauge,
+            help,
+            descriptors,
+        )?;
     }
     Ok(())
 }

@@ -117,7 +117,7 @@ fn which(line: &str, from: usize, told: &Told) -> Result<(Filter, usize), Comman
     if word == "dropped" {
         return Ok((Filter::Dropped, end));
     }
-    let Some(kind) = Kind::named(word) else {
+    let Some(by) = FilterWord::named(word) else {
         return Err(fault(begin, FaultKind::UnknownWord));
     };
     let (at, last) = next_word(line.as_bytes(), end);
@@ -125,32 +125,32 @@ fn which(line: &str, from: usize, told: &Told) -> Result<(Filter, usize), Comman
         return Err(fault(at, FaultKind::Missing));
     }
     let value = line.get(at..last).unwrap_or_default();
-    match kind.of(value, told) {
+    match by.of(value, told) {
         Ok(filter) => Ok((filter, last)),
         Err(kind) => Err(fault(at, kind)),
     }
 }
 
-/// What a filter is by.
+/// The word that begins a filter.
 #[derive(Clone, Copy, Debug)]
-enum Kind {
+enum FilterWord {
     Rule,
     Server,
     From,
     Under,
 }
 
-impl Kind {
+impl FilterWord {
     /// The one that is spelled so.
-    fn named(word: &str) -> Option<Kind> {
+    fn named(word: &str) -> Option<FilterWord> {
         Some(if word == "rule" {
-            Kind::Rule
+            FilterWord::Rule
         } else if word == "server" {
-            Kind::Server
+            FilterWord::Server
         } else if word == "from" {
-            Kind::From
+            FilterWord::From
         } else if word == "under" {
-            Kind::Under
+            FilterWord::Under
         } else {
             return None;
         })
@@ -159,19 +159,19 @@ impl Kind {
     /// The filter by a value.
     fn of(self, value: &str, told: &Told) -> Result<Filter, FaultKind> {
         match self {
-            Kind::Rule => match number_of(value.as_bytes()) {
+            FilterWord::Rule => match number_of(value.as_bytes()) {
                 Some(id) => Ok(Filter::Rule(RuleId(id))),
                 None => Err(FaultKind::BadNumber),
             },
-            Kind::Server => match Ident::parse(value) {
+            FilterWord::Server => match Ident::parse(value) {
                 Some(name) => Ok(Filter::Server(server_named(told, &name))),
                 None => Err(FaultKind::BadName),
             },
-            Kind::From => match Mask::parse(value) {
+            FilterWord::From => match Mask::parse(value) {
                 Ok(mask) => Ok(Filter::From(mask)),
                 Err(_) => Err(FaultKind::BadAddress),
             },
-            Kind::Under => match Name::parse_text(value) {
+            FilterWord::Under => match Name::parse_text(value) {
                 Ok(name) => Ok(Filter::Under(name)),
                 Err(_) => Err(FaultKind::BadName),
             },
