@@ -12,7 +12,7 @@ fn main(rt: HostRuntime) -> ExitCode {
     ExitCode::from(start(&rt, words(&rt), rt.stdin(), &mut output, &mut faults))
 }
 
-/// The words of the command line behind the program's name. One that is not UTF-8 is the error `InvalidData`.
+/// The words of the command line after the program's name. One that is not UTF-8 is the error `InvalidData`.
 fn words<T: Env + AllocGlobal>(rt: &T) -> io::Result<Vec<String>> {
     let words = env::args(rt)?.collect(rt.alloc())?;
     Ok(behind_first(words))

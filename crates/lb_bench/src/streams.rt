@@ -56,7 +56,7 @@ fn time_written(rt: &HostRuntime, outgoing: &mut Outgoing) -> io::Result<()> {
     eprintln!(rt; "a write of 1,400 octets: {nanos} ns ({writes} writes of a megabyte)")
 }
 
-/// So many messages of 1,000 octets behind one another.
+/// So many messages of 1,000 octets after one another.
 fn stream(alloc: Global, messages: usize) -> Result<Vec<u8>, AllocError> {
     let mut stream = Vec::new(alloc);
     for _ in 0..messages {

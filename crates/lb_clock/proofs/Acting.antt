@@ -116,7 +116,7 @@ turns_none on a = record {
   reads = omega arith;
 }
 
--- Acts behind others.
+-- Acts after others.
 pub turns_on : (on : Setting) (xs ys : List Act) (a b c : World) → Turns on xs a b → Turns on ys b c → Turns on (xs ++ ys) a c
 turns_on on xs ys a b c one two =
     let lines : lines_in (xs ++ ys) ≡ lines_in xs ++ lines_in ys = flat_map-append line_in xs ys in

@@ -141,7 +141,7 @@ turns_begun on a mid b stamp i w place sending said here due comes took fails pr
       reads = ap (λ (v : World). v.reads) same ∙ ap (λ (v : World). v.reads) said ∙ idle.reads;
     }
 
--- No step, one act, and steps behind others.
+-- No step, one act, and steps after others.
 pub goes_none : (on : Setting) (n : ℕ) (a : World) (told : List Line) (device : Option DeviceFault) → Goes on n a a told told device device None
 goes_none on n a told device = record {
   acts = [];

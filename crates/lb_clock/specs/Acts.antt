@@ -144,7 +144,7 @@ end_of steps.More = None
 end_of steps.Last = None
 end_of (steps.Over end) = Some end
 
--- acts that end a turn for this reason, or do not: nothing is done behind one that ends it
+-- acts that end a turn for this reason, or do not: nothing is done after one that ends it
 abbrev pub StopsAt : Option End → List Act → Type 0 → Option End → Type 0
 StopsAt None more rest end = rest
 StopsAt (Some this) more rest end = (more ≡ []) × (end ≡ Some this)

@@ -53,7 +53,7 @@ IsGone (Some ways.Post) there = Unit {0}
 IsGone (Some ways.Outbox) there = ⊥
 IsGone (Some (ways.Connection n)) there = ⊥
 
--- why a letter with this way is not sent: the outbox was full, a socket failed, memory was wanting, or it was gone
+-- why a letter with this way is not sent: the outbox was full, a socket failed, memory was lacking, or it was gone
 abbrev pub Fits : Option Way → Bool → Why → Type 0
 Fits way there whys.NoServer = ⊥
 Fits way there whys.Gone = IsGone way there
@@ -73,7 +73,7 @@ abbrev pub Comes : List Service → List Bool → Option Letter → Sending → 
 Comes fronts there None sending = sending ≡ Nothing
 Comes fronts there (Some letter) sending = ComesBy (way_of fronts letter) (is_listened there letter) sending
 
--- what comes of the send of a probe: a socket took it or failed, or memory was wanting
+-- what comes of the send of a probe: a socket took it or failed, or memory was lacking
 abbrev pub ProbeComes : Sending → Type 0
 ProbeComes (Done ways.Datagram) = Unit {0}
 ProbeComes (Failed whys.Device) = Unit {0}
@@ -140,7 +140,7 @@ probe_line _ = []
 abbrev pub probes_in : List Line → List Line
 probes_in = flat_map probe_line
 
--- nothing more is due behind what came of a tick
+-- nothing more is due after what came of a tick
 abbrev pub is_quiet : Outcome → Bool
 is_quiet (Answered answers.Quiet) = true
 is_quiet (Answered _) = false

@@ -183,7 +183,7 @@ pub(crate) fn send_probe<S: Datagrams>(
     }
 }
 
-/// The octets of a probe as a message. The one error is want of memory.
+/// The octets of a probe as a message. The one error is lack of memory.
 fn probe_message(alloc: Global, word: u16) -> Result<Octets, AllocError>
     ensures { IfOk result (λ bytes. bytes ≡ probe_octets word) }
 {

@@ -26,7 +26,7 @@ pub(crate) struct Tally {
 }
 
 impl Tally {
-    /// A turn begins, with this room for its lines. The one error is want of memory for them.
+    /// A turn begins, with this room for its lines. The one error is lack of memory for them.
     pub(crate) fn begun(mut lines: Vec<Line>) -> Result<Tally, AllocError>
         requires blank { (lines.items ≡ []) × (vec_len lines ≡ 0) }
         ensures { IfOk result (λ t. (t.lines.items ≡ []) × (t.device ≡ None)) }
@@ -49,7 +49,7 @@ impl Tally {
         self.events == MAX_EVENTS_OF_TURN
     }
 
-    /// Puts the line of an event behind the others.
+    /// Puts the line of an event after the others.
     #[tactic(auto, using(crate::proofs::Counting::event_more, crate::proofs::Counting::event_no_probe))]
     pub(crate) fn add_event(&mut self, line: Line)
         requires room { self.old.events < 64 }
@@ -63,7 +63,7 @@ impl Tally {
         self.lines.push_reserved(line);
     }
 
-    /// Puts the line of a probe behind the others.
+    /// Puts the line of a probe after the others.
     #[tactic(auto, using(crate::proofs::Counting::probe_more, crate::proofs::Counting::probe_no_event))]
     pub(crate) fn add_probe(&mut self, line: Line)
         requires room { self.old.probes < 64 }

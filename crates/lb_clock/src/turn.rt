@@ -314,7 +314,7 @@ impl<S: Datagrams, P: Posts, T: Taker, O: Outside> ClockLoop<S, P, T, O> {
     }
 }
 
-/// Whether nothing more is due behind what came of a tick.
+/// Whether nothing more is due after what came of a tick.
 fn is_quiet(outcome: &Outcome) -> bool
     ensures { result ≡ is_quiet outcome.now }
 {

@@ -395,7 +395,7 @@ behind : (s t : Left) (v : Verb) → looked_up verb_words (verb_text v) ≡ Some
 unfolding command_at
 behind s t v known h = rw (table_again kinds.UnknownWord verb_words (verb_text v) s t v known h) refl
 
--- a command is read, where the line ends behind it
+-- a command is read, where the line ends after it
 pub command_part_again : (y : Command) (s t : Left) → Commands y s t → length s.words ≤ 300000 → t.words ≡ [] → command_at s ≡ Ok (y, t)
 command_part_again (RuleAdd p rule) s t h enough none = behind s h.0.0 verbs.Rule refl h.0.1 ∙ behind_rule h.0.0 h.0.2.0 rule_verbs.Add refl h.0.2.1 ∙ rule_add_again h.0.2.0 t p rule h.0.2.2 h.1.0 h.1.1
 command_part_again (RuleRemove id) s t h enough none = behind s h.0.0 verbs.Rule refl h.0.1 ∙ behind_rule h.0.0 h.0.2.0 rule_verbs.Remove refl h.0.2.1 ∙ rule_remove_again h.0.2.0 t id h.0.2.2

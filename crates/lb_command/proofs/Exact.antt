@@ -33,7 +33,7 @@ tested false s x y h = absurd (cc)
 abbrev pub Finds : {A S : Type 0} → (S → Result (A × S) CommandFault) → (A → S → S → Type 0) → Type 0
 Finds {A} {S} read part = (s t : S) (x : A) → read s ≡ Ok (x, t) → part x s t
 
--- what a reader gives in front of another: the value, what is left, that the part stands there, and what is read behind it
+-- what a reader gives in front of another: the value, what is left, that the part stands there, and what is read after it
 pub step : {A B S : Type 0} (read : S → Result (A × S) CommandFault) (part : A → S → S → Type 0) (s : S) (f : A × S → Result B CommandFault) (y : B) → Finds read part → (read s >>= f) ≡ Ok y → (x : A) × (t : S) × part x s t × (f (x, t) ≡ Ok y)
 step read part s f y finds h =
     let a = bind_ok (read s) f y h in

@@ -36,7 +36,7 @@ first total b bs h =
 sub_nothing : (n : ℕ) → n - 0 ≡ n
 sub_nothing n = omega arith
 
--- what comes first behind the spaces, and what is left
+-- what comes first after the spaces, and what is left
 pub split : (total : ℕ) (bs : List ℕ) → (seen (take (first_len (drop (spaces_of bs) bs)) (drop (spaces_of bs) bs)) (total - length (drop (spaces_of bs) bs)) ≡ first_in (words_of total bs) total) × (words_of total (drop (first_len (drop (spaces_of bs) bs)) (drop (spaces_of bs) bs)) ≡ tail_of (words_of total bs))
 split total [] = (ap (seen []) (sub_nothing total) ∙ sym (ap (λ (ws : List Seen). first_in ws total) (at_end total)), at_end total ∙ sym (ap tail_of (at_end total)))
 split total (b ∷ bs) =

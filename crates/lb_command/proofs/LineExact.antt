@@ -32,7 +32,7 @@ none_left (w ∷ ws) total x all h =
 taken_all : (s : Left) (line : List ℕ) → s.words ≡ [] → s.total ≡ length line → s ≡ all_taken line
 taken_all s line none total = ap (λ (ws : List Seen). record { words = ws; total = s.total }) none ∙ ap (λ (n : ℕ). record { words = []; total = n }) total
 
--- a part and the end behind it
+-- a part and the end after it
 abbrev read_whole : {X : Type 0} → (Left → Result (X × Left) CommandFault) → Left → Result X CommandFault
 read_whole read s = read s >>= λ x. ended x.1 >>= λ end. Ok x.0
 

@@ -33,7 +33,7 @@ full : {A S : Type 0} (one : S → Result (A × S) CommandFault) (comma : S → 
 unfolding listed
 full one comma left_in s t x h = rw h refl
 
--- another one, and a comma behind it
+-- another one, and a comma after it
 pub goes_on : {A S : Type 0} (one : S → Result (A × S) CommandFault) (comma : S → Bool × S) (left_in : S → Left) (front : List A) (most i : ℕ) (s t u : S) (x : A) (total : Result (List A × S) CommandFault) → i < most → one s ≡ Ok (x, t) → comma t ≡ (true, u)
     → with_front front (listed one comma left_in (most - i) s) ≡ total → with_front (front ++ x ∷ []) (listed one comma left_in (most - (i + 1)) u) ≡ total
 goes_on one comma left_in front most i s t u x total lt h k so_far =

@@ -90,7 +90,7 @@ no_setup (Expunge name what) s t h = rw h.1.1 (refl, refl)
 no_setup (SetTimeout millis) s t h = rw h.1.1 (refl, refl)
 no_setup Show s t h = rw h.1 (refl, refl)
 
--- a line of a setup file is read, where it ends behind what it states
+-- a line of a setup file is read, where it ends after what it states
 pub setup_part_again : (y : SetupLine) (s t : Left) → Setups y s t → length s.words ≤ 300000 → t.words ≡ [] → setup_at s ≡ Ok (y, t)
 unfolding setup_at
 setup_part_again (Listen listener) s t h enough none = rw (taken_again (codes "listen") s h.0.0 h.0.1) (listen_again h.0.0 t listener h.0.2)

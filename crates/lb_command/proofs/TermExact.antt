@@ -259,7 +259,7 @@ one_more : (n m : ℕ) → n ≡ 1 + m → n ≡ suc m
 one_more n m h = omega arith
 
 mutual
-  -- a term within the limits is read, whatever stands behind it
+  -- a term within the limits is read, whatever stands after it
   term_again : (x : Selector) (d n m : ℕ) (s t : Left) → term x s t → depth_of x ≤ d → n ≡ nodes_of x + m → n ≤ 64 → has_small_sets x ≡ true → term_at d (n, s) ≡ Ok (x, (m, t))
   term_again x zero n m s t h deep count fits small = absurd (no_depth x deep)
   term_again sel.All (suc d) n m s t h deep count fits small = rw (one_more n m count) (behind d m s t forms.All h)

@@ -40,7 +40,7 @@ unfolding term_at
 one_too_many zero left rest form h = rw h refl
 one_too_many (suc depth) left rest form h = rw h refl
 
--- a term that may: what stands behind its word
+-- a term that may: what stands after its word
 pub behind_form : (depth nodes : ℕ) (left rest : Left) (form : Form) → (depth ≡ 0 → ⊥) → (nodes ≡ 0 → ⊥) → due kinds.UnknownWord form_of left ≡ Ok (form, rest) → term_at depth (nodes, left) ≡ body_at (term_at (depth - 1)) form (nodes - 1, rest)
 unfolding term_at
 behind_form zero nodes left rest form deep some h = absurd (deep refl)

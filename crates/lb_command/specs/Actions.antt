@@ -43,7 +43,7 @@ spoof_at left = do
   close ← due kinds.UnknownWord (named (codes ")")) addrs.1
   if nat_le 1 (length addrs.0) && nat_le (length addrs.0) 8 then Ok (actions.Spoof addrs.0, close.1) else too_many left
 
--- what stands behind the word that begins an action
+-- what stands after the word that begins an action
 abbrev pub action_body : Verdict → Left → Result (StatedAction × Left) CommandFault
 action_body verdicts.Allow left = Ok (actions.Allow, left)
 action_body verdicts.Drop left = Ok (actions.Drop, left)

@@ -1,4 +1,4 @@
--- Reading commands. A part's name tells what stands there, behind the words that begin it.
+-- Reading commands. A part's name tells what stands there, after the words that begin it.
 use Rattle.std.specs.Prelude.{if◌then◌else◌, ℕ, zero, suc, Bool, true, false, nat_lt, Option, Some, None, Result, Ok, List, [], ◌∷◌, ◌++◌, length, codes}
 use Rattle.std.specs.declared.num.NonZeroU8.{NonZeroU8}
 use Rattle.std.specs.declared.num.NonZeroU16.{NonZeroU16}

@@ -1,5 +1,5 @@
 -- The grammar of commands, event lines and setup lines, line by line as the operator's table has it. A part says that what is
--- left of a line begins with it, and what is left behind it.
+-- left of a line begins with it, and what is left after it.
 use Rattle.std.specs.Prelude.{◌≡◌, ◌⊎◌, ℕ, ◌≤◌, true, Option, Some, None, List, [], ◌∷◌, ◌++◌, length, codes}
 use Rattle.std.specs.declared.num.NonZeroU8.{NonZeroU8}
 use Rattle.lb_wire.specs.declared.record_type.RecordType.{RecordType}
@@ -27,7 +27,7 @@ use Rattle.lb_command.specs.Events.{told_origin}
 use Rattle.lb_command.specs.declared.setup.SetupLine.{SetupLine}
 use Rattle.lb_command.specs.declared.setup.SetupLine.TheVariants as setups
 
--- what is left of a line, and what is left behind the part
+-- what is left of a line, and what is left after the part
 abbrev pub Part : Type 1
 Part = Left → Left → Type 0
 

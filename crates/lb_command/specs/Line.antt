@@ -22,7 +22,7 @@ pub record Seen : Type 0 where
 abbrev pub seen : List ℕ → ℕ → Seen
 seen text place = record { text = text; place = place }
 
--- the byte at a place, in front of the word that comes behind it
+-- the byte at a place, in front of the word that comes after it
 abbrev pub in_front : ℕ → ℕ → List Seen → List Seen
 in_front b place [] = seen (b ∷ []) place ∷ []
 in_front b place (word ∷ words) = seen (b ∷ word.text) place ∷ words
@@ -59,7 +59,7 @@ tail_of (word ∷ words) = words
 abbrev pub first_of : Left → Seen
 first_of left = first_in left.words left.total
 
--- what is left behind it
+-- what is left after it
 abbrev pub behind_first : Left → Left
 behind_first left = record { words = tail_of left.words; total = left.total }
 

@@ -12,7 +12,7 @@ abbrev pub ◌>>=◌ : {A B : Type 0} → Result A CommandFault → (A → Resul
 (Ok x) >>= f = f x
 (Err e) >>= f = Err e
 
--- a reader that fails gives the fault that reading gives, unless memory is wanting
+-- a reader that fails gives the fault that reading gives, unless memory is lacking
 abbrev pub Fails : {Y : Type 0} → Unread → Result Y CommandFault → Type 0
 Fails (unread.NoMemory refused) read = Unit {0}
 Fails (unread.Fault f) read = read ≡ Err f
@@ -27,12 +27,12 @@ abbrev pub Gives : {X : Type 0} → Result X Unread → Result X CommandFault �
 Gives (Ok x) read = read ≡ Ok x
 Gives (Err e) read = Fails e read
 
--- the same of a line: want of memory may stand for any answer
+-- the same of a line: lack of memory may stand for any answer
 abbrev pub Answers : {X : Type 0} → Result X CommandFault → Result X CommandFault → Type 0
 Answers (Ok x) read = read ≡ Ok x
 Answers (Err f) read = (f.kind ≡ kinds.NoMemory) ⊎ (read ≡ Err f)
 
--- a line that is this is read so, unless memory is wanting
+-- a line that is this is read so, unless memory is lacking
 abbrev pub ReadsAs : {X : Type 0} → Result X CommandFault → X → Type 0
 ReadsAs (Ok x) y = x ≡ y
 ReadsAs (Err f) y = f.kind ≡ kinds.NoMemory
@@ -69,7 +69,7 @@ or_left_out None left = Ok (None, left)
 abbrev pub optional : {A : Type 0} → (List ℕ → Option A) → Left → Result (Option A × Left) CommandFault
 optional value left = or_left_out (value (first_of left).text) left
 
--- what is wrong behind a whole line: a word or a sign is too much, and a stray byte unknown
+-- what is wrong after a whole line: a word or a sign is too much, and a stray byte unknown
 abbrev pub extra_at : List ℕ → FaultKind
 extra_at [] = kinds.Extra
 extra_at (b ∷ bs) = if is_word_byte b || is_sign b then kinds.Extra else kinds.UnknownWord

@@ -117,7 +117,7 @@ not_at member s = do
   close ← due kinds.UnknownWord (named (codes ")")) inner.1.1
   Ok (sel.Not inner.0, (inner.1.0, close.1))
 
--- what stands behind the word that begins a term
+-- what stands after the word that begins a term
 abbrev pub body_at : (State → Result (Selector × State) CommandFault) → Form → State → Result (Selector × State) CommandFault
 body_at member forms.All s = Ok (sel.All, s)
 body_at member forms.Suffix s = alone s.0 (suffix_at s.1)

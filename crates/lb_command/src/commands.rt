@@ -55,7 +55,7 @@ enum RuleVerb {
     Move,
 }
 
-/// The words behind `rule`.
+/// The words after `rule`.
 const RULE_VERBS: [(RuleVerb, &str); 3] = [
     (RuleVerb::Add, "add"),
     (RuleVerb::Remove, "remove"),
@@ -70,7 +70,7 @@ enum ServerVerb {
     Mode,
 }
 
-/// The words behind `server`.
+/// The words after `server`.
 const SERVER_VERBS: [(ServerVerb, &str); 3] = [
     (ServerVerb::Add, "add"),
     (ServerVerb::Remove, "remove"),
@@ -84,7 +84,7 @@ enum PoolVerb {
     Policy,
 }
 
-/// The words behind `pool`.
+/// The words after `pool`.
 const POOL_VERBS: [(PoolVerb, &str); 2] = [(PoolVerb::Add, "add"), (PoolVerb::Policy, "policy")];
 
 /// What is done with a cache.
@@ -94,7 +94,7 @@ enum CacheVerb {
     Detach,
 }
 
-/// The words behind `cache`.
+/// The words after `cache`.
 const CACHE_VERBS: [(CacheVerb, &str); 2] = [
     (CacheVerb::Attach, "attach"),
     (CacheVerb::Detach, "detach"),
@@ -108,7 +108,7 @@ enum Extent {
     All,
 }
 
-/// The words behind the pool of `expunge`.
+/// The words after the pool of `expunge`.
 const EXTENTS: [(Extent, &str); 3] = [
     (Extent::Name, "name"),
     (Extent::Suffix, "suffix"),
@@ -122,35 +122,35 @@ fn verb_of(text: &[u8]) -> Option<Verb>
     look_up(&VERBS, text)
 }
 
-/// What a word behind `rule` says.
+/// What a word after `rule` says.
 fn rule_verb_of(text: &[u8]) -> Option<RuleVerb>
     ensures { result ≡ looked_up rule_verb_words text.now }
 {
     look_up(&RULE_VERBS, text)
 }
 
-/// What a word behind `server` says.
+/// What a word after `server` says.
 fn server_verb_of(text: &[u8]) -> Option<ServerVerb>
     ensures { result ≡ looked_up server_verb_words text.now }
 {
     look_up(&SERVER_VERBS, text)
 }
 
-/// What a word behind `pool` says.
+/// What a word after `pool` says.
 fn pool_verb_of(text: &[u8]) -> Option<PoolVerb>
     ensures { result ≡ looked_up pool_verb_words text.now }
 {
     look_up(&POOL_VERBS, text)
 }
 
-/// What a word behind `cache` says.
+/// What a word after `cache` says.
 fn cache_verb_of(text: &[u8]) -> Option<CacheVerb>
     ensures { result ≡ looked_up cache_verb_words text.now }
 {
     look_up(&CACHE_VERBS, text)
 }
 
-/// How much a word behind the pool of `expunge` says.
+/// How much a word after the pool of `expunge` says.
 fn extent_of(text: &[u8]) -> Option<Extent>
     ensures { result ≡ looked_up extent_words text.now }
 {
@@ -198,7 +198,7 @@ fn read_rule_move(words: &mut Words<'_>) -> Result<Command, Unread>
     Ok(Command::RuleMove(RuleId(id), place))
 }
 
-/// What stands behind `rule`.
+/// What stands after `rule`.
 #[tactic(auto, unfolding(crate::specs::Commands::rule_at))]
 fn read_rule(alloc: Global, words: &mut Words<'_>) -> Result<Command, Unread>
     ensures { Reads (λ command. command) result words.new (rule_at words.old) }
@@ -261,7 +261,7 @@ fn read_server_mode(words: &mut Words<'_>) -> Result<Command, Unread>
     Ok(Command::ServerMode(name, mode))
 }
 
-/// What stands behind `server`.
+/// What stands after `server`.
 #[tactic(auto, unfolding(crate::specs::Commands::server_at))]
 fn read_server(alloc: Global, words: &mut Words<'_>) -> Result<Command, Unread>
     ensures { Reads (λ command. command) result words.new (server_at words.old) }
@@ -296,7 +296,7 @@ fn read_pool_policy(words: &mut Words<'_>) -> Result<Command, Unread>
     Ok(Command::PoolPolicy(pool, policy))
 }
 
-/// What stands behind `pool`.
+/// What stands after `pool`.
 #[tactic(auto, unfolding(crate::specs::Commands::pool_at))]
 fn read_pool(words: &mut Words<'_>) -> Result<Command, Unread>
     ensures { Reads (λ command. command) result words.new (pool_at words.old) }
@@ -333,7 +333,7 @@ fn read_cache_detach(words: &mut Words<'_>) -> Result<Command, Unread>
     Ok(Command::CacheDetach(pool))
 }
 
-/// What stands behind `cache`.
+/// What stands after `cache`.
 #[tactic(auto, unfolding(crate::specs::Commands::cache_at))]
 fn read_cache(words: &mut Words<'_>) -> Result<Command, Unread>
     ensures { Reads (λ command. command) result words.new (cache_at words.old) }
@@ -367,7 +367,7 @@ fn read_by_suffix(words: &mut Words<'_>) -> Result<Covered, Unread>
     Ok(Covered::Suffix(name))
 }
 
-/// What is covered, behind the word that begins it.
+/// What is covered, after the word that begins it.
 fn read_covered(extent: Extent, words: &mut Words<'_>) -> Result<Covered, Unread>
     ensures { Reads (λ covered. covered) result words.new (behind_extent extent words.old) }
 {
@@ -378,7 +378,7 @@ fn read_covered(extent: Extent, words: &mut Words<'_>) -> Result<Covered, Unread
     }
 }
 
-/// What stands behind `expunge`.
+/// What stands after `expunge`.
 #[tactic(auto, unfolding(crate::specs::Commands::expunge_at))]
 fn read_expunge(words: &mut Words<'_>) -> Result<Command, Unread>
     ensures { Reads (λ command. command) result words.new (expunge_at words.old) }
@@ -421,7 +421,7 @@ pub(crate) fn command(alloc: Global, words: &mut Words<'_>) -> Result<Command, U
     }
 }
 
-/// Takes a command and sees that nothing stands behind it.
+/// Takes a command and sees that nothing stands after it.
 #[tactic(auto, unfolding(crate::specs::Commands::command_whole))]
 fn whole_command(alloc: Global, words: &mut Words<'_>) -> Result<Command, Unread>
     ensures { Gives result (command_whole words.old) }

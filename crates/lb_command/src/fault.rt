@@ -39,7 +39,7 @@ pub enum FaultKind {
     /// of a server, or a 17th code of a cache's list.
     #[error("a limit is passed")]
     BadTerm,
-    /// Memory is wanting.
+    /// Memory is lacking.
     #[error("memory is wanting")]
     NoMemory,
 }

@@ -82,7 +82,7 @@ impl Options {
         }
     }
 
-    /// Takes the number behind `order`.
+    /// Takes the number after `order`.
     #[tactic(auto, unfolding(crate::specs::Commands::order_at))]
     fn read_order(self, words: &mut Words<'_>) -> Result<Options, Unread>
         ensures { Reads (λ o. o) result words.new (order_at self words.old) }
@@ -91,7 +91,7 @@ impl Options {
         Ok(Options { order, ..self })
     }
 
-    /// Takes the name behind `pool`.
+    /// Takes the name after `pool`.
     #[tactic(auto, unfolding(crate::specs::Commands::pool_option_at))]
     fn read_pool(self, words: &mut Words<'_>) -> Result<Options, Unread>
         ensures { Reads (λ o. o) result words.new (pool_option_at self words.old) }
@@ -106,7 +106,7 @@ impl Options {
         Ok(Options { pools, ..self })
     }
 
-    /// Takes the number behind `fall`.
+    /// Takes the number after `fall`.
     #[tactic(auto, unfolding(crate::specs::Commands::fall_at))]
     fn read_fall(self, words: &mut Words<'_>) -> Result<Options, Unread>
         ensures { Reads (λ o. o) result words.new (fall_at self words.old) }
@@ -115,7 +115,7 @@ impl Options {
         Ok(Options { fall, ..self })
     }
 
-    /// Takes the number behind `rise`.
+    /// Takes the number after `rise`.
     #[tactic(auto, unfolding(crate::specs::Commands::rise_at))]
     fn read_rise(self, words: &mut Words<'_>) -> Result<Options, Unread>
         ensures { Reads (λ o. o) result words.new (rise_at self words.old) }
@@ -133,7 +133,7 @@ impl Options {
         Ok(Options { lanes, ..self })
     }
 
-    /// Takes what stands behind the word that begins an option.
+    /// Takes what stands after the word that begins an option.
     fn read_option(self, option: ServerOption, words: &mut Words<'_>) -> Result<Options, Unread>
         ensures { Reads (λ o. o) result words.new (behind_option option self words.old) }
     {

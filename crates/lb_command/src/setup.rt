@@ -93,7 +93,7 @@ fn setup(alloc: Global, words: &mut Words<'_>) -> Result<SetupLine, Unread>
     read_edit_line(alloc, words)
 }
 
-/// Takes that, and sees that nothing stands behind it.
+/// Takes that, and sees that nothing stands after it.
 #[tactic(auto, unfolding(crate::specs::Setup::setup_whole))]
 fn whole_setup(alloc: Global, words: &mut Words<'_>) -> Result<SetupLine, Unread>
     ensures { Gives result (setup_whole words.old) }
@@ -123,7 +123,7 @@ pub fn read_setup_line(alloc: Global, line: &str) -> Result<SetupLine, CommandFa
     }
 }
 
-/// Whether the first word of a line is `listen`, whatever comes behind it.
+/// Whether the first word of a line is `listen`, whatever comes after it.
 pub fn begins_listen(line: &str) -> bool
     ensures { result ≡ begins_listen line.now }
 {

@@ -186,7 +186,7 @@ fn read_members(
     Ok(terms)
 }
 
-/// `and(TERM{,TERM})`, behind its first word.
+/// `and(TERM{,TERM})`, after its first word.
 #[cycle(terms)]
 #[tactic(auto, unfolding(crate::specs::Terms::and_at))]
 fn read_and(
@@ -201,7 +201,7 @@ fn read_and(
     Ok(Term::And(terms))
 }
 
-/// `or(TERM{,TERM})`, behind its first word.
+/// `or(TERM{,TERM})`, after its first word.
 #[cycle(terms)]
 #[tactic(auto, unfolding(crate::specs::Terms::or_at))]
 fn read_or(
@@ -216,7 +216,7 @@ fn read_or(
     Ok(Term::Or(terms))
 }
 
-/// `not(TERM)`, behind its first word.
+/// `not(TERM)`, after its first word.
 #[cycle(terms)]
 #[tactic(auto, unfolding(crate::specs::Terms::not_at))]
 fn read_not(

@@ -267,7 +267,7 @@ pub(crate) fn timeout_of(text: &[u8]) -> Option<Timeout>
     Timeout::from_millis(decimal_up_to(text, MAX_NUMBER)? as u32)
 }
 
-/// The octets that hexadecimal digits of either case spell, or `-` for none. The one error is want of memory.
+/// The octets that hexadecimal digits of either case spell, or `-` for none. The one error is lack of memory.
 pub(crate) fn hex_of(alloc: Global, text: &[u8]) -> Result<Option<Octets>, AllocError>
     ensures { IfOk result (λ octets. octets ≡ hex_of text.now) }
 {
@@ -283,7 +283,7 @@ pub(crate) fn hex_of(alloc: Global, text: &[u8]) -> Result<Option<Octets>, Alloc
     pairs_of(alloc, text)
 }
 
-/// The octets that pairs of hexadecimal digits spell, in room that is taken first. The one error is want of memory.
+/// The octets that pairs of hexadecimal digits spell, in room that is taken first. The one error is lack of memory.
 fn pairs_of(alloc: Global, text: &[u8]) -> Result<Option<Octets>, AllocError>
     requires pairs { length text.now ≡ 2 * (length text.now / 2) }
     requires short { length text.now / 2 ≤ max_message }

@@ -64,7 +64,7 @@ fn first_len(bytes: &[u8]) -> usize
     }
 }
 
-/// What comes first behind the leading spaces, where that begins, and what stands behind it.
+/// What comes first after the leading spaces, where that begins, and what stands after it.
 fn split_first(total: usize, bytes: &[u8]) -> (&[u8], usize, &[u8])
     requires { length bytes.now ≤ total }
     ensures token { seen result.0.now result.1 ≡ first_in (words_of total bytes.now) total }
@@ -108,7 +108,7 @@ impl Token<'_> {
         self.is(FaultKind::BadTerm)
     }
 
-    /// That it stands behind a whole line.
+    /// That it stands after a whole line.
     fn extra(&self) -> Unread
         ensures { result ≡ Fault (record { place = self.now.place; kind = extra_at self.now.text.now }) }
     {

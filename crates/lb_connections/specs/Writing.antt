@@ -1,4 +1,4 @@
--- What is put behind what a connection is to write.
+-- What is put after what a connection is to write.
 use Rattle.std.specs.Prelude.{◌≡◌, ◌⊎◌, ◌+◌, ◌<◌, ◌≤◌, ℕ, false, List, [], ◌∷◌, ◌++◌, length, Option, Some, None}
 use Rattle.lb_connections.specs.Table.{Swaps, Table, at, owed_with}
 use Rattle.lb_connections.specs.declared.connection.Connection.{Connection}
@@ -24,7 +24,7 @@ abbrev pub IsUrgent : Option Connection → Type 0
 IsUrgent None = ⊥
 IsUrgent (Some x) = (many_waiting < length x.outgoing) ⊎ (x.is_touched ≡ false)
 
--- a message was put behind what the connection of a number is to write, where no more octets wait now than may
+-- a message was put after what the connection of a number is to write, where no more octets wait now than may
 pub record Puts (n : ℕ) (message : List ℕ) (a b : Table) : Type 0 where
   pub x : Connection
   pub y : Connection

@@ -188,8 +188,8 @@ impl Connection {
         }
     }
 
-    /// Puts its number behind those that wait for their turn, where it has a whole message and does
-    /// not stand there yet. The one error is want of memory.
+    /// Puts its number after those that wait for their turn, where it has a whole message and does
+    /// not stand there yet. The one error is lack of memory.
     pub(crate) fn enqueue(&mut self, queue: &mut VecDeque<u64>) -> Result<(), AllocError>
         ensures queues { OnOk result (Queues self.old self.new queue.old.items queue.new.items) }
         ensures kept { OnErr result ((self.new ≡ self.old) × (queue.new.items ≡ queue.old.items)) }

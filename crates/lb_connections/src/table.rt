@@ -101,7 +101,7 @@ fn place_in(routes: &[Route], server: ServerId, lane: u8) -> Result<usize, usize
 }
 
 impl Connections {
-    /// No connection, and places for 4,096. The one error is want of memory.
+    /// No connection, and places for 4,096. The one error is lack of memory.
     #[tactic(auto, using(crate::proofs::AtPlaces::new_is))]
     pub fn made(alloc: Global) -> Result<Connections, AllocError>
         ensures { IfOk result IsNew }
@@ -253,7 +253,7 @@ impl Connections {
         }
     }
 
-    /// Notes a connection to a server, in place of an earlier one. The one error is want of memory.
+    /// Notes a connection to a server, in place of an earlier one. The one error is lack of memory.
     pub fn note(&mut self, route: Route) -> Result<(), AllocError>
         ensures same { self.new ≡ self.old }
     {

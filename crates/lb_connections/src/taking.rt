@@ -19,7 +19,7 @@ pub struct First {
 }
 
 impl Connections {
-    /// The first whole message of a connection. The one error is want of memory.
+    /// The first whole message of a connection. The one error is lack of memory.
     pub fn first_of(&self, alloc: Global, number: u64) -> Result<Option<First>, AllocError>
         ensures some { IfOk result (λ found. IfSome found (λ first. IsFirst number first.peer first.message self.now)) }
         ensures none { IfOk result (λ found. IfNone found (HasNone number self.now)) }

@@ -1,4 +1,4 @@
-//! What is put behind what connections are to write.
+//! What is put after what connections are to write.
 
 ghost use Rattle.std.specs.Prelude.{IfErr, OnOk};
 ghost use Rattle.lb_connections.specs.Writing.{MayNotPut, Puts};

@@ -61,7 +61,7 @@ asked_on (l ∷ ls) xs all more = (all.0, asked_on ls xs all.1 more)
 events_on : (ls xs : List Line) (held : List Event) → (events_in ls ++ []) ++ (events_in xs ++ held) ≡ events_in (ls ++ xs) ++ held
 events_on ls xs held = ap (λ zs. zs ++ (events_in xs ++ held)) (append-nil (events_in ls)) ∙ sym (append_assoc (events_in ls) (events_in xs) held) ∙ ap (λ zs. zs ++ held) (sym (flat_map-append event_in ls xs))
 
--- behind a first fault, nothing failed
+-- after a first fault, nothing failed
 pub first_stays : (d : Option DeviceFault) (s s' s'' o o' o'' : ℕ) → d ≢ Some devices.Outside → FirstFault d s s' o o' → FirstFault None s' s'' o' o'' → FirstFault d s s'' o o''
 first_stays None s s' s'' o o' o'' clear one two = (two.0 ∙ one.0, two.1 ∙ one.1)
 first_stays (Some devices.Sockets) s s' s'' o o' o'' clear one two = let same = two.0 in let le = one.0 in (omega arith, rose_later s s' s'' one.1 (omega arith))

@@ -87,7 +87,7 @@ cons_head x y xs ys e = ap (λ zs. get_or zs 0 x) e
 cons_tail : {X : Type 0} (x y : X) (xs ys : List X) → x ∷ xs ≡ y ∷ ys → xs ≡ ys
 cons_tail x y xs ys e = ap (drop 1) e
 
--- where two lists are the same from a place on, so are their elements there and what stands behind
+-- where two lists are the same from a place on, so are their elements there and what stands after
 pub same_here : {X : Type 0} (xs ys : List X) (i : ℕ) (d : X) → i < length xs → i < length ys → drop i ys ≡ drop i xs → get_or ys i d ≡ get_or xs i d
 same_here xs ys i d a b e = cons_head (get_or ys i d) (get_or xs i d) (drop (i + 1) ys) (drop (i + 1) xs) (sym (drop_more ys i d b) ∙ e ∙ drop_more xs i d a)
 

@@ -36,7 +36,7 @@ abbrev pub reaches : (ℕ → Bool) → Letter → Bool
 reaches listens (Client origin, bytes) = (origin.slot == 0) && listens origin.front
 reaches listens (Server server lane, bytes) = is_datagram lane.kind
 
--- why a letter is not sent: its server is not in the roster; there is no way to its end; a device failed, or memory was wanting
+-- why a letter is not sent: its server is not in the roster; there is no way to its end; a device failed, or memory was lacking
 abbrev pub Fits : List Listed → (ℕ → Bool) → Letter → Why → Type 0
 Fits roster listens letter whys.NoServer = packet_of roster letter ≡ None
 Fits roster listens letter whys.Gone = (reaches listens letter ≡ false) × ((d : Datagram) × (packet_of roster letter ≡ Some d))
@@ -75,7 +75,7 @@ abbrev pub sent_as : Sending → Line → Line
 sent_as sending (lines.Event source event outcome before) = lines.Event source event outcome sending
 sent_as sending line = line
 
--- a line before its send and behind it
+-- a line before its send and after it
 abbrev pub IsSent : List Listed → (ℕ → Bool) → Line → Line → Type 0
 IsSent roster listens line sent = (sending : Sending) × (sent ≡ sent_as sending line) × Comes roster listens (letter_of line) sending
 

@@ -52,7 +52,7 @@ pub record Turns (rounds : ℕ) (old new : World) (lines : List Line) (held : Li
   pub stamps : Stamps old.said new.said (events_in lines ++ held) rounds
   pub first : FirstFault device old.failures new.failures old.outside new.outside
 
--- one round, which puts its lines behind others
+-- one round, which puts its lines after others
 pub record Round (old new : World) (before after : List Line) (held : List Event) (device : Option DeviceFault) : Type 0 where
   pub more : List Line
   pub put : after ≡ before ++ more
@@ -62,7 +62,7 @@ pub record Round (old new : World) (before after : List Line) (held : List Event
 abbrev pub asked_line : Event → Outcome → Line
 asked_line event outcome = lines.Event sources.Datagrams event outcome Nothing
 
--- an event was handed to the desk: its line stands behind the others, and the taker has its answer, if there is one
+-- an event was handed to the desk: its line stands after the others, and the taker has its answer, if there is one
 pub record Asks (event : Event) (before after : List Line) (answered answered' : ℕ) (told told' : List (Event × Answer)) : Type 0 where
   pub outcome : Outcome
   pub put : after ≡ before ++ asked_line event outcome ∷ []
@@ -75,7 +75,7 @@ abbrev pub Leads : Event → Option Event → List Line → List Line → ℕ �
 Leads event None before after answered answered' told told' = Asks event before after answered answered' told told'
 Leads event (Some held) before after answered answered' told told' = (held ≡ event) × (after ≡ before) × (answered' ≡ answered) × (told' ≡ told)
 
--- what a datagram led to: its event, if it makes one, has this stamp, and is that of a line behind the others, or held
+-- what a datagram led to: its event, if it makes one, has this stamp, and is that of a line after the others, or held
 pub record Handles (d : Datagram) (stamp : Stamp) (before after : List Line) (answered answered' : ℕ) (told told' : List (Event × Answer)) (held : Option Event) : Type 0 where
   pub more : List Line
   pub put : after ≡ before ++ more

@@ -38,7 +38,7 @@ fn agrees(log: &[LogEntry], seat: SeatId, receipts: &[Receipt]) -> bool
     next == receipts.len()
 }
 
-/// The place behind the receipt of an entry; the same place where the entry is of another seat. None where the receipts do not
+/// The place after the receipt of an entry; the same place where the entry is of another seat. None where the receipts do not
 /// have it next.
 fn past(
     entry: &LogEntry,

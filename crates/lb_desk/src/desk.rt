@@ -65,7 +65,7 @@ pub struct Desk<J: Naming> {
 }
 
 impl<J: Naming> Desk<J> {
-    /// A desk with its seats, whose log has at most so many calls. The one error is want of memory.
+    /// A desk with its seats, whose log has at most so many calls. The one error is lack of memory.
     pub fn made(
         alloc: Global,
         blank: Blank,
@@ -112,7 +112,7 @@ impl<J: Naming> Desk<J> {
     /// One call, by any thread: one step of the balancer. The seat counts it, and has a receipt of
     /// it where the log has the call: what the book answers carries the ticket of a logged call,
     /// and only the seat's receipts can use that up, so that no receipt can be left out. A refused
-    /// event comes back, and nothing was asked of the balancer. Want of memory is met only while
+    /// event comes back, and nothing was asked of the balancer. Lack of memory is met only while
     /// the log takes calls.
     #[inline(always)]
     pub fn call<R: Wait>(

@@ -12,7 +12,7 @@ pub enum DeskFault {
     /// The desk has taken 2^64-1 calls, or the seat has.
     #[error("no further call can be counted")]
     CountFull,
-    /// Memory is wanting for the log or for the receipt.
+    /// Memory is lacking for the log or for the receipt.
     #[error("memory is wanting")]
     NoMemory,
 }

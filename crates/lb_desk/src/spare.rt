@@ -16,7 +16,7 @@ pub(crate) struct AnswerRoom {
 }
 
 impl AnswerRoom {
-    /// Takes the room. The one error is want of memory.
+    /// Takes the room. The one error is lack of memory.
     pub(crate) fn take(alloc: Global) -> Result<AnswerRoom, AllocError> {
         Ok(AnswerRoom {
             octets: Vec::with_capacity(alloc, MAX_MESSAGE)?,
@@ -44,7 +44,7 @@ pub(crate) struct EntryRoom {
 }
 
 impl EntryRoom {
-    /// Takes the room of a call. The one error is want of memory.
+    /// Takes the room of a call. The one error is lack of memory.
     pub(crate) fn take(alloc: Global, event: &Event) -> Result<EntryRoom, AllocError>
         ensures { IfOk result (λ spare. spare.event ≡ event.now) }
     {

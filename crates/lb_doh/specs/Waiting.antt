@@ -32,7 +32,7 @@ waits_code {W} code =
     (λ w. (w.last, w.requests)) (λ p. record { last = p.0; requests = p.1 }) (λ _. refl)
 
 module _ {W : Type 0} where
-  -- A request comes to stand behind the others, under the next number. Numbers are given once, from 1 on; past 2^64-1 there is none.
+  -- A request comes to stand after the others, under the next number. Numbers are given once, from 1 on; past 2^64-1 there is none.
   abbrev pub Enters : Waits W → W → Waits W → Result ℕ EnterFault → Type 0
   Enters old waker new (Ok number) = (number ≡ old.last + 1) × (new ≡ record { last = number; requests = old.requests ++ (number, waker) ∷ [] })
   Enters old waker new (Err NoNumber) = (old.last + 1 ≡ 2 ^ 64) × (new ≡ old)

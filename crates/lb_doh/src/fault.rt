@@ -9,7 +9,7 @@ pub enum EnterFault {
     /// Each number from 1 to 2^64-1 was given.
     #[error("no number is left")]
     NoNumber,
-    /// Memory is wanting.
+    /// Memory is lacking.
     #[error("memory is wanting")]
     NoMemory,
 }

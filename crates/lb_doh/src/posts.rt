@@ -47,7 +47,7 @@ impl<'a, R: Wait> HttpPosts<'a, R> {
 impl<R: Wait> Posts for HttpPosts<'_, R> {
     ghost handed = { λ p. p.told.items };
 
-    /// Whatever comes of it, the request does not wait any more: where memory is wanting for a copy of the answer, its connection ends.
+    /// Whatever comes of it, the request does not wait any more: where memory is lacking for a copy of the answer, its connection ends.
     fn hand(&mut self, origin: Origin, bytes: &Octets) -> Result<(), Why> {
         let Some(bringer) = self.taken(origin.slot) else {
             return Err(Why::Gone);

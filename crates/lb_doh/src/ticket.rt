@@ -43,7 +43,7 @@ impl<R: Wait + Drop> Drop for Ticket<R> {
 pub type Brought = oneshot::Receiver<Octets>;
 
 impl<R: Wait + Drop> Ticket<R> {
-    /// A place behind the others, under the next number, and what its answer will come by. It is to be taken before the request's message
+    /// A place after the others, under the next number, and what its answer will come by. It is to be taken before the request's message
     /// goes to the desk, as another thread may bring the answer at once.
     pub fn taken(
         rt: R,

@@ -39,7 +39,7 @@ impl<W: Drop> Waiting<W> {
         }
     }
 
-    /// Puts a request behind the others, under the next number. The errors are want of memory, and that no number is left; nothing has
+    /// Puts a request after the others, under the next number. The errors are lack of memory, and that no number is left; nothing has
     /// changed then.
     pub fn enter(&mut self, waker: W) -> Result<u64, EnterFault>
         ensures { Enters self.old waker self.new result }

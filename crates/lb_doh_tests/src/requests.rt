@@ -35,7 +35,7 @@ const REQUESTS: &[(&str, &str, &str, Result<&[u8], u16>)] = &[
         Err(400),
     ),
     ("GET", "/dns-query", "dns=-_8AAAAAAAAAAAAAAA==", Err(400)),
-    // Bits behind the last octet.
+    // Bits after the last octet.
     ("GET", "/dns-query", "dns=-_8AAAAAAAAAAAAAAA", Ok(THIRTEEN)),
     ("GET", "/dns-query", "dns=-_8AAAAAAAAAAAAAAB", Err(400)),
     ("GET", "/dns-query", "dns=-_8AAAAAAAAAAAAAA", Err(400)),

@@ -67,7 +67,7 @@ fn is_there<R: Wait + RandomSource + AllocGlobal>(
     })
 }
 
-/// Answers of so many requests, one behind the other, each before its request looks: whether each was there, and under the next number.
+/// Answers of so many requests, one after the other, each before its request looks: whether each was there, and under the next number.
 fn answered_at_once<R: Wait + RandomSource + AllocGlobal + Copy + Drop>(
     rt: R,
     requests: &Arc<Requests>,
@@ -125,7 +125,7 @@ fn a_client_that_leaves(rt: HostRuntime) -> Result<(), Fail> {
     held(3, is_empty(&rt, &requests, 2))
 }
 
-/// Whether the request behind one that left has number 2, and gets its own answer.
+/// Whether the request after one that left has number 2, and gets its own answer.
 fn answered_second<R: Wait + RandomSource + AllocGlobal + Copy + Drop>(
     rt: R,
     requests: &Arc<Requests>,

@@ -41,7 +41,7 @@ abbrev pub ReadsOctets : List ℕ → Result (List ℕ) DohFault → Type 0
 ReadsOctets octets read = (max_message < length octets → read ≡ Err faults.TooLong) × (length octets ≤ max_message → ReadsBody (Whole octets) read)
 
 module _ {E : Type 0} where
-  -- what comes of a body: what it is read as; where it did not come whole, the connection ends, as it may for want of memory
+  -- what comes of a body: what it is read as; where it did not come whole, the connection ends, as it may for lack of memory
   abbrev pub Comes : Result Collected (LimitedError E) → Result (Result (List ℕ) DohFault) Cut → Type 0
   Comes (Err limits.LengthLimit) read = read ≡ Ok (Err faults.TooLong)
   Comes (Err (limits.Body error)) read = read ≡ Err cuts.Body

@@ -27,7 +27,7 @@ pub record IsBuilt (response : DohResponse) (http : Response (Full (List ℕ))) 
   pub lines : (head_of http).headers ≡ append_all [] (map (λ line. (line.0, plain_value line.1)) (lines_for response.status response.max_age response.body))
   pub body : (body_of http).buf ≡ content response.body
 
--- a response was not built: for want of memory, or as a header line or a status is not one of HTTP
+-- a response was not built: for lack of memory, or as a header line or a status is not one of HTTP
 abbrev pub IsUnbuilt : Cut → Type 0
 IsUnbuilt cuts.NoMemory = ⊤
 IsUnbuilt (cuts.Response error) = ⊤

@@ -14,7 +14,7 @@ pub(crate) enum Cut {
     /// Its response was not built.
     #[error("{0}")]
     Response(http::Error),
-    /// Memory was wanting.
+    /// Memory was lacking.
     #[error("memory is wanting")]
     NoMemory,
     /// Its body did not come, or not in time.
@@ -64,7 +64,7 @@ pub enum FrontFault {
     /// The system did not give what it needs.
     #[error("{0}")]
     System(io::Error),
-    /// Memory was wanting.
+    /// Memory was lacking.
     #[error("memory is wanting")]
     NoMemory,
     /// Its event handler was not given back.

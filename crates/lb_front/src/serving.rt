@@ -268,7 +268,7 @@ pub fn settings<R: Clock + RandomSource + Copy + Drop>(
     let mut http = Builder::new(alloc, RandomState::new(&rt)?).timer(timer);
     http.max_buf_size(HEAD);
     http.auto_date_header(false);
-    // A client may close its side behind its request.
+    // A client may close its side after its request.
     http.half_close(true);
     http.header_read_timeout(Some(Duration::from_secs(head_seconds)));
     Ok(http)

@@ -31,7 +31,7 @@ pub record StandsFor (value octets : List ℕ) : Type 0 where
   pub short : length octets ≤ max_message
   pub like : IsQueryLike octets
 
--- what a value is read as: the message that it stands for; no message; or it stands for one, and memory was wanting
+-- what a value is read as: the message that it stands for; no message; or it stands for one, and memory was lacking
 abbrev pub ReadsValue : List ℕ → Result (Vec ℕ Global) DohFault → Type 0
 ReadsValue value (Ok message) = StandsFor value message.items
 ReadsValue value (Err BadRequest) = (octets : List ℕ) → StandsFor value octets → ⊥

@@ -41,7 +41,7 @@ IsFit method media body = (method ≡ get) ⊎ ((method ≡ post) × IsDnsMedia 
 abbrev pub Carries : List ℕ → List ℕ → List ℕ → DohBody → List ℕ → Type 0
 Carries method query media body octets = Posts method media body octets ⊎ Gets method query octets
 
--- Why a request is refused: each fault exactly where it is the first that applies. Memory is wanting last, and only for the message of a
+-- Why a request is refused: each fault exactly where it is the first that applies. Memory is lacking last, and only for the message of a
 -- GET.
 abbrev pub Refuses : List ℕ → List ℕ → List ℕ → List ℕ → DohBody → DohFault → Type 0
 Refuses method path query media body faults.NotFound = path ≢ the_path

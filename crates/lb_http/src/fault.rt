@@ -24,7 +24,7 @@ pub enum DohFault {
     /// 400: there is no message that could be a query.
     #[error("no message that could be a query")]
     BadRequest,
-    /// 503: there is a message, and memory is wanting.
+    /// 503: there is a message, and memory is lacking.
     #[error("memory is wanting")]
     NoMemory,
 }

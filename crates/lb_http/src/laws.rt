@@ -2,7 +2,7 @@
 
 ghost use Rattle.lb_http.specs.Laws.{OneOutcome};
 
-/// A request has one outcome, but for want of memory.
+/// A request has one outcome, but for lack of memory.
 pub fn one_outcome()
     ensures { OneOutcome }
 {}

@@ -1,4 +1,4 @@
--- Servers taken out of a list, and put behind it.
+-- Servers taken out of a list, and put after it.
 use Rattle.std.proofs.Common.{◌≡◌, ◌≢◌, ℕ, suc, ◌+◌, ◌≤◌, ◌<◌, Bool, true, false, true≢false, List, [], ◌∷◌, ◌++◌, Option, Some, None, find, filter, option_map, not, if◌then◌else◌, ◌==◌, length, refl, sym, ap, ◌∙◌, arith, eq-eqb, rules}
 use Rattle.std.proofs.lemmas.Bool.{eqb-true}
 use Rattle.lb_wire.specs.declared.ids.ServerId.{ServerId}
@@ -54,7 +54,7 @@ apart_back_at a c false is other = is
 apart_back : (a c : ℕ) → (a == c) ≡ false → (c == a) ≡ false
 apart_back a c other = apart_back_at a c (c == a) refl other
 
--- a server put behind a list in which it is not
+-- a server put after a list in which it is not
 alone_at : (s : ServerId) (y : Listed) (b : Bool) → (y.server.0 == s.0) ≡ b → place_in s (y ∷ []) ≡ (if b then Some y.place else None)
 alone_at s y true e = rw e refl
 alone_at s y false e = rw e refl

@@ -58,7 +58,7 @@ any_by_device [] = false
 any_by_device (line ∷ more) = is_by_device (sending_of line) || any_by_device more
 
 -- The first device fault between two moments, by the counts of failures of the sockets and of what is outside: none where neither
--- failed; outside, behind which nothing is done, only where the sockets had not failed before.
+-- failed; outside, after which nothing is done, only where the sockets had not failed before.
 abbrev pub FirstFault : Option DeviceFault → ℕ → ℕ → ℕ → ℕ → Type 0
 FirstFault None s s' o o' = (s' ≡ s) × (o' ≡ o)
 FirstFault (Some devices.Sockets) s s' o o' = Fails s s'

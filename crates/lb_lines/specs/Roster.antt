@@ -26,7 +26,7 @@ abbrev pub AreApart : List Listed → Type 0
 AreApart [] = Unit {0}
 AreApart (l ∷ ls) = (place_in l.server ls ≡ None) × AreApart ls
 
--- the number behind a version
+-- the number after a version
 abbrev pub next_version : ℕ → ℕ
 next_version version = if version + 1 == 2 ^ 64 then 0 else version + 1
 

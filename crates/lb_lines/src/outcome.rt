@@ -36,7 +36,7 @@ pub fn fault_in(line: &Line) -> Option<DeviceFault>
     }
 }
 
-/// The first of two device faults, the second of which was found later. Nothing is done behind a fault of what is outside.
+/// The first of two device faults, the second of which was found later. Nothing is done after a fault of what is outside.
 pub fn first_fault(device: Option<DeviceFault>, found: Option<DeviceFault>) -> Option<DeviceFault>
     ensures first { (s s' s'' o o' o'' : ℕ) → device ≢ Some devices.Outside → FirstFault device s s' o o' → FirstFault found s' s'' o' o'' → FirstFault result s s'' o o'' }
     ensures clear { device ≢ Some devices.Outside → found ≢ Some devices.Outside → result ≢ Some devices.Outside }
@@ -47,7 +47,7 @@ pub fn first_fault(device: Option<DeviceFault>, found: Option<DeviceFault>) -> O
     }
 }
 
-/// Puts a line behind the others, for which room was taken.
+/// Puts a line after the others, for which room was taken.
 pub fn add_line(lines: &mut Vec<Line>, line: Option<Line>)
     requires { vec_len lines.old < vec_capacity lines.old }
     ensures lines { lines.new.items ≡ lines.old.items ++ option_to_list line }

@@ -27,7 +27,7 @@ pub enum Source {
 pub enum Way {
     /// A socket of datagrams took it.
     Datagram,
-    /// It stands behind what the connection with this number is to write.
+    /// It stands after what the connection with this number is to write.
     Connection(u64),
     /// The outbox took it.
     Outbox,
@@ -48,7 +48,7 @@ pub enum Why {
     Full,
     /// A device failed.
     Device,
-    /// Memory was wanting.
+    /// Memory was lacking.
     NoMemory,
 }
 

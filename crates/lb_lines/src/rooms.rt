@@ -29,7 +29,7 @@ impl Rooms {
         }
     }
 
-    /// These octets, in a block that was kept, where there is one. The one error is want of memory.
+    /// These octets, in a block that was kept, where there is one. The one error is lack of memory.
     #[inline(always)]
     pub fn copied(&mut self, octets: &[u8]) -> Result<Octets, AllocError>
         requires short { length octets.now ≤ max_message }

@@ -53,7 +53,7 @@ impl Model for Roster {
 }
 
 impl Roster {
-    /// No servers. It has room for 256; the one error is want of memory.
+    /// No servers. It has room for 256; the one error is lack of memory.
     pub fn made(alloc: Global) -> Result<Roster, AllocError>
         ensures { IfOk result (λ roster. roster ≡ record { version = 0; listed = [] }) }
     {
@@ -105,7 +105,7 @@ impl Roster {
         self.listed.len()
     }
 
-    /// The server at a place of the list, from 0, and where it is. None behind the last one.
+    /// The server at a place of the list, from 0, and where it is. None after the last one.
     pub fn nth(&self, index: usize) -> Option<(ServerId, Place)>
         ensures { result ≡ option_map (λ (l : Listed). (l.server, l.place)) (slice_get self.now.listed index) }
     {

@@ -45,7 +45,7 @@ pub trait Datagrams: Drop {
         ensures same { (given self.new ≡ given self.old) × (taken self.new ≡ taken self.old) × (listens self.new ≡ listens self.old) }
         ensures counts { (failures self.new ≡ failures self.old) × (reads self.new ≡ reads self.old) };
 
-    /// Sends one datagram. Refused, no octet of it was sent: there is no such listener (Gone), a device failed, or memory was wanting.
+    /// Sends one datagram. Refused, no octet of it was sent: there is no such listener (Gone), a device failed, or memory was lacking.
     fn send(&mut self, socket: Socket, to: Endpoint, bytes: &Octets) -> Result<(), Why>
         ensures sent { Sent result (listens self.old) (record { socket = socket; peer = to; bytes = bytes.now }) (taken self.old) (taken self.new) (failures self.old) (failures self.new) }
         ensures same { (given self.new ≡ given self.old) × (listens self.new ≡ listens self.old) × (reads self.new ≡ reads self.old) };
@@ -66,7 +66,7 @@ pub trait Streams: Drop {
     fn resume(&mut self, connection: u64)
         ensures same { told self.new ≡ told self.old };
 
-    /// Takes in a client that waits, as the connection with this number. Refused for want of memory, it waits on.
+    /// Takes in a client that waits, as the connection with this number. Refused for lack of memory, it waits on.
     fn accept(&mut self, connection: u64) -> Result<Accepted, AllocError>
         ensures came { Came result connection (told self.old) (told self.new) };
 
@@ -130,7 +130,7 @@ pub trait Outside: Drop {
 pub trait Posts: Drop {
     ghost handed: { Self → List (Origin × List ℕ) };
 
-    /// Hands an answer to the request of this origin. Refused, the request has ended (Gone) or memory was wanting.
+    /// Hands an answer to the request of this origin. Refused, the request has ended (Gone) or memory was lacking.
     fn hand(&mut self, origin: Origin, bytes: &Octets) -> Result<(), Why>
         ensures handed { OnOk result (handed self.new ≡ handed self.old ++ (origin, bytes.now) ∷ []) }
         ensures same { OnErr result (handed self.new ≡ handed self.old) };

@@ -10,7 +10,7 @@ number_of faults.Device = 1
 number_of faults.NoMemory = 2
 number_of faults.Held = 3
 
--- whether a loop goes on behind a turn: not where a gate held an event, nor where what is outside failed; a socket that fails ends none
+-- whether a loop goes on after a turn: not where a gate held an event, nor where what is outside failed; a socket that fails ends none
 abbrev pub end_behind : Bool → Option DeviceFault → Result (Unit {0}) LoopFault
 end_behind true device = Err faults.Held
 end_behind false (Some devices.Outside) = Err faults.Device

@@ -70,7 +70,7 @@ fn are_both(messages: &[Message]) -> bool {
             .all(|(message, wanted)| message.as_slice() == *wanted)
 }
 
-/// In one piece, cut behind the octets 1 and 20, and octet by octet.
+/// In one piece, cut after the octets 1 and 20, and octet by octet.
 #[test]
 fn cut_streams(rt: HostRuntime) -> Result<(), Fail> {
     expect_both(&rt, &[28], "in one piece")?;

@@ -17,7 +17,7 @@ pub struct Failing {
     pub read: u64,
     /// The send at which the device fails.
     pub send: u64,
-    /// The read that is refused for want of memory.
+    /// The read that is refused for lack of memory.
     pub refused: u64,
 }
 

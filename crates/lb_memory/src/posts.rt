@@ -35,7 +35,7 @@ impl Requests {
         self.handed.as_slice()
     }
 
-    /// Hands an answer to a request. The one error is want of memory.
+    /// Hands an answer to a request. The one error is lack of memory.
     fn hand(&mut self, origin: Origin, bytes: Octets) -> Result<(), AllocError> {
         self.handed.push((origin, bytes))?;
         Ok(())

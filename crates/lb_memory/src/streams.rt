@@ -24,7 +24,7 @@ pub struct StreamFailing {
     pub accept: u64,
     /// The dial at which the device fails.
     pub dial: u64,
-    /// The read that is refused for want of memory.
+    /// The read that is refused for lack of memory.
     pub refused: u64,
 }
 
@@ -146,7 +146,7 @@ impl<'a, R: Wait> MemoryStreams<'a, R> {
     }
 }
 
-/// These octets are taken, and copied for what is told. The one error is want of memory, and then none is taken.
+/// These octets are taken, and copied for what is told. The one error is lack of memory, and then none is taken.
 fn copied(
     alloc: Global,
     wires: &mut Wires,

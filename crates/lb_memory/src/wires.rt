@@ -90,12 +90,12 @@ impl Wires {
         self.coming(connection, Coming::Piece(octets))
     }
 
-    /// The peer of a connection closes its side, behind what has come.
+    /// The peer of a connection closes its side, after what has come.
     pub fn end(&mut self, connection: u64) -> Result<(), AllocError> {
         self.coming(connection, Coming::End)
     }
 
-    /// The device fails at a read of a connection, behind what has come.
+    /// The device fails at a read of a connection, after what has come.
     pub fn fail(&mut self, connection: u64) -> Result<(), AllocError> {
         self.coming(connection, Coming::Failure)
     }
@@ -246,7 +246,7 @@ impl Wires {
         self.turned_away = self.turned_away.saturating_add(1);
     }
 
-    /// A connection stands. The one error is want of memory.
+    /// A connection stands. The one error is lack of memory.
     pub(crate) fn open_up(&mut self, connection: u64) -> Result<(), AllocError> {
         if let Some(wire) = self.made(connection)? {
             wire.is_open = true;
@@ -257,7 +257,7 @@ impl Wires {
         Ok(())
     }
 
-    /// A connection was dialled, and stands at once. The one error is want of memory.
+    /// A connection was dialled, and stands at once. The one error is lack of memory.
     pub(crate) fn dial(&mut self, connection: u64, to: Endpoint) -> Result<(), AllocError> {
         self.dialed.reserve(1)?;
         self.ready.reserve(2)?;
@@ -267,7 +267,7 @@ impl Wires {
         Ok(())
     }
 
-    /// A connection took nothing for want of memory: it is told that it takes more, as it may have room by then.
+    /// A connection took nothing for lack of memory: it is told that it takes more, as it may have room by then.
     pub(crate) fn try_again(&mut self, connection: u64) {
         let _ = self.ready.push_back(Ready::Writable(connection));
     }
@@ -297,7 +297,7 @@ impl Wires {
         }
     }
 
-    /// A connection takes these octets. The one error is want of memory, and then it has taken none.
+    /// A connection takes these octets. The one error is lack of memory, and then it has taken none.
     pub(crate) fn take(&mut self, connection: u64, octets: &[u8]) -> Result<(), AllocError> {
         let Some(wire) = self.get_mut(connection) else {
             return Ok(());

@@ -98,7 +98,7 @@ fn by_transport_and_then_by_octets(rt: HostRuntime) -> Result<(), Fail> {
     )
 }
 
-/// What stands behind the header without its ID of a query for example.com, type A and class IN.
+/// What stands after the header without its ID of a query for example.com, type A and class IN.
 const ASKED: [u8; 27] = [
     1, 0, 0, 1, 0, 0, 0, 0, 0, 0, 7, 101, 120, 97, 109, 112, 108, 101, 3, 99, 111, 109, 0, 0, 1, 0,
     1,

@@ -150,7 +150,7 @@ fn has_counts(alloc: Global, text: &str, wanted: Counts) -> Result<bool, Fail> {
 /// its 256 values. The counts are worked out by hand: a value of an ID, a flag but QR, a letter, a
 /// type, a class or a TTL leaves a query; QR does not. Of a count's two octets and of RDLENGTH's
 /// only the value that stands there does, and ARCOUNT 0 besides. The first length octet may also be
-/// 11, since the name then ends at the same zero octet, and 0 where no record has to stand behind
+/// 11, since the name then ends at the same zero octet, and 0 where no record has to stand after
 /// it; the second one may be 0.
 const REPLACED: &[(&str, Counts)] = &[
     (

@@ -57,7 +57,7 @@ fn add(
     Ok(park.add_server(spec)?)
 }
 
-/// The number of the refusal of a server of order 1 where memory is wanting.
+/// The number of the refusal of a server of order 1 where memory is lacking.
 fn refusal(alloc: Global, park: &Park, name: &str, pools: &[&str]) -> Result<u8, Fail> {
     let spec = spec(alloc, name, 1, pools)?;
     let copy = spec.copy(alloc)?;

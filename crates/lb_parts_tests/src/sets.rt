@@ -5,14 +5,14 @@ use lb_name::Name;
 use lb_terms::Names;
 use std::test::Fail;
 
-/// Whether a list has a name at a place, and none behind it.
+/// Whether a list has a name at a place, and none after it.
 fn ends_at(names: &Names, place: usize, name: &Name) -> bool {
     names.len() > place
         && names.get(names.len()).is_none()
         && names.get(place).is_some_and(|last| last.equals(name))
 }
 
-/// Whether a name comes to its place behind the others. Where it is refused memory, they have to be
+/// Whether a name comes to its place after the others. Where it is refused memory, they have to be
 /// what they were, and it comes again.
 fn is_put(names: &mut Names, name: &Name) -> bool {
     let place = names.len();

@@ -13,7 +13,7 @@ use Rattle.lb_probes.specs.declared.watched.Watched.{Watched}
 use Rattle.lb_probes.proofs.Probing.{step_or}
 use Rattle.lb_wire.specs.declared.ids.ServerId.{ServerId}
 
--- some behind others
+-- some after others
 pub fresh_on : (now : ℕ) (roster : List Listed) (p xs ys : List Watched) → AreFresh now roster p xs → AreFresh now roster (p ++ xs) ys → AreFresh now roster p (xs ++ ys)
 fresh_on now roster p [] ys first after = subst (λ z. AreFresh now roster z ys) (append-nil p) after
 fresh_on now roster p (x ∷ xs) ys first after = (first.0, fresh_on now roster (p ++ x ∷ []) xs ys first.1 (subst (λ z. AreFresh now roster z ys) (sym (append_assoc p (x ∷ []) xs)) after))

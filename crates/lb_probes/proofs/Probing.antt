@@ -33,6 +33,6 @@ first_more P n p first here i w lt at = by (step_or i n lt) where
 quiet_less : (roster : List Listed) (now a b : ℕ) → b ≤ a → (w : Watched) → IsQuietFor roster now a w → IsQuietFor roster now b w
 quiet_less roster now a b le w quiet moment from before = quiet moment from (omega arith)
 
--- the first servers and the one behind them are quiet for no longer than both
+-- the first servers and the one after them are quiet for no longer than both
 pub quiet_on : (roster : List Listed) (now a b least i : ℕ) (p : List Watched) → least ≤ a → least ≤ b → First (IsQuietFor roster now a) i p → Here (IsQuietFor roster now b) i p → First (IsQuietFor roster now least) (i + 1) p
 quiet_on roster now a b least i p of_a of_b first here = first_more (IsQuietFor roster now least) i p (λ j w lt at. quiet_less roster now a least of_a w (first j w lt at)) (λ w at. quiet_less roster now b least of_b w (here w at))

@@ -114,7 +114,7 @@ most_probed = 256
 abbrev pub AreProbed : ℕ → List Listed → List Watched → Type 0
 AreProbed n roster p = (most_probed ≤ length p) ⊎ ((i : ℕ) (l : Listed) → i < n → slice_get roster i ≡ Some l → list_any (is_of l.server) p ≡ true)
 
--- those that the roster has no more at their end go, and others come behind, until all of the roster are there
+-- those that the roster has no more at their end go, and others come after, until all of the roster are there
 abbrev pub Renews : ℕ → List Listed → List Watched → List Watched → Type 0
 Renews now roster p q = ((fresh : List Watched) × (q ≡ filter (stands roster) p ++ fresh) × AreFresh now roster (filter (stands roster) p) fresh) × AreProbed (length roster) roster q
 

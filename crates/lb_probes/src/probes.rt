@@ -48,7 +48,7 @@ pub struct Due {
 }
 
 impl Probes {
-    /// No server is probed. It has room for 256; the one error is want of memory.
+    /// No server is probed. It has room for 256; the one error is lack of memory.
     pub fn made(alloc: Global) -> Result<Probes, AllocError>
         ensures { IfOk result (λ probes. probes ≡ record { version = None; watched = [] }) }
     {

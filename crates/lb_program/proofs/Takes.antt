@@ -9,7 +9,7 @@ use Rattle.std.specs.Io.BufRead.{DropsConsumable}
 use Rattle.lb_program.specs.Shown.{Takes, is_line_feed}
 use Rattle.lb_program.specs.declared.shown.Shown.TheVariants.{Piece, LineFeed}
 
--- what is shown up to a line feed, and what stands behind it
+-- what is shown up to a line feed, and what stands after it
 line_there : (xs shown : List ℕ) (len : ℕ) → StartsWith xs shown → len < length shown → shown ≡ take len shown ++ 10 ∷ drop (len + 1) shown → xs ≡ take len shown ++ 10 ∷ drop (len + 1) xs
 line_there xs shown len starts within is =
     let front = take len shown in

@@ -30,7 +30,7 @@ not_both false is is_not = absurd (cc)
 pub no_text : (bytes : List ℕ) → (IsUtf8 bytes → ⊥) → is_utf8 bytes ≡ false
 no_text bytes never = not_true (is_utf8 bytes) (λ text. never (IsUtf8-from_is_utf8 bytes text))
 
--- bytes behind a text are one where both are
+-- bytes after a text are one where both are
 behind_text : (front end : List ℕ) → IsUtf8 front → IsUtf8 (front ++ end) → IsUtf8 end
 behind_text front end text both =
     let cut = IsCharBoundary-from_take (front ++ end) (length front) both (omega (arith, length-append front end)) (subst IsUtf8 (sym (take_at front end (length front) refl)) text) in
@@ -49,7 +49,7 @@ ends_with xs n size =
     let none : drop (n + 1) xs ≡ [] = nil_from_length _ (omega (arith, size, length-drop (n + 1) xs)) in
     sym (take-append-drop n xs) ∙ ap (λ (ys : List ℕ). take n xs ++ ys) (drop_more xs n 0 (omega (arith, size)) ∙ ap (λ (ys : List ℕ). get_or xs n 0 ∷ ys) none)
 
--- a text is one with a carriage return behind it
+-- a text is one with a carriage return after it
 return_behind : (xs : List ℕ) → IsUtf8 xs → IsUtf8 (xs ++ 13 ∷ [])
 return_behind xs text = IsUtf8-append xs (13 ∷ []) text (subst IsUtf8 (encode_ascii 13 (omega arith)) (IsUtf8-encode 13 refl))
 
@@ -82,7 +82,7 @@ begins_by bytes (c ∷ cs) all is some = (c, encodes cs, first_true _ _ all, sym
 begins : (bytes : List ℕ) → IsUtf8 bytes → 0 < length bytes → Begins bytes
 begins bytes text some = begins_by bytes text.0 text.1.0 text.1.1 some
 
--- where bytes stop being text four bytes before their end or earlier, none behind them make them one
+-- where bytes stop being text four bytes before their end or earlier, none after them make them one
 longer_text : (bytes more : List ℕ) (n : ℕ) → IsValidUpTo bytes n → n + 4 ≤ length bytes → IsUtf8 (bytes ++ more) → ⊥
 longer_text bytes more n valid room text =
     let within : n ≤ length bytes = omega (arith, room) in

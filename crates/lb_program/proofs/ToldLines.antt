@@ -75,7 +75,7 @@ kind_step true hash a b same = same
 kind_step false true a b same = refl
 kind_step false false a b same = refl
 
--- bytes behind others make of a line what both make of it
+-- bytes after others make of a line what both make of it
 kind_of-append : (a b : List ℕ) → kind_of (a ++ b) ≡ kind_with (kind_of a) b
 kind_of-append [] b = refl
 kind_of-append (byte ∷ a) b = kind_step (byte == 32) (byte == 35) a b (kind_of-append a b)
@@ -115,7 +115,7 @@ strip_by : (front xs : List ℕ) (a b : Bool) → a ≡ b → (if a then front +
 strip_by front xs a true same = rw same refl
 strip_by front xs a false same = rw same refl
 
--- a carriage return at the end of bytes behind others
+-- a carriage return at the end of bytes after others
 strip-append : (front xs : List ℕ) → 0 < length xs → strip_carriage_return (front ++ xs) ≡ front ++ strip_carriage_return xs
 strip-append front xs some =
     let last : length (front ++ xs) - 1 ≡ length front + (length xs - 1) = omega (arith, length-append front xs) in

@@ -48,7 +48,7 @@ stop_status (Output error) = 3
 stop_status (CountFull full) = 3
 stop_status NoMemory = 3
 
--- a device failed, a count is full or memory was wanting: what ended the run is no line
+-- a device failed, a count is full or memory was lacking: what ended the run is no line
 abbrev pub IsFailure : Stop → Type 0
 IsFailure (BadLine number fault) = ⊥
 IsFailure (Refused number fault) = ⊥

@@ -65,7 +65,7 @@ told_from n kind long [] = []
 told_from n kind long (x ∷ []) = told_read n kind long x
 told_from n kind long (x ∷ y ∷ more) = told_read n kind long (strip_carriage_return x) ++ told_from (n + 1) Blank false (y ∷ more)
 
--- what is left to read, behind so many lines: of the line in hand and of the bytes that remain
+-- what is left to read, after so many lines: of the line in hand and of the bytes that remain
 abbrev pub left_of : ℕ → Line → List ℕ → List (ℕ × Reading)
 left_of ended line rest = told_from (ended + 1) line.kind line.is_long (slice_split is_line_feed (line.bytes.items ++ rest))
 
@@ -81,7 +81,7 @@ IsGoing Nothing = ⊤
 IsGoing (Event event) = ⊤
 IsGoing End = ⊥
 
--- a fault is what a line reads as, unless memory was wanting
+-- a fault is what a line reads as, unless memory was lacking
 abbrev pub IsFaultOf : Result core.Event CommandFault → CommandFault → Type 0
 IsFaultOf reading fault = (fault.kind ≡ kinds.NoMemory) ⊎ (reading ≡ Err fault)
 
@@ -107,7 +107,7 @@ Judges n told (Err (CountFull full)) = ⊥
 Judges n told (Err NoMemory) = ⊥
 
 -- why a turn stops: by a line; where it read from the input, of which no byte was at hand, by a failure of that; or where so many turns
--- were taken that no more can be counted; or for want of memory
+-- were taken that no more can be counted; or for lack of memory
 abbrev pub MayStop : ℕ → List ℕ → Stop → Type 0
 MayStop turns at_hand (BadLine number fault) = ⊤
 MayStop turns at_hand (NotUtf8 number) = ⊤
@@ -117,7 +117,7 @@ MayStop turns at_hand (Output error) = ⊥
 MayStop turns at_hand (CountFull full) = turns ≡ 2 ^ 64 - 1
 MayStop turns at_hand NoMemory = ⊤
 
--- behind so many lines, from a line in hand and the bytes that remain, a turn gives what it gives, and the rest is left behind
+-- after so many lines, from a line in hand and the bytes that remain, a turn gives what it gives, and the rest is left after
 -- so many lines; at the end nothing is left
 abbrev pub TurnsTo : ℕ → Line → List ℕ → Turn → ℕ → Line → Option (List ℕ) → Type 0
 TurnsTo ended old bytes End new_ended new left = left_of ended old bytes ≡ []

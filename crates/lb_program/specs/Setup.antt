@@ -47,7 +47,7 @@ told_lines text = told_from_number 1 (lines text)
 abbrev pub SetupEnd : Type 0
 SetupEnd = Result (Stated × Plain) Stop
 
--- a line at fault stops the reading so that this holds; it may stop for want of memory anywhere, and for nothing else
+-- a line at fault stops the reading so that this holds; it may stop for lack of memory anywhere, and for nothing else
 abbrev pub StopsBy : Stop → (SetupEnd → Type 0) → Type 0
 StopsBy (BadLine number fault) Holds = Holds (Err (BadLine number fault))
 StopsBy (Refused number fault) Holds = Holds (Err (Refused number fault))
@@ -71,7 +71,7 @@ abbrev pub ByTest : Bool → Type 0 → Type 0 → Type 0
 ByTest true one other = one
 ByTest false one other = other
 
--- a line begins as one that listens, behind eight of them; a line that is too long is not looked into
+-- a line begins as one that listens, after eight of them; a line that is too long is not looked into
 abbrev pub is_ninth : ℕ → List ℕ → Bool
 is_ninth listeners line = nat_le 8 listeners && nat_le (length line) max_line && begins_listen line
 
@@ -98,7 +98,7 @@ abbrev pub ByEdit : Command → ℕ → Others → Stated → Plain → SetupEnd
 ByEdit command n others stated old end = (answer : Answer) × (mid : Plain) × Answers old (events.Edit 0 command) answer mid
     × ByRefusal (refusal_of answer) n others stated mid end
 
--- what a line does that is read so, before others: a bad line ends the reading, a listener goes behind those before it, and the last line
+-- what a line does that is read so, before others: a bad line ends the reading, a listener goes after those before it, and the last line
 -- that states the log's length counts
 abbrev pub ByLine : Result SetupLine CommandFault → ℕ → Others → Stated → Plain → SetupEnd → Type 0
 ByLine (Err fault) n others stated old end = end ≡ Err (BadLine n fault)
@@ -106,7 +106,7 @@ ByLine (Ok (setups.Listen listener)) n others stated old end = others (record st
 ByLine (Ok (setups.Log calls)) n others stated old end = others (record stated { log = calls }) old end
 ByLine (Ok (setups.Edit command)) n others stated old end = ByEdit command n others stated old end
 
--- memory was wanting at a line
+-- memory was lacking at a line
 abbrev pub WantsMemory : ℕ → SetupEnd → Type 0
 WantsMemory n end = (fault : CommandFault) × (fault.kind ≡ kinds.NoMemory) × (end ≡ Err (BadLine n fault))
 

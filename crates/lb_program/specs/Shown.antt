@@ -15,7 +15,7 @@ abbrev pub FirstFeedAt : List ℕ → ℕ → Type 0
 FirstFeedAt bytes place = (place < length bytes) × (bytes ≡ take place bytes ++ 10 ∷ drop (place + 1) bytes) × All (λ byte. is_line_feed byte ≡ false) (take place bytes)
 
 -- of the bytes that remained a piece without a line feed went to the line, and the rest remains: all, or what stands
--- behind a line feed, or nothing
+-- after a line feed, or nothing
 abbrev pub Takes : List ℕ → List ℕ → Shown → List ℕ → Option (List ℕ) → Type 0
 Takes old bytes Piece new left = (piece : List ℕ) × (rest : List ℕ) × (left ≡ Some rest) × (new ≡ old ++ piece) × (bytes ≡ piece ++ rest) × All (λ byte. is_line_feed byte ≡ false) piece
 Takes old bytes LineFeed new left = (piece : List ℕ) × (rest : List ℕ) × (left ≡ Some rest) × (new ≡ old ++ piece) × (bytes ≡ piece ++ 10 ∷ rest) × All (λ byte. is_line_feed byte ≡ false) piece
@@ -25,7 +25,7 @@ Takes old bytes End new left = (left ≡ Some []) × (new ≡ old) × (bytes ≡
 abbrev pub TakesFrom : Option (List ℕ) → List ℕ → Result Shown Stop → List ℕ → Option (List ℕ) → Type 0
 TakesFrom remained old result new left = IfSome remained (λ bytes. IfOk result (λ shown. Takes old bytes shown new left))
 
--- reading stops by a failure of the input, where no byte of it was at hand, or for want of memory
+-- reading stops by a failure of the input, where no byte of it was at hand, or for lack of memory
 abbrev pub IsOfReading : List ℕ → Stop → Type 0
 IsOfReading at_hand (stops.Input error) = at_hand ≡ []
 IsOfReading at_hand stops.NoMemory = ⊤

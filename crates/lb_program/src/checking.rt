@@ -16,7 +16,7 @@ use std::io::{Read, Write};
 /// Checks a setup file: its commands are applied to an empty balancer, one after the other, and the line that shows how much there
 /// is of each part is written. Lines that listen and lines that state the log's length are read too. Gives the
 /// exit status: 0; 1 after a line that does not read, or whose edit is refused; 3 where the output fails or memory is
-/// wanting. What ended the check early is told in one line on `faults`.
+/// lacking. What ended the check early is told in one line on `faults`.
 pub fn check<A: AllocGlobal, W: Write, F: Write>(
     rt: &A,
     text: &str,
@@ -64,7 +64,7 @@ fn check_lines<W: Write>(alloc: Global, text: &str, output: &mut W) -> Result<()
     as_stop(write_line(output, line.as_bytes()))
 }
 
-/// The line that shows how much a balancer has of each part, with its line feed. The one error is want of memory.
+/// The line that shows how much a balancer has of each part, with its line feed. The one error is lack of memory.
 fn shown_line(alloc: Global, balancer: &mut Balancer) -> Result<String, AllocError>
     ensures { IfOk result (λ line. ShowsLine balancer.old (string_bytes line)) }
 {

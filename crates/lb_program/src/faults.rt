@@ -35,7 +35,7 @@ pub enum Stop {
     Output(io::Error),
     /// A count that can't go on.
     CountFull(FullCount),
-    /// Want of memory.
+    /// Lack of memory.
     NoMemory,
 }
 
@@ -136,7 +136,7 @@ pub fn closed_line(count: u64) -> ArrayVec<u8, MAX_TEXT>
     line
 }
 
-/// Puts a text behind a line.
+/// Puts a text after a line.
 fn put(line: &mut ArrayVec<u8, MAX_TEXT>, text: &str)
     requires { array_vec_len line.old + length text.now ≤ 128 }
     ensures items { line.new.items ≡ line.old.items ++ text.now }
@@ -148,7 +148,7 @@ fn put(line: &mut ArrayVec<u8, MAX_TEXT>, text: &str)
     }
 }
 
-/// Puts a number in decimal behind a line.
+/// Puts a number in decimal after a line.
 fn put_number(line: &mut ArrayVec<u8, MAX_TEXT>, number: u64)
     requires { array_vec_len line.old + 20 ≤ 128 }
     ensures items { line.new.items ≡ line.old.items ++ decimal number }

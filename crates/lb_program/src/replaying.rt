@@ -21,8 +21,8 @@ use std::alloc::{AllocError, Global};
 use std::io::{Read, Write};
 
 /// Replays the lines of an input over one balancer that begins empty: each event is one step of it, whose answer is
-/// written as a line. Gives the exit status: 0 at the end of the input; 1 after a line that does not read; 3 behind a line that is not
-/// UTF-8, and where the input or the output fails or memory is wanting. What ended the replay early is told in one line on `faults`.
+/// written as a line. Gives the exit status: 0 at the end of the input; 1 after a line that does not read; 3 after a line that is not
+/// UTF-8, and where the input or the output fails or memory is lacking. What ended the replay early is told in one line on `faults`.
 ///
 /// What was answered is written out before more input is waited for, and before this returns.
 pub fn replay<A: AllocGlobal, R: Read + Drop, W: Write, F: Write>(
@@ -73,7 +73,7 @@ struct Player {
 }
 
 impl Player {
-    /// One that begins. The one error is want of memory.
+    /// One that begins. The one error is lack of memory.
     fn new(alloc: Global) -> Result<Player, AllocError>
         ensures { IfOk result (λ player. (player.balancer ≡ empty) × (player.held.items ≡ [])) }
     {
@@ -139,7 +139,7 @@ impl Player {
         lines.turn(alloc)
     }
 
-    /// Steps the balancer, and holds the answer's line. The one error is want of memory; then nothing more is held.
+    /// Steps the balancer, and holds the answer's line. The one error is lack of memory; then nothing more is held.
     fn answer(&mut self, alloc: Global, event: Event) -> Result<(), AllocError>
         ensures answered { OnOk result ((answer : Answer) × Answers self.old.balancer event answer self.new.balancer × (self.new.held.items ≡ self.old.held.items ++ (line_of answer ++ codes "\n"))) }
         ensures same { OnErr result (self.new.held.items ≡ self.old.held.items) }

@@ -68,7 +68,7 @@ impl Setup {
 
 /// Reads a setup file: its commands are applied to an empty balancer, one after the other, at the moment 0. Lines count from 1; blank
 /// ones and those whose first word begins with `#` are skipped. What stops it is a line that does not read, one whose edit is refused, or
-/// want of memory.
+/// lack of memory.
 pub fn read_setup(alloc: Global, text: &str) -> Result<(Setup, Balancer), Stop>
     ensures { AppliesAll text.now result }
 {

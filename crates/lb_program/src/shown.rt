@@ -19,7 +19,7 @@ pub(crate) enum Shown {
     End,
 }
 
-/// Moves the rest of a line, as far as the input shows it, behind these bytes. After an error nothing is moved. Where bytes
+/// Moves the rest of a line, as far as the input shows it, after these bytes. After an error nothing is moved. Where bytes
 /// of the input are at hand, no more are read.
 pub(crate) fn take_shown<R: Read>(
     input: &mut BufReader<R>,

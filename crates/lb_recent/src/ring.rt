@@ -22,7 +22,7 @@ struct Kept {
 }
 
 impl Ring {
-    /// A ring with room for so many records. The one error is want of memory.
+    /// A ring with room for so many records. The one error is lack of memory.
     fn made(alloc: Global, room: u32, numbers: Arc<AtomicU64>) -> Result<Ring, AllocError> {
         let mut places = Vec::new(alloc);
         places.resize(room as usize, None)?;
@@ -78,7 +78,7 @@ pub struct Rings {
 }
 
 impl Rings {
-    /// So many rings, which keep so many records together. Any one of them has room for all. The one error is want of memory.
+    /// So many rings, which keep so many records together. Any one of them has room for all. The one error is lack of memory.
     pub fn made(alloc: Global, count: usize, room: u32) -> Result<Rings, AllocError> {
         let numbers = Arc::new(alloc, AtomicU64::new(0))?;
         let mut rings = Vec::with_capacity(alloc, count)?;
@@ -107,7 +107,7 @@ impl Rings {
     }
 
     /// The last records that a filter takes, the newest first and at most so many, with their numbers. A lock is held for one record
-    /// at a time. The one error is want of memory.
+    /// at a time. The one error is lack of memory.
     pub fn newest<R: Wait, F: Fn(&Record) -> bool>(
         &self,
         rt: &R,

@@ -71,7 +71,7 @@ impl<R: Wait> Stage<'_, R> {
         Ok(come?)
     }
 
-    /// A message that comes on a connection behind its length, `CONNECTION OCTETS`.
+    /// A message that comes on a connection after its length, `CONNECTION OCTETS`.
     fn message(&mut self, words: &mut Words<'_>) -> Result<(), Fault> {
         let connection = words.number()?;
         let message = self.message_of(words)?;

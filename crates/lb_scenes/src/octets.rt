@@ -41,7 +41,7 @@ pub(crate) fn message_of(
     Ok(Octets::from_vec(octets))
 }
 
-/// Puts the octets of one word behind others.
+/// Puts the octets of one word after others.
 fn add(
     alloc: Global,
     octets: &mut Vec<u8>,

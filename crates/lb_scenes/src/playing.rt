@@ -112,7 +112,7 @@ fn turn_of_clock<R: Wait, D: Datagrams, P: Posts, T: Taker, O: Outside>(
     stage.told.room()
 }
 
-/// How often a line is played, and the line: not at all where it is blank or a comment; so often as it says behind `times N`.
+/// How often a line is played, and the line: not at all where it is blank or a comment; so often as it says after `times N`.
 fn times_of(number: usize, line: &str) -> Result<(u32, &str), Fault> {
     if line.trim().is_empty() || line.starts_with("#") {
         return Ok((0, line));

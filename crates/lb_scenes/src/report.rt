@@ -8,7 +8,7 @@ use lb_loops::{DeviceFault, Job, Line, Outcome, Report, Sending, Source, Way, Wh
 use std::collections::VecDeque;
 use std::sync::Wait;
 
-/// Tells a report: a line with the turn's name, its device fault and whether a gate held, and behind it one for each line of the report.
+/// Tells a report: a line with the turn's name, its device fault and whether a gate held, and after it one for each line of the report.
 /// The lines, whose room the loop takes back.
 pub(crate) fn tell_report<R: Wait>(
     stage: &mut Stage<'_, R>,
@@ -149,7 +149,7 @@ fn sending_word(sending: Sending) -> &'static str {
     }
 }
 
-/// The device fault of a report, and whether a gate held, as words behind its name.
+/// The device fault of a report, and whether a gate held, as words after its name.
 fn marks(device: Option<DeviceFault>, is_held: bool) -> &'static str {
     match (device, is_held) {
         (None, false) => "",

@@ -32,7 +32,7 @@ impl Setting {
         Ok(setting)
     }
 
-    /// Reads one line behind its first word.
+    /// Reads one line after its first word.
     fn set(&mut self, words: &mut Words<'_>) -> Result<(), Fault> {
         let kind = words.word()?;
         let call = words.word()?;

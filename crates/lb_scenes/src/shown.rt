@@ -105,7 +105,7 @@ impl Wire {
     }
 }
 
-/// Tells the datagrams behind so many; how many there are.
+/// Tells the datagrams after so many; how many there are.
 fn tell_packets(packets: &[Datagram], shown: usize, told: &mut Told) -> usize {
     for packet in packets.get(shown..).unwrap_or(&[]) {
         tell_socket(packet.socket, told);
@@ -130,7 +130,7 @@ fn tell_socket(socket: Socket, told: &mut Told) {
     }
 }
 
-/// Tells what was handed to requests behind so many; how many there are.
+/// Tells what was handed to requests after so many; how many there are.
 fn tell_posts(handed: &[(Origin, Octets)], shown: usize, told: &mut Told) -> usize {
     for (origin, bytes) in handed.get(shown..).unwrap_or(&[]) {
         told.number("posted ", origin.slot);

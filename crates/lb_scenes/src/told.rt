@@ -38,7 +38,7 @@ impl Told {
         self.text.as_bytes()
     }
 
-    /// Puts a text behind what was told.
+    /// Puts a text after what was told.
     pub(crate) fn put(&mut self, text: &str) {
         if let Err(refused) = self.text.push_str(text) {
             self.room = Err(Fault::from(refused));

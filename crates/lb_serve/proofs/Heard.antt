@@ -9,7 +9,7 @@ use Rattle.lb_serve.specs.declared.operator.Said.TheVariants.{Line, Lines, Quit,
 use Rattle.lb_serve.specs.Operator.{BySaid, IsHeard, IsLine, Says, Told, Wants, fault_text}
 use Rattle.lb_words.specs.Word.{console_word}
 
--- a want of memory may be told of any line
+-- a lack of memory may be told of any line
 wanting_said : (line : List ℕ) (said : Said) (old new : Told) (r : Result Command CommandFault) → Wants said old new → BySaid line r said old new
 wanting_said line said old new (Ok command) wants = inr wants
 wanting_said line said old new (Err fault) wants = inr wants

@@ -27,7 +27,7 @@ appends_both (Some a) None c xs ys first then = absurd first
 appends_both (Some a) (Some b) None xs ys first then = absurd then
 appends_both (Some a) (Some b) (Some c) xs ys first then = then ∙ ap (λ (zs : List ℕ). zs ++ ys) first ∙ append_assoc a xs ys
 
--- a front of what is written behind a piece is a front of both
+-- a front of what is written after a piece is a front of both
 pub front_behind : (a b c : Option (List ℕ)) (xs ys : List ℕ) → Appends a b xs → WritesFront b c ys → WritesFront a c (xs ++ ys)
 front_behind a b c xs ys first (rest, (front, is, then)) =
     (rest, (xs ++ front, ap (λ (zs : List ℕ). xs ++ zs) is ∙ sym (append_assoc xs front rest), appends_both a b c xs front first then))
@@ -90,7 +90,7 @@ tells_nothing first then says = record {
 pub tells_text : (first then mid new : Option (List ℕ)) (text : List ℕ) (told : Result (Unit {0}) Error) → Says first then → Says then mid → Tells mid new text told → TellsBehind first new text told
 tells_text first then mid new text told warned explained tells = record { first = then; then = mid; warned = warned; explained = explained; tells = tells }
 
--- the last line was written, or a front of it, behind the first
+-- the last line was written, or a front of it, after the first
 pub served_closed : (opening : Snapshot) (limit count : ℕ) (a b c : Option (List ℕ)) (written : Result (Unit {0}) Error) → Closes opening limit count → Appends a b ready_text → WritesFront b c (closed_text count) → OnOk written (Appends b c (closed_text count)) → Served opening limit a c (output_end written)
 served_closed opening limit count a b c (Ok done) closes ready front whole = (count, closes, appends_both a b c ready_text (closed_text count) ready whole)
 served_closed opening limit count a b c (Err error) closes ready front whole = (count, front_behind a b c ready_text (closed_text count) ready front)

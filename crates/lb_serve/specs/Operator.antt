@@ -46,7 +46,7 @@ pub record Told : Type 0 where
 abbrev pub told : ℕ → List (Event × Answer) → Told
 told answered pairs = record { answered = answered; pairs = pairs }
 
--- a line is told a fault for want of memory, and nothing was done
+-- a line is told a fault for lack of memory, and nothing was done
 pub record Wants (said : Said) (old new : Told) : Type 0 where
   pub fault : CommandFault
   pub kind : fault.kind ≡ kinds.NoMemory
@@ -83,7 +83,7 @@ abbrev pub Took : Command → Said → Told → Told → Type 0
 Took command said old new = Answers command said old new ⊎ (Refuses said old new ⊎ Wants said old new)
 
 -- what is said to a line that is no command: it is answered as a word of the console, if it begins with one, or else by its fault;
--- or it is told a want of memory
+-- or it is told a lack of memory
 abbrev pub IsHeard : List ℕ → CommandFault → Said → Type 0
 IsHeard line fault (Line text) =
     ((console_word line ≡ None) × IsLine (Line text) (fault_text fault)) ⊎ ((own : CommandFault) × (own.kind ≡ kinds.NoMemory) × IsLine (Line text) (fault_text own))

@@ -275,7 +275,7 @@ fn next_in(queue: &mut Queue, connections: &Connections) -> Option<u64> {
 }
 
 /// Whether a read may have left something, of which no event tells: it filled the buffer, or the
-/// end stands behind it, or it was broken off.
+/// end stands after it, or it was broken off.
 fn may_have_more(read: &io::Result<Option<Octets>>, is_read_closed: bool) -> bool {
     match read {
         Ok(Some(octets)) => is_read_closed || octets.as_slice().len() == PIECE,

@@ -177,7 +177,7 @@ impl Clients {
     }
 
     /// Notes why no client was taken in at a place: none waits there, one left while it waited, or
-    /// descriptors were wanting. Another error is handed back.
+    /// descriptors were lacking. Another error is handed back.
     fn pass_over(&mut self, place: usize, error: io::Error) -> io::Result<()> {
         match error.kind() {
             ErrorKind::WouldBlock => self.dry(place),
@@ -201,7 +201,7 @@ impl Clients {
     }
 }
 
-/// Whether an error says that descriptors or room for one more socket were wanting, and not that a
+/// Whether an error says that descriptors or room for one more socket were lacking, and not that a
 /// device failed.
 fn is_want(error: &io::Error) -> bool {
     match error.raw_os_error() {

@@ -25,7 +25,7 @@ pub(crate) struct Connection {
     /// The address of the client that opened it; none if it goes to a server.
     client: Option<Addr>,
     pub(crate) stream: TcpStream,
-    /// Whether an event said that nothing comes behind what waits to be read.
+    /// Whether an event said that nothing comes after what waits to be read.
     pub(crate) is_read_closed: bool,
     /// Whether a read or a write said that the peer ended it, or that it failed.
     is_over: bool,
@@ -136,7 +136,7 @@ pub(crate) struct Connections {
 }
 
 impl Connections {
-    /// None. Room for all is taken; the one error is want of memory.
+    /// None. Room for all is taken; the one error is lack of memory.
     pub(crate) fn made(alloc: Global) -> Result<Connections, AllocError> {
         let mut slots = Vec::with_capacity(alloc, MAX_CONNECTIONS)?;
         for _ in 0..MAX_CONNECTIONS {

@@ -39,7 +39,7 @@ pub struct UdpSockets<'a, R: Net + Clock> {
 }
 
 impl<'a, R: Net + Clock> UdpSockets<'a, R> {
-    /// Sockets that read these listeners, and send by them. One loop alone is to read them. The errors are the system's, and want of memory.
+    /// Sockets that read these listeners, and send by them. One loop alone is to read them. The errors are the system's, and lack of memory.
     pub fn reading(
         rt: &'a R,
         alloc: Global,
@@ -53,7 +53,7 @@ impl<'a, R: Net + Clock> UdpSockets<'a, R> {
         UdpSockets::made(rt, alloc, listeners, readiness)
     }
 
-    /// Sockets that send by these listeners, and read the sockets of servers alone. The errors are the system's, and want of memory.
+    /// Sockets that send by these listeners, and read the sockets of servers alone. The errors are the system's, and lack of memory.
     pub fn sending(
         rt: &'a R,
         alloc: Global,
@@ -99,7 +99,7 @@ impl<'a, R: Net + Clock> UdpSockets<'a, R> {
         self.failures
     }
 
-    /// The place of a slot: behind those of the listeners.
+    /// The place of a slot: after those of the listeners.
     fn place_of(&self, slot: usize) -> usize {
         self.listeners.count().wrapping_add(slot)
     }

@@ -24,7 +24,7 @@ pub(crate) struct Intake {
 }
 
 impl Intake {
-    /// One that has read nothing. The one error is want of memory for the buffer.
+    /// One that has read nothing. The one error is lack of memory for the buffer.
     pub(crate) fn made(alloc: Global) -> Result<Intake, AllocError> {
         Ok(Intake {
             alloc,

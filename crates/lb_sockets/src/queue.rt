@@ -17,7 +17,7 @@ pub(crate) struct Queue {
 }
 
 impl Queue {
-    /// None waits. The one error is want of memory.
+    /// None waits. The one error is lack of memory.
     pub(crate) fn made(alloc: Global) -> Result<Queue, AllocError> {
         Ok(Queue {
             places: VecDeque::with_capacity(alloc, MAX_CONNECTIONS)?,
@@ -30,7 +30,7 @@ impl Queue {
         self.places.len()
     }
 
-    /// Puts a place behind the others, where it does not wait yet.
+    /// Puts a place after the others, where it does not wait yet.
     pub(crate) fn put(&mut self, place: usize) {
         if self.places.len() < MAX_CONNECTIONS && set(&mut self.waits, place) {
             self.places.push_back_reserved(place);

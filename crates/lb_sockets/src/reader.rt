@@ -24,7 +24,7 @@ pub(crate) struct Reader {
 }
 
 impl Reader {
-    /// One that has given none. The one error is want of memory for the buffer.
+    /// One that has given none. The one error is lack of memory for the buffer.
     pub(crate) fn made(alloc: Global) -> Result<Reader, AllocError>
         ensures { IfOk result (λ r. r.given.items ≡ []) }
     {

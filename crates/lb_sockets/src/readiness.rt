@@ -28,7 +28,7 @@ pub(crate) struct Readiness {
 }
 
 impl Readiness {
-    /// Of no sockets. The errors are the system's, and want of memory.
+    /// Of no sockets. The errors are the system's, and lack of memory.
     pub(crate) fn made<R: Net>(rt: &R, alloc: Global) -> io::Result<Readiness> {
         Ok(Readiness {
             watch: Watch::made(rt, alloc)?,
@@ -43,7 +43,7 @@ impl Readiness {
         self.ready.reserve(1)
     }
 
-    /// Has a socket told at a place; what came to it before is told too. The errors are the system's, and want of memory.
+    /// Has a socket told at a place; what came to it before is told too. The errors are the system's, and lack of memory.
     pub(crate) fn add(&mut self, socket: &UdpSocket, place: usize) -> io::Result<()> {
         while_short(&mut self.ready, place)?;
         self.watch.add(socket, place, Interest::READABLE)
@@ -54,7 +54,7 @@ impl Readiness {
         self.ready.len()
     }
 
-    /// The next place that may be read: the same in a row, and then the one behind it.
+    /// The next place that may be read: the same in a row, and then the one after it.
     pub(crate) fn next(&mut self) -> Option<usize> {
         let place = first_from(&self.ready, self.next)?;
         let given = if place == self.next { self.given } else { 0 };

@@ -30,7 +30,7 @@ impl Model for Taken {
 }
 
 impl Taken {
-    /// None, with room for all. The one error is want of memory.
+    /// None, with room for all. The one error is lack of memory.
     fn made(alloc: Global) -> Result<Taken, AllocError> {
         Ok(Taken {
             octets: Vec::with_capacity(alloc, MOST)?,
@@ -89,7 +89,7 @@ impl Model for Told {
 }
 
 impl Told {
-    /// Nothing yet. The one error is want of memory.
+    /// Nothing yet. The one error is lack of memory.
     pub(crate) fn made(alloc: Global) -> Result<Told, AllocError>
         ensures { IfOk result (λ told. told ≡ nothing) }
     {

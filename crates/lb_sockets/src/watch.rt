@@ -30,7 +30,7 @@ pub(crate) struct Watch {
 }
 
 impl Watch {
-    /// Of no sockets. The errors are the system's, and want of memory.
+    /// Of no sockets. The errors are the system's, and lack of memory.
     pub(crate) fn made<R: Net>(rt: &R, alloc: Global) -> io::Result<Watch> {
         Ok(Watch {
             poll: Poll::new(rt)?,

@@ -38,7 +38,7 @@ pub enum Mode<'a> {
     Replay,
 }
 
-/// What the words behind the program's name ask for: none where that is nothing that there is.
+/// What the words after the program's name ask for: none where that is nothing that there is.
 pub fn choose(words: &[String]) -> Option<Mode<'_>>
     ensures { Asks (texts_of words.now) result }
 {
@@ -50,7 +50,7 @@ pub fn choose(words: &[String]) -> Option<Mode<'_>>
     }
 }
 
-/// All that the program does, with the words behind its name, and gives the exit status: that of the check or the replay; 2 where the
+/// All that the program does, with the words after its name, and gives the exit status: that of the check or the replay; 2 where the
 /// words ask for nothing that there is, as they do where one is not UTF-8 (`InvalidData`); and 3 where they, or the file to check, can't
 /// be read.
 pub fn start<
@@ -88,7 +88,7 @@ fn without_words<F: Write>(error: io::Error, faults: &mut F) -> Ended
     }
 }
 
-/// Does what the words behind the program's name ask for.
+/// Does what the words after the program's name ask for.
 fn run<
     T: Files
         + Threads
@@ -166,7 +166,7 @@ fn read_whole<T: Files>(rt: &T, alloc: Global, file: &str) -> io::Result<String>
     io::read_to_string(alloc, File::open(rt, file)?)
 }
 
-/// The words behind the first, which is the program's own name.
+/// The words after the first, which is the program's own name.
 pub fn behind_first(mut words: Vec<String>) -> Vec<String>
     ensures { result.items ≡ drop 1 words.items }
 {

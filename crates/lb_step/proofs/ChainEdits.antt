@@ -111,7 +111,7 @@ seen_added twice lacking m ups chain place rule note =
     (choose m ups note (chain.next == 2 ^ 64) _ _ _ _ (refuse faults.NoMoreIds)
     (choose m ups note lacking _ _ _ _ (refuse faults.NoMemory) done)))))
 
--- a rule that is added behind the others
+-- a rule that is added after the others
 same_end : (m : ℕ) (place : Option ℕ) (rules : List Numbered) → place_or_end place (seen_rules m rules) ≡ place_or_end place rules
 same_end m None rules = length-map rules (seen_rule m)
 same_end m (Some place) rules = refl
@@ -140,7 +140,7 @@ seen_moved : SeenTwice → (lacking : Bool) (m : ℕ) (ups : Upstreams) (chain :
     edited m ups note (moved lacking (chain_of (plain_of m chain ups)) id place) ≡ edited m ups note (moved lacking chain id place)
 seen_moved twice lacking m ups chain id place note = rw (place_seen m id chain.rules) (seen_moved_at twice lacking m ups chain place note (place_of id chain.rules))
 
--- a refusal by the list of rules shows want of memory where the chain told of it
+-- a refusal by the list of rules shows lack of memory where the chain told of it
 pub same_mark : (A : Type 0) (fault : ChainFault) → marked (Refused (RulesFault fault)) ≡ lacks {A = A} (Err fault)
 same_mark A faults.NoSuchRule = refl
 same_mark A faults.BadPlace = refl
@@ -170,7 +170,7 @@ pub move_told : SeenTwice → (lacking : Bool) (m : ℕ) (ups : Upstreams) (old 
 move_told twice lacking m ups old id place done is =
     ap (edited m ups (λ _. RuleMoved id)) is ∙ sym (seen_moved twice lacking m ups old id place (λ _. RuleMoved id))
 
--- a refusal that is not for want of memory comes with and without it
+-- a refusal that is not for lack of memory comes with and without it
 unlock : {A : Type 0} (b : Bool) (chain : Rules) (fault : ChainFault) (x y : Rules × Result A ChainFault) (given : A) →
     lacks {A = A} (Err fault) ≡ false →
     (if b then (chain, Err fault) else x).1 ≡ Err faults.NoMemory → (x.1 ≡ Err faults.NoMemory → y.1 ≡ Ok given) → (if b then (chain, Err fault) else y).1 ≡ Ok given

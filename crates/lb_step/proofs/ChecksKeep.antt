@@ -105,7 +105,7 @@ detached_keeps checks t park new pool given done is =
 abbrev Above : ℕ → List Loaded → Type 0
 Above n ls = AllByRecursion (λ s. n < s.id.0) (map server_of ls)
 
--- servers stand by number, one of a greater number behind them too
+-- servers stand by number, one of a greater number after them too
 above_more : (n : ℕ) (ls : List Loaded) (l : Loaded) → Above n ls → n < l.server.id.0 → Above n (ls ++ l ∷ [])
 above_more n [] l all lt = (lt, tt)
 above_more n (x ∷ ls) l all lt = (all.0, above_more n ls l all.1 lt)
@@ -114,7 +114,7 @@ by_number_more : (ls : List Loaded) (l : Loaded) → AllByRecursion (λ x. x.ser
 by_number_more [] l below all = (tt, tt)
 by_number_more (x ∷ ls) l below all = (above_more x.server.id.0 ls l all.0 below.0, by_number_more ls l below.1 all.1)
 
--- a server and its check, behind the others
+-- a server and its check, after the others
 checked_more : (ls : List Loaded) (cs : List Check) (l : Loaded) (c : Check) → c.server ≡ l.server.id → c.health.up ≡ l.server.marked_up →
     IsChecked (map server_of ls) cs → IsChecked (map server_of (ls ++ l ∷ [])) (cs ++ c ∷ [])
 checked_more [] [] l c is mark all = (is, mark, tt)

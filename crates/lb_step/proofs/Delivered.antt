@@ -45,7 +45,7 @@ name_there splits octets q rest asks =
     let after = two_octets q.qtype.0 ++ two_octets q.qclass.0 in
     ap labels_of (asks.parts ∙ append_assoc (wire_of q.name) after rest) ∙ splits q.name (after ++ rest) asks.name.each
 
--- a message begins with its question behind the header
+-- a message begins with its question after the header
 asks_there : (octets : List ℕ) (m : Message) → Lays octets m → Asks (drop 12 octets) (question_of m) (behind m)
 asks_there octets m lays = record { name = lays.name; qtype = lays.qtype; qclass = lays.qclass; parts = ap (drop 12) lays.parts }
 
@@ -108,7 +108,7 @@ found_cache id caches cache is =
     let same : cache.id.0 ≡ id.0 = ap (λ (c : AttachedCache). c.id.0) (sym f.gives) ∙ eq_numbers f.x.id.0 id.0 f.passes in
     ap (λ (n : ℕ). record { 0 = n }) same
 
--- what keeps a reply where memory is wanting keeps it where it is not
+-- what keeps a reply where memory is lacking keeps it where it is not
 would_if : (b : Bool) (x y with_x with_y : List KeptReply × Kept) → (x.1 ≡ kept.NoMemory → with_x.1 ≡ kept.Yes) → (y.1 ≡ kept.NoMemory → with_y.1 ≡ kept.Yes) →
     (if b then x else y).1 ≡ kept.NoMemory → (if b then with_x else with_y).1 ≡ kept.Yes
 would_if true x y with_x with_y first second is = first is
@@ -197,7 +197,7 @@ delivered ups mid after server lane moment bytes own view waiting entry fits ans
     subst (λ (e : Option Entry). HeldAgainst (marked answer) ups place moment bytes view e answer after) taken
     (subst (λ (b : Bool). BelongsOrNot b (marked answer) ups place moment bytes view entry answer after) (sym (fitting ups server lane view waiting entry fits found is_fit fit taken)) (d.0, d.1, d.2, pair))
 
--- what is told of a reply where memory was wanting
+-- what is told of a reply where memory was lacking
 wanting_told : (ups : Upstreams) (moment : ℕ) (octets : List ℕ) (view : ReplyView) (ask : Option (CacheId × Key)) (mark : Bool) (told : Kept) (list : List KeptReply) → Keeps mark ups moment octets view ask told list → mark ≡ is_unkept told → mark ≡ true →
     WouldKeep ups moment octets view ask
 wanting_told ups moment octets view ask mark kept.NoMemory list keeps same is = would ups moment octets view ask list (subst (λ (b : Bool). Keeps b ups moment octets view ask kept.NoMemory list) is keeps)

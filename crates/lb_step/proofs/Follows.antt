@@ -1,5 +1,5 @@
 -- Edits of the chain and of the servers and pools: one that is refused leaves what it was given, and one that is carried out
--- is what it is where no memory is wanting.
+-- is what it is where no memory is lacking.
 use Rattle.std.proofs.Common.{◌≡◌, ℕ, ◌+◌, ◌^◌, ◌==◌, Bool, true, false, not, [], ◌∷◌, ◌++◌, length, Option, Some, None, Result, Ok, Err, nat_le, nat_lt, refl}
 use Rattle.std.specs.Prelude.{if◌then◌else◌, is_some, slice_get}
 use Rattle.std.specs.List.{filter, insert, list_any}
@@ -26,7 +26,7 @@ abbrev pub refuses : {A E : Type 0} → Result A E → Bool
 refuses (Ok x) = false
 refuses (Err fault) = true
 
--- an edit that gives x, and gives y where no memory is wanting
+-- an edit that gives x, and gives y where no memory is lacking
 pub record Follows {C A E : Type 0} (old : C) (x y : C × Result A E) : Type 0 where
   pub carried : refuses x.1 ≡ false → x ≡ y
   pub kept : refuses x.1 ≡ true → x.0 ≡ old

@@ -1,4 +1,4 @@
--- A query that was sent is forwarded as the definition says, and shows no want of memory.
+-- A query that was sent is forwarded as the definition says, and shows no lack of memory.
 use Rattle.std.proofs.Common.{◌≡◌, ℕ, false, List, Option, Some, None, Err, Ok, refl, sym, ◌∙◌, ap, subst}
 use Rattle.std.specs.Prelude.{IfSome}
 use Rattle.lb_name.specs.Name.{lower_name}

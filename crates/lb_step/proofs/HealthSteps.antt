@@ -184,7 +184,7 @@ expunged_turn : (server : ServerId) (told : Option Results) (ups : Upstreams) (n
 expunged_turn server told ups now name covered None known = quiet server told (shown ups) _ (Edit now (Expunge name covered)) _ known refl refl refl refl
 expunged_turn server told ups now name covered (Some pool) known = emptied_turn server told ups now name covered (cache_at ups.pools pool.0) known
 
--- the first that passes, of a list with one more behind it, of one that some are taken out of, and of one that is changed at a
+-- the first that passes, of a list with one more after it, of one that some are taken out of, and of one that is changed at a
 -- place
 find_last : {X : Type 0} (p : X → Bool) (xs : List X) (x : X) → AllByRecursion (λ y. p y ≡ false) xs → p x ≡ true → find p (xs ++ x ∷ []) ≡ Some x
 find_last p [] x none is = rw is refl

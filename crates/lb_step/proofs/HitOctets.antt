@@ -11,7 +11,7 @@ use Rattle.lb_wire.specs.declared.question.Question.{Question}
 use Rattle.lb_wire.specs.declared.query.QueryView.{QueryView}
 use Rattle.lb_step.specs.Look.{answering}
 
--- the question of a message, and what stands behind it
+-- the question of a message, and what stands after it
 abbrev pub question_of : Message → Question
 question_of m = record { name = m.name; qtype = m.qtype; qclass = m.qclass }
 

@@ -22,7 +22,7 @@ use Rattle.lb_step.specs.Edit.{Lacks, servers_told, upstream_edited, upstream_to
 use Rattle.lb_step.specs.Upstream.{Upstreams, added_checked, backends_of, on_backends}
 use Rattle.lb_step.proofs.ChainEdits.{false_true}
 
--- a refusal that is not for want of memory comes with and without it
+-- a refusal that is not for lack of memory comes with and without it
 unlock : {A : Type 0} (b : Bool) (park : Backends) (fault : ParkFault) (x y : Backends × Result A ParkFault) (given : A) →
     lacks {A = A} (Err fault) ≡ false →
     (if b then (park, Err fault) else x).1 ≡ Err faults.NoMemory → (x.1 ≡ Err faults.NoMemory → y.1 ≡ Ok given) → (if b then (park, Err fault) else y).1 ≡ Ok given

@@ -197,7 +197,7 @@ left_of {State} new answer done is = ap (λ (d : State × Answer). d.0) is
 pub told_of : {State : Type 0} (new : State) (answer : Answer) (done : State × Answer) → (new, answer) ≡ done → answer ≡ done.1
 told_of {State} new answer done is = ap (λ (d : State × Answer). d.1) is
 
--- a query that is refused met want of memory
+-- a query that is refused met lack of memory
 kept_walk : (mark : Bool) (p new : Plain) (asked : Asked) (bytes : List ℕ) (view : QueryView) (walked : Walked) (answer : Answer) →
     WalkedSteps mark p asked bytes view walked answer new → is_refused answer ≡ true → new ≡ p
 kept_walk true p new asked bytes view walked answer step is = left_of new answer _ step

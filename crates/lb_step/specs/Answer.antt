@@ -17,25 +17,25 @@ use Rattle.lb_step.specs.declared.answer.Note.TheVariants.{ServerUp, ServerDown}
 abbrev pub Leaves : {State : Type 0} → State → Answer → State × Answer → Type 0
 Leaves new answer done = (new, answer) ≡ done
 
--- whether a command was refused for want of memory
+-- whether a command was refused for lack of memory
 abbrev pub is_wanting : EditFault → Bool
 is_wanting (Rules chain_faults.NoMemory) = true
 is_wanting (Servers park_faults.NoMemory) = true
 is_wanting _ = false
 
--- whether a reply was not kept for want of memory
+-- whether a reply was not kept for lack of memory
 abbrev pub is_unkept : Kept → Bool
 is_unkept kept.NoMemory = true
 is_unkept _ = false
 
--- whether an answer shows that memory was wanting: the mark of its event
+-- whether an answer shows that memory was lacking: the mark of its event
 abbrev pub marked : Answer → Bool
 marked (NoMemory bytes) = true
 marked (Deliver origin bytes kept) = is_unkept kept
 marked (Refused fault) = is_wanting fault
 marked _ = false
 
--- whether an event was refused, or met want of memory
+-- whether an event was refused, or met lack of memory
 abbrev pub is_refused : Answer → Bool
 is_refused (Refused fault) = true
 is_refused (NoMemory bytes) = true

@@ -29,7 +29,7 @@ use Rattle.lb_step.specs.declared.answer.EditFault.TheVariants as faults
 use Rattle.lb_step.specs.Plain.{Plain, chain_of, with_chain, upstreams_of, with_upstreams}
 use Rattle.lb_step.specs.Upstream.{Upstreams, added_checked, attached_cache, backends_of, detached_cache, expunged_cache, on_backends, put_into, removed_checked, totals_of}
 
--- the place that a rule is added at: where none is stated, behind the others
+-- the place that a rule is added at: where none is stated, after the others
 abbrev pub place_or_end : Option ℕ → List Numbered → ℕ
 place_or_end None rules = length rules
 place_or_end (Some place) rules = place
@@ -124,7 +124,7 @@ expunged_from ups covered (Some pool) = expunged_of ups covered (cache_at ups.po
 abbrev pub server_by : Upstreams → List ℕ → Option ServerId
 server_by ups name = server_named (backends_of ups).servers name
 
--- what a command leaves and answers, where memory is wanting or not
+-- what a command leaves and answers, where memory is lacking or not
 abbrev pub edit_of : Bool → Plain → Command → Plain × Answer
 edit_of mark plain (RuleAdd place rule) = rule_added mark plain place (rule_by (pool_named plain.pools) rule)
 edit_of mark plain (RuleRemove id) = rules_edited (λ _. notes.RuleRemoved id) plain (removed (chain_of plain) id)
@@ -140,15 +140,15 @@ edit_of mark plain (Expunge name covered) = upstream_changed plain (expunged_fro
 edit_of mark plain Show = (plain, Edited (notes.Shown (totals_of (length plain.rules) (upstreams_of plain))))
 edit_of mark plain (SetTimeout timeout) = (record plain { timeout = timeout }, Edited (notes.TimeoutSet timeout))
 
--- the command is carried out where no memory is wanting
+-- the command is carried out where no memory is lacking
 abbrev pub Succeeds : Plain → Command → Type 0
 Succeeds plain command = (note : Note) × ((edit_of false plain command).1 ≡ Edited note)
 
--- an edit of what stands upstream is carried out where no memory is wanting
+-- an edit of what stands upstream is carried out where no memory is lacking
 abbrev pub Lacks : (Bool → Upstreams × Answer) → Type 0
 Lacks edit = (note : Note) × ((edit false).1 ≡ Edited note)
 
--- the commands at which memory may be wanting: an added or moved rule, an added server, an added pool and an attached cache that
+-- the commands at which memory may be lacking: an added or moved rule, an added server, an added pool and an attached cache that
 -- no other refusal meets
 abbrev pub MayLackAt : Plain → Command → Type 0
 MayLackAt plain (RuleAdd place rule) = Succeeds plain (RuleAdd place rule)

@@ -58,7 +58,7 @@ abbrev pub asked_by : Upstreams → QueryView → Walked → Option PoolId → O
 asked_by ups view walked None = None
 asked_by ups view walked (Some pool) = cache_asked ups view (to_pool walked pool)
 
--- the rule that ended a walk, whatever its verdict, and the cache that was asked; nothing where memory was wanting
+-- the rule that ended a walk, whatever its verdict, and the cache that was asked; nothing where memory was lacking
 abbrev pub walk_noted : Bool → Upstreams → QueryView → Walked → Noted
 walk_noted true ups view walked = no_note
 walk_noted false ups view walked = note walked.rule (asked_by ups view walked (pool_asked walked.rule walked.verdict)) None

@@ -95,14 +95,14 @@ HeldAgainst lacking ups place moment bytes view None answer new = Leaves new ans
 HeldAgainst lacking ups place moment bytes view (Some entry) answer new =
     BelongsOrNot (belongs view entry.name entry.qtype entry.qclass) lacking ups place moment bytes view entry answer new
 
--- a reply from a server by a lane, whose bytes read so; memory may be wanting to keep it
+-- a reply from a server by a lane, whose bytes read so; memory may be lacking to keep it
 abbrev pub ReplySteps : Bool → Upstreams → ServerId → Lane → ℕ → List ℕ → Result ReplyView ReplyFault → Answer → Upstreams → Type 0
 ReplySteps lacking ups server lane moment bytes (Err reply_faults.Short) answer new = Leaves new answer (ups, Ignored ignores.Short)
 ReplySteps lacking ups server lane moment bytes (Err reply_faults.NotReply) answer new = Leaves new answer (ups, Ignored ignores.NotReply)
 ReplySteps lacking ups server lane moment bytes (Ok view) answer new =
     HeldAgainst lacking ups (at_place server lane view.id) moment bytes view (entry_at ups.outstanding (at_place server lane view.id)) answer new
 
--- a reply at which memory may be wanting: it belongs to a query that waits, and would be kept
+-- a reply at which memory may be lacking: it belongs to a query that waits, and would be kept
 pub record MayKeep (ups : Upstreams) (server : ServerId) (lane : Lane) (moment : ℕ) (bytes : List ℕ) : Type 0 where
   pub view : ReplyView
   pub reads : ReadsReply bytes (Ok view)

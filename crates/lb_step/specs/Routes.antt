@@ -124,14 +124,14 @@ carried_out routes (CacheAttach name max shards max_ttl skips) = with_attached r
 carried_out routes (CacheDetach name) = with_detached routes (route_named routes.pools name)
 carried_out routes _ = routes
 
--- a query that was walked through the rules, its passes counted; or one that was not walked, or met want of memory
+-- a query that was walked through the rules, its passes counted; or one that was not walked, or met lack of memory
 abbrev pub passed_unless : Bool → Routes → Asked → QueryView → Routes
 passed_unless true routes asked view = routes
 passed_unless false routes asked view =
     record routes { rules = counted (walk_of routes.rules view asked.origin.source asked.kind asked.moment).passes asked.origin.source asked.moment routes.rules }
 
 -- the routes that an event leaves at its moment, by what its octets read as and its answer: a query that reached the walk
--- and met no want of memory is counted, and a command that was answered Edited is carried out
+-- and met no lack of memory is counted, and a command that was answered Edited is carried out
 abbrev pub left_by : Routes → Event → Reading → Answer → Routes
 left_by routes (Query now origin kind word bytes) (OfQuery (Ok m)) answer =
     passed_unless (is_transfer m.qtype.0 || marked answer) routes (record { moment = routes.moment; origin = origin; kind = kind; word = word }) (view_of m)

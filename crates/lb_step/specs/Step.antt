@@ -22,7 +22,7 @@ use Rattle.lb_step.specs.Routes.{routes_of, routes_after}
 abbrev pub asked_at : ℕ → Origin → Kind → ℕ → Asked
 asked_at moment origin kind word = record { moment = moment; origin = origin; kind = kind; word = word }
 
--- a step at the moment of its event; the answer shows where memory was wanting
+-- a step at the moment of its event; the answer shows where memory was lacking
 abbrev pub StepsAt : Plain → Event → Reading → Answer → Plain → Type 0
 StepsAt plain (Query now origin kind word bytes) (OfQuery reading) answer new = QuerySteps (marked answer) plain (asked_at plain.moment origin kind word) bytes (viewed reading) answer new
 StepsAt plain (Reply now server lane bytes) (OfReply reading) answer new =
@@ -36,7 +36,7 @@ StepsAt plain _ _ answer new = ⊥
 abbrev pub Steps : Plain → Event → Reading → Answer → Plain → Type 0
 Steps old event reading answer new = StepsAt (at_plain (moment_of event) old) event reading answer new
 
--- the events at which memory may be wanting
+-- the events at which memory may be lacking
 abbrev pub MayMarkAt : Plain → Event → Type 0
 MayMarkAt plain (Query now origin kind word bytes) = (view : QueryView) × MayLack plain (asked_at plain.moment origin kind word) bytes view
 MayMarkAt plain (Reply now server lane bytes) = MayKeep (upstreams_of plain) server lane plain.moment bytes
@@ -47,14 +47,14 @@ MayMarkAt plain (Edit now command) = MayLackAt plain command
 abbrev pub MayMark : Plain → Event → Type 0
 MayMark old event = MayMarkAt (at_plain (moment_of event) old) event
 
--- the event is given this answer: by what its octets read as, and with want of memory only where it may be
+-- the event is given this answer: by what its octets read as, and with lack of memory only where it may be
 pub record Answers (old : Plain) (event : Event) (answer : Answer) (new : Plain) : Type 0 where
   pub reading : Reading
   pub reads : ReadsEvent event reading
   pub step : Steps old event reading answer new
   pub mark : IsTrue (marked answer) → MayMark old event
 
--- an event that is refused, or met want of memory, changes nothing but the moment
+-- an event that is refused, or met lack of memory, changes nothing but the moment
 abbrev pub RefusalsChangeNothing : Type 0
 RefusalsChangeNothing = (old new : Plain) (event : Event) (reading : Reading) (answer : Answer) →
     Steps old event reading answer new → is_refused answer ≡ true → new ≡ at_plain (moment_of event) old

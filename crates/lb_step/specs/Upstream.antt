@@ -112,7 +112,7 @@ abbrev pub without_check : ServerId → Result (Unit {0}) ParkFault → Upstream
 without_check server (Ok done) ups = record ups { checks = filter (λ check. not (is_check server check)) ups.checks }
 without_check server (Err fault) ups = ups
 
--- a server and its health check added behind the others
+-- a server and its health check added after the others
 abbrev pub checked_by : CheckSpec → Upstreams × Result ServerId ParkFault → Upstreams × Result ServerId ParkFault
 checked_by spec done = (with_check spec done.1 done.0, done.1)
 
@@ -140,7 +140,7 @@ replaced_cache ups pool max max_ttl skips =
     let done = on_backends ups (attached (backends_of ups) pool) in
     (with_caches (with_cache (record { id = done.1; max = max; max_ttl = max_ttl; skips = skips }) (without_old (cache_at ups.pools pool.0) (caches_of ups))) done.0, Ok done.1)
 
--- the same where the pool can be given one, unless memory is wanting
+-- the same where the pool can be given one, unless memory is lacking
 abbrev pub attached_if : Bool → Upstreams → PoolId → ℕ → ℕ → List ℕ → Result (Unit {0}) ParkFault → Upstreams × Result CacheId ParkFault
 attached_if lacking ups pool max max_ttl skips (Err fault) = (ups, Err fault)
 attached_if lacking ups pool max max_ttl skips (Ok ready) = if lacking then (ups, Err park_faults.NoMemory) else replaced_cache ups pool max max_ttl skips
@@ -207,7 +207,7 @@ with_entry place entry ups = record ups { outstanding = entered ups.outstanding 
 
 -- a query sent by a pool to a server: its turn is counted, and the query is entered by the first lane
 -- that has a free ID, under the first free one there; or each lane is full, and the turn is counted
--- alone; or memory is wanting, and nothing changes
+-- alone; or memory is lacking, and nothing changes
 abbrev pub SendsBy : Upstreams → PoolId → ServerId → Kind → ℕ → Entry → Result (Lane × ℕ) EnterFault → Upstreams → Type 0
 SendsBy old pool server kind word entry (Ok (lane, id)) new =
     FirstPlace old server kind word (Some (lane, id)) × (new ≡ with_entry (at_place server lane id) entry (with_turn pool old))

@@ -31,12 +31,12 @@ pub enum Answer {
     Edited(Note),
     /// The command was refused, and nothing but the moment changed.
     Refused(EditFault),
-    /// Memory was wanting for a query: its answer is ServFail, in these octets, and nothing but the moment changed.
+    /// Memory was lacking for a query: its answer is ServFail, in these octets, and nothing but the moment changed.
     NoMemory(Octets),
 }
 
 impl Answer {
-    /// An equal answer. The one error is want of memory.
+    /// An equal answer. The one error is lack of memory.
     pub fn copy(&self, alloc: Global) -> Result<Answer, AllocError>
         ensures { IfOk result (λ copy. copy ≡ self.now) }
     {

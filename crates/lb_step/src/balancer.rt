@@ -60,7 +60,7 @@ impl Model for Balancer {
 
 impl Balancer {
     /// A balancer at moment 0, without rules and servers, with the default pool; its first rule is
-    /// rule 1, its first server server 1. The one error is want of memory.
+    /// rule 1, its first server server 1. The one error is lack of memory.
     pub fn new(alloc: Global) -> Result<Balancer, AllocError>
         ensures { IfOk result (λ balancer. balancer ≡ empty) }
     {
@@ -150,7 +150,7 @@ impl Balancer {
 
     /// A snapshot: all that the answers from now on depend on, its lists in the order of
     /// `law_of_lists`. Two balancers with equal snapshots answer alike ever after, by the law
-    /// `equal_snapshots_have_equal_runs` of lb_core. The one error is want of memory.
+    /// `equal_snapshots_have_equal_runs` of lb_core. The one error is lack of memory.
     pub fn snapshot(&self, alloc: Global) -> Result<Plain, AllocError>
         ensures value { IfOk result (λ plain. plain ≡ snapshot_of self.now) }
         ensures shown { IsShown self.now }

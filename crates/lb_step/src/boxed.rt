@@ -50,7 +50,7 @@ impl BoxedCommand {
         Box::into_inner(command)
     }
 
-    /// An equal command. The one error is want of memory.
+    /// An equal command. The one error is lack of memory.
     pub fn copy(&self, alloc: Global) -> Result<BoxedCommand, AllocError>
         ensures { IfOk result (λ copy. copy ≡ self.now) }
     {

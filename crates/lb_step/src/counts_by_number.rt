@@ -177,7 +177,7 @@ impl CountsByNumber {
     }
 }
 
-/// Counts a walk that a rule ended. The one error is want of memory.
+/// Counts a walk that a rule ended. The one error is lack of memory.
 #[inline(always)]
 fn raise_rule(tallies: &mut Tallies, rule: Option<RuleId>) -> Result<(), AllocError>
     ensures { OnOk result (Changes None (option_map (λ r. r.0) rule) tallies.old tallies.new) }
@@ -188,7 +188,7 @@ fn raise_rule(tallies: &mut Tallies, rule: Option<RuleId>) -> Result<(), AllocEr
     }
 }
 
-/// Counts a query that a server ended. The one error is want of memory.
+/// Counts a query that a server ended. The one error is lack of memory.
 #[inline(always)]
 fn raise_served(tallies: &mut Tallies, served: Option<Served>) -> Result<(), AllocError>
     ensures { OnOk result (Changes None (option_map (λ s. s.server.0) served) tallies.old tallies.new) }
@@ -199,7 +199,7 @@ fn raise_served(tallies: &mut Tallies, served: Option<Served>) -> Result<(), All
     }
 }
 
-/// Counts a query of a cache. The one error is want of memory.
+/// Counts a query of a cache. The one error is lack of memory.
 #[inline(always)]
 fn raise_cache(tallies: &mut Tallies, cache: Option<CacheId>) -> Result<(), AllocError>
     ensures { OnOk result (Changes None (option_map (λ c. c.0) cache) tallies.old tallies.new) }

@@ -83,7 +83,7 @@ fn carry_out(
     }
 }
 
-/// Adds a rule at a place, or behind the others, where the pool that it names is there.
+/// Adds a rule at a place, or after the others, where the pool that it names is there.
 fn add_rule(
     chain: &mut Chain,
     upstream: &Upstream,
@@ -134,7 +134,7 @@ fn action_of(upstream: &Upstream, action: StatedAction) -> Option<Action>
     }
 }
 
-/// The place that a rule is added at: where none is stated, behind the others.
+/// The place that a rule is added at: where none is stated, after the others.
 fn place_or_end(place: Option<usize>, chain: &Chain) -> usize
     ensures { result ≡ place_or_end place chain.now.rules }
 {

@@ -61,7 +61,7 @@ impl Event {
         }
     }
 
-    /// An equal event. The one error is want of memory.
+    /// An equal event. The one error is lack of memory.
     pub fn copy(&self, alloc: Global) -> Result<Event, AllocError>
         ensures { IfOk result (λ copy. copy ≡ self.now) }
     {

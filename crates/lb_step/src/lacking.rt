@@ -1,4 +1,4 @@
-//! Want of memory for a query.
+//! Lack of memory for a query.
 
 ghost use Rattle.std.specs.Prelude.{◌≡◌};
 ghost use Rattle.lb_table.specs.declared.fault.EnterFault.TheVariants.{NoMemory};

@@ -14,7 +14,7 @@ use lb_chain::{chains_cross_threads, listed_alike_seen_alike, seen_twice};
 use lb_health::last_of_a_row_from;
 use lb_terms::terms_cross_threads;
 
-/// An event that is refused, or that met want of memory, changes nothing but the moment.
+/// An event that is refused, or that met lack of memory, changes nothing but the moment.
 pub fn refusals_change_nothing()
     ensures { RefusalsChangeNothing }
 {

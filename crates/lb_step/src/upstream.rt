@@ -77,7 +77,7 @@ impl Model for Upstream {
 }
 
 impl Upstream {
-    /// No server, the default pool, and nothing outstanding. The one error is want of memory.
+    /// No server, the default pool, and nothing outstanding. The one error is lack of memory.
     pub(crate) fn new(alloc: Global) -> Result<Upstream, AllocError>
         ensures { IfOk result (λ upstream. upstream ≡ no_upstreams) }
     {

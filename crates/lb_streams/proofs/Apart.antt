@@ -16,7 +16,7 @@ is_same c = search rules
 pub is_other : (a c : ℕ) → c ≢ a → (a == c) ≡ false
 is_other a c not_same = search rules
 
--- octets of a connection, where a piece came behind the others
+-- octets of a connection, where a piece came after the others
 one_octets : (c : ℕ) (p : Piece) → octets_of c (p ∷ []) ≡ (if p.0 == c then p.1 else [])
 one_octets c p = append-nil (if p.0 == c then p.1 else [])
 
@@ -28,7 +28,7 @@ pub octets_other : (c n : ℕ) (ps : List Piece) (o : List ℕ) → c ≢ n → 
 octets_other c n ps o apart = flat_map-append (λ (p : Piece). if p.0 == c then p.1 else []) ps ((n, o) ∷ [])
     ∙ ap (λ zs. octets_of c ps ++ zs) (one_octets c (n, o) ∙ ap (λ (b : Bool). if b then o else []) (is_other n c apart)) ∙ append-nil (octets_of c ps)
 
--- what is told of a number, where something was told behind the rest
+-- what is told of a number, where something was told after the rest
 nothing : {A : Type 0} → List A
 nothing = []
 

@@ -200,7 +200,7 @@ been_first a b c n r two below (inl was) = inl was
 been_first a b c n r two below (inr (inl came)) = let same : length c.came ≡ length b.came = ap (λ zs. length zs) (two.once below).0 in inr (inl (omega arith))
 been_first a b c n r two below (inr (inr dialed)) = let same : length c.dialed ≡ length b.dialed = ap (λ zs. length zs) (two.once below).1 in inr (inr (omega arith))
 
--- or came to be behind it
+-- or came to be after it
 opened_then : (a b c : Link) (m s : List (List ℕ)) → Fares a b m s → b.below ≡ false → HasBeen a c → HasBeen b c
 opened_then a b c m s one below (inl was) = absurd (true≢false (sym (one.below was) ∙ below))
 opened_then a b c m s one below (inr (inl came)) = let same : length b.came ≡ length a.came = ap (λ zs. length zs) (one.unopened below).0 in inr (inl (omega arith))

@@ -1,4 +1,4 @@
--- A message that is not put behind what a connection is to write, and the connection that is closed for that.
+-- A message that is not put after what a connection is to write, and the connection that is closed for that.
 use Rattle.std.proofs.Common.{◌≡◌, ◌≢◌, ℕ, ◌+◌, ◌<◌, true, false, true≢false, List, [], ◌∷◌, ◌++◌, Option, Some, None, sym, ap, ◌∙◌, arith, subst}
 use Rattle.std.specs.Prelude.{IfSome, nat_lt}
 use Rattle.lb_connections.specs.Table.{Table, at, client_count, clients}

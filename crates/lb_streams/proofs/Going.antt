@@ -359,7 +359,7 @@ goes_written n k old new x y table told device peer incoming outgoing ended =
       put = ap (λ zs. take k x.outgoing ++ zs) outgoing ∙ take_drop k x.outgoing ∙ sym (append-nil x.outgoing);
     })
 
--- a message was put behind what it is to write
+-- a message was put after what it is to write
 goes_promised : (n : ℕ) (old new : Net) (x y : Connection) (message : List ℕ) → Swaps n old.table new.table x y → new.told ≡ old.told → new.device ≡ old.device
     → y.peer ≡ x.peer → y.incoming ≡ x.incoming → y.outgoing ≡ x.outgoing ++ framed message → y.is_ended ≡ x.is_ended → Goes old new none (just n message)
 goes_promised n old new x y message table told device peer incoming outgoing ended =
@@ -520,7 +520,7 @@ goes_wanting_read n old new x o table rose told device =
       cause = inr (inl rose);
     })
 
--- memory was wanting for its place in the queue, behind a message that was taken of it
+-- memory was lacking for its place in the queue, after a message that was taken of it
 pub goes_wanting_taken : (n : ℕ) (old new : Net) (x : Connection) (message : List ℕ) → Drops n old.table new.table x → told_of n old.table.refusals < told_of n new.table.refusals → new.told ≡ old.told → new.device ≡ old.device → Goes old new (just n message) none
 goes_wanting_taken n old new x message table rose told device =
     let ends : count_by (λ (k : ℕ). k == n) new.told.ended ≡ count_by (λ (k : ℕ). k == n) old.told.ended = ap (λ (t : Traffic). count_by (λ (k : ℕ). k == n) t.ended) told in
@@ -645,7 +645,7 @@ goes_over n old new x message table over told device =
 pub goes_still : (old new : Net) → new.told ≡ old.told → new.table ≡ old.table → new.device ≡ old.device → Goes old new none none
 goes_still old new told table device = goes_nothing_at old new (ap (λ (t : Traffic). record new { told = t }) told ∙ ap (λ (t : Table). record old { table = t; device = new.device }) table ∙ ap (λ (d : Option DeviceFault). record old { device = d }) device)
 
--- Why a message is not put behind.
+-- Why a message is not put after.
 
 over_by : (n : ℕ) (old new : Net) (b : Bool) → nat_lt n old.table.next ≡ b → at n old.table ≡ None → new.table ≡ old.table → IsOver n old new
 over_by n old new true below none_here same = inl (ap (λ (t : Table). nat_lt n t.next && is_none (at n t)) same ∙ ap (λ (b : Bool). b && is_none (at n old.table)) below ∙ ap is_none none_here)

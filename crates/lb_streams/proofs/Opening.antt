@@ -192,7 +192,7 @@ turned_by accepted.Failed old new faulty = let e = faulty.2 in let le = faulty.1
   counted = let read = ap (λ (t : Traffic). t.reads) e in counted_none old new (ap (λ (t : Traffic). t.given) e) (ap (λ (t : Traffic). t.came) e) (ap (λ (t : Traffic). t.ended) e) (ap (λ (t : Traffic). t.turned) e) (omega (arith, read));
 }
 
--- a client is turned away, behind numbers that were passed over
+-- a client is turned away, after numbers that were passed over
 pub goes_turned : (old mid new : Net) → Narrows old.table mid.table → mid.told ≡ old.told → mid.device ≡ old.device → TurnsOneAway mid new → TurnsAway old new → Goes old new none none
 goes_turned old mid new narrow told device turns away =
     let all : Turned mid.told new.told = turned_by turns.told.0 mid.told new.told turns.told.1 in

@@ -98,7 +98,7 @@ no_client_was n b c r q y two is (inr new) = absurd (never_new (link n b) (link 
 pub no_client_later : (n : ℕ) (b c : Net) (r q : ℕ → List (List ℕ)) → Goes b c r q → NoClient n b → NoClient n c
 no_client_later n b c r q two is = ((two.fares n).below is.0, λ y e. no_client_was n b c r q y two is ((two.fares n).own y e).peer)
 
--- Why a message was not put behind, where nothing was sent before.
+-- Why a message was not put after, where nothing was sent before.
 pub misses_before : (a b c : Net) (n : ℕ) (message : List ℕ) (why : Why) → Goes a b none none → Misses b c n message why → Misses a c n message why
 misses_before a b c n message whys.NoServer one is = is
 misses_before a b c n message whys.Gone one is = over_before n a b c none none one is

@@ -230,7 +230,7 @@ turns_round roster n first a b c d ls js es blind before job ready event =
 fared_last : (blind : Bool) (a b c : ℕ) → c ≡ b → Fared blind a b → Fared blind a c
 fared_last blind a b c e is = subst (Fared blind a) (sym e) is
 
--- what is written behind the rounds
+-- what is written after the rounds
 pub turns_last : (roster : List Listed) (n k : ℕ) (a b c : World) (ls : List Line) (blind : Bool) → Turns roster n k a b ls blind → Goes b.net c.net none none → Settles b.net c.net → c ≡ record b { net = c.net } → Turns roster n k a c ls blind
 turns_last roster n k a b c ls blind one goes settles e =
     let failures = goes.failures in

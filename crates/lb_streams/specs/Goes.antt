@@ -101,7 +101,7 @@ both a b c = a c ++ b c
 abbrev pub GoesOn : Type 0
 GoesOn = (a b c : Net) (m n s r : ℕ → List (List ℕ)) → Goes a b m s → Goes b c n r → Goes a c (both m n) (both s r)
 
--- a message sent to this connection, where it was put behind what that is to write
+-- a message sent to this connection, where it was put after what that is to write
 abbrev pub sent_so : Result (Unit {0}) Why → ℕ → List ℕ → ℕ → List (List ℕ)
 sent_so (Ok done) n message = just n message
 sent_so (Err why) n message = none
@@ -130,7 +130,7 @@ is_given_up why x = false
 abbrev pub NoClient : ℕ → Net → Type 0
 NoClient n new = ((link n new).below ≡ true) × ((y : Connection) → (link n new).here ≡ Some y → is_client y.peer ≡ false)
 
--- why a message is not put behind what a connection is to write; where there was no memory for it, that of a client is closed
+-- why a message is not put after what a connection is to write; where there was no memory for it, that of a client is closed
 abbrev pub Misses : Net → Net → ℕ → List ℕ → Why → Type 0
 Misses old new n message whys.Gone = IsOver n old new
 Misses old new n message whys.Limit = IsFull n old new [] message

@@ -76,7 +76,7 @@ IsClosed n old new = (shut (link n old) ≡ false) × (shut (link n new) ≡ tru
 abbrev pub IsServers : ℕ → ServerId → ℕ → Endpoint → Net → Type 0
 IsServers n server number to new = ((link n new).below ≡ true) × ((y : Connection) → at n new.table ≡ Some y → y.peer ≡ peers.Server server number to)
 
--- why a message to an HTTP request is not handed over: the request had ended, or memory was wanting
+-- why a message to an HTTP request is not handed over: the request had ended, or memory was lacking
 abbrev pub FitsPost : Why → Type 0
 FitsPost whys.Gone = Unit {0}
 FitsPost whys.NoMemory = Unit {0}
@@ -142,7 +142,7 @@ abbrev pub Comes : List Service → List Listed → Net → Net → (ℕ → Lis
 Comes listens roster old new sends None sending = sending ≡ Nothing
 Comes listens roster old new sends (Some letter) sending = ComesTo listens roster old new sends letter sending
 
--- a line: an event that a message of a connection made, or a job; what came of it; and what came of its send, behind these
+-- a line: an event that a message of a connection made, or a job; what came of it; and what came of its send, after these
 abbrev pub IsLine : List Service → List Listed → Net → Net → (ℕ → List (List ℕ)) → Line → Type 0
 IsLine listens roster old new sends (lines.Event source event outcome sending) = ((n : ℕ) × (source ≡ sources.Connection n) × IsFrom old new n event) × IsOutcome event outcome × Comes listens roster old new sends (outcome_letter event outcome) sending
 IsLine listens roster old new sends (lines.Job job sending) = Comes listens roster old new sends (Some (job_letter job)) sending

@@ -167,7 +167,7 @@ pub record Fares (a b : Link) (messages sends : List (List ℕ)) : Type 0 where
   pub own : (x : Connection) → b.here ≡ Some x → Own a b x
   pub left : shut a ≡ false → HasBeen a b → shut b ≡ true → Leaves a b messages sends
 
--- What an open connection does while it stays open: octets come and messages are taken of them; messages are put behind what it is to write, and octets of that
+-- What an open connection does while it stays open: octets come and messages are taken of them; messages are put after what it is to write, and octets of that
 -- are taken; and its peer may close its side.
 pub record Moves (a b : Link) (x y : Connection) (messages sends : List (List ℕ)) : Type 0 where
   pub was : a.here ≡ Some x

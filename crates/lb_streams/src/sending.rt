@@ -19,7 +19,7 @@ use lb_wire::{Kind, Lane, Octets, Origin, ServerId};
 use std::alloc::Global;
 
 impl<S: Streams> Links<S> {
-    /// Puts a message behind what the connection to a server at this end is to write, by one of its upstream sockets. Where none is open,
+    /// Puts a message after what the connection to a server at this end is to write, by one of its upstream sockets. Where none is open,
     /// one is begun.
     pub(crate) fn send_to(
         &mut self,
@@ -62,7 +62,7 @@ impl<S: Streams> Links<S> {
         }
     }
 
-    /// Puts a message behind what this connection to a server is to write.
+    /// Puts a message after what this connection to a server is to write.
     #[tactic(auto, using(crate::proofs::Letters::servers_after, crate::proofs::Letters::missed_now))]
     fn send_over(
         &mut self,

@@ -93,7 +93,7 @@ pub struct Words {
 }
 
 impl Words {
-    /// Those of a setup file. The one error is want of memory.
+    /// Those of a setup file. The one error is lack of memory.
     pub fn new<R: Clock>(
         rt: &R,
         alloc: Global,
@@ -126,7 +126,7 @@ impl Words {
         self.watch.changes(&told, &self.sends, now)
     }
 
-    /// What a line that is no command says. The one error is want of memory.
+    /// What a line that is no command says. The one error is lack of memory.
     pub fn hear<R: Wait + Clock, J: Naming>(
         &self,
         rt: &R,

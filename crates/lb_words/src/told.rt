@@ -48,7 +48,7 @@ pub(crate) type Counted = (RuleId, Rule, u64);
 /// The number of a rule, and how many walks it ended.
 pub(crate) type Ended = (RuleId, u64);
 
-/// What stands now. Room for it is taken before the lock. The one error is want of memory.
+/// What stands now. Room for it is taken before the lock. The one error is lack of memory.
 pub(crate) fn look<R: Wait, J: Naming>(
     rt: &R,
     alloc: Global,
@@ -136,7 +136,7 @@ fn counted(
     Ok(rules)
 }
 
-/// A copy of the rule at a place, if there is one. The one error is want of memory.
+/// A copy of the rule at a place, if there is one. The one error is lack of memory.
 pub(crate) fn rule_at<R: Wait, J: Naming>(
     rt: &R,
     alloc: Global,

@@ -77,7 +77,7 @@ impl Receipts {
         self.room.is_some()
     }
 
-    /// Takes room for one more receipt, where none is there. The one error is want of memory.
+    /// Takes room for one more receipt, where none is there. The one error is lack of memory.
     #[inline(always)]
     pub(crate) fn prepare(&mut self, alloc: Global) -> Result<(), AllocError>
         ensures room { OnOk result (IsSome self.new.room) }

@@ -107,7 +107,7 @@ const LONG: &[(Query, Found)] = &[
     (("b.test", A, "192.0.2.1"), (301, Dropped, 1, &[])),
     (("x1.example", A, "192.0.2.1"), (1, Refused, 1, &[])),
     (("a.x1.example", A, "192.0.2.1"), (1, Refused, 1, &[])),
-    // rule 2 ends what has a rule of its own only behind it
+    // rule 2 ends what has a rule of its own only after it
     (("a.x3.example", A, "192.0.2.1"), (2, Dropped, 1, &[])),
     (("x299.example", A, "192.0.2.1"), (2, Dropped, 1, &[])),
     (("example", A, "192.0.2.1"), (2, Dropped, 1, &[])),
@@ -127,7 +127,7 @@ const WITHIN: &[Line] = &[
 
 /// Each of the rules is tested up to the one that ends the walk.
 const SETS: &[(Query, Found)] = &[
-    // the first of the names, the last of them, and one behind the last
+    // the first of the names, the last of them, and one after the last
     (("a.x1.example", A, "10.1.2.3"), (1, Allow, 1, &[])),
     (("X70.EXAMPLE", A, "10.1.2.3"), (1, Allow, 1, &[])),
     (("x71.example", A, "10.1.2.3"), (0, Allow, 3, &[])),
@@ -237,7 +237,7 @@ const FOUR: &[Query] = &[
 /// Of each of the four walks the rule that ends it, 0 where none does, and how many rules it tests.
 type Ends = &'static [(u64, usize)];
 
-/// Edits, each with what the four walks come to behind it.
+/// Edits, each with what the four walks come to after it.
 const EDITS: &[(Edit, Ends)] = &[
     (
         Adds(0, (&[Numbered(1, 3)], Does::Refuse), 1),
