@@ -1,5 +1,5 @@
 -- Responses that a builder makes.
-use Rattle.std.proofs.Common.{◌≡◌, ℕ, List, [], refl, sym, ap, ◌∙◌, codes, Result, Ok, Err, IfOk, IsOkAnd, MatchResult}
+use Rattle.std.proofs.Common.{◌≡◌, ℕ, List, [], refl, sym, ap, ◌∙◌, Result, Ok, Err, IfOk, IsOkAnd, MatchResult}
 use Rattle.http.specs.Response.{IsNewHead, body_of, head_of}
 use Rattle.http.specs.Steps.{AppendsField, StepsTo}
 use Rattle.http.specs.declared.error.Error.{Error}
