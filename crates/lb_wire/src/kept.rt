@@ -11,7 +11,7 @@ pub enum Kept {
     No,
     /// The cache is full of live replies.
     NoRoom,
-    /// Memory was lacking.
+    /// Memory was wanting.
     NoMemory,
 }
 
