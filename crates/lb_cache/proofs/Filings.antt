@@ -1,4 +1,4 @@
--- Where keys are filed: behind the name and the type of their question.
+-- Where keys are filed: after the name and the type of their question.
 use Rattle.std.proofs.Common.{◌≡◌, Bool, true, false, ◌==◌, ℕ, ◌+◌, ◌*◌, ◌/◌, ◌%◌, ◌<◌, ◌≤◌, List, [], ◌∷◌, ◌++◌, length, take, drop, reverse, Option, None, Some, inl, inr, refl, sym, ap, subst, ◌∙◌, arith, append_assoc, append-nil}
 use Rattle.std.specs.Bool.{Decides, one_answer}
 use Rattle.std.specs.Char.{to_ascii_lowercase}
@@ -78,18 +78,18 @@ past_head (Some q) octets is =
     ap (behind 0) (append_assoc (key_of q.0) (type_octets q.1) octets)
     ∙ past_labels (reverse (lower_name q.0)) (type_octets q.1 ++ octets) (each_reverse (lower_name q.0) (each_lower q.0 (asked octets q is)))
 
--- a key is what stands behind its head
+-- a key is what stands after its head
 pub back : (octets : List ℕ) → behind 0 (filed_as octets) ≡ octets
 back octets = past_head (question_of_key octets) octets refl
 
--- a key that has a question is filed behind its name
+-- a key that has a question is filed after its name
 filed_some : (q : List (List ℕ) × ℕ) (octets : List ℕ) → head_of (Some q) ++ octets ≡ key_of q.0 ++ (type_octets q.1 ++ octets)
 filed_some q octets = append_assoc (key_of q.0) (type_octets q.1) octets
 
 no_label : (rest : List ℕ) → NoLabel (0 ∷ rest)
 no_label rest n more is some lt = (let none : n ≡ 0 = cc is in absurd (omega (arith, none, some)))
 
--- where the octets of a name, and others, begin a filed key, its name goes on behind them
+-- where the octets of a name, and others, begin a filed key, its name goes on after them
 goes_on : LabelsGoOn → (name : List (List ℕ)) → IsName (lower_name name) → (q : List (List ℕ) × ℕ) (octets tail rest : List ℕ) → Labels q.0 → head_of (Some q) ++ octets ≡ (key_of name ++ tail) ++ rest
     → GoesOn (reverse (lower_name name)) (reverse (lower_name q.0)) (tail ++ rest) (type_octets q.1 ++ octets)
 goes_on on name is_name q octets tail rest each is =

@@ -139,7 +139,7 @@ not_back a b before = elim (cases_Bool (before_key b a)) [
   | inr t ↦ t
 ]
 
--- where all stand behind, none stands before
+-- where all stand after, none stands before
 none_before : (k : Key) (r : CachedReply) (xs : List CachedReply) → before_key r.key k ≡ true → T (below_all cmp_key k (pairs xs)) → (filter (is_before r.key) xs ≡ []) × (filter (λ o. not (is_before r.key o)) xs ≡ xs)
 none_before k r [] before h = (refl, refl)
 none_before k r (x ∷ xs) before h =

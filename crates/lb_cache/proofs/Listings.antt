@@ -72,7 +72,7 @@ to_entries : (d s : List Filed) (kind : Kind) (octets : List ℕ) (v : ℕ) → 
 to_entries d s Datagram octets v has = Contains-append_left (map (listed Datagram) d) (map (listed Stream) s) (key_at Datagram octets, v) (to_map Datagram d (filed_at octets v) has)
 to_entries d s Stream octets v has = Contains-append_right (map (listed Datagram) d) (map (listed Stream) s) (key_at Stream octets, v) (to_map Stream s (filed_at octets v) has)
 
--- lists in order, one behind the other
+-- lists in order, one after the other
 below_append : (k : Key) (es fs : List (Key × ℕ)) → T (below_all cmp_key k es) → T (below_all cmp_key k fs) → T (below_all cmp_key k (es ++ fs))
 below_append k [] fs a b = b
 below_append k (e ∷ es) fs a b =

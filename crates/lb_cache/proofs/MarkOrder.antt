@@ -54,7 +54,7 @@ is_among v s ks = list_any (λ k. is_mark v s k.0 k.1) ks
 among_rest : (v s : ℕ) (k : ℕ × ℕ) (ks : List (ℕ × ℕ)) → is_among v s (k ∷ ks) ≡ true → is_mark v s k.0 k.1 ≡ false → is_among v s ks ≡ true
 among_rest v s k ks among off = rw off at among
 
--- one of those behind a mark stands behind it
+-- one of those after a mark stands after it
 behind_all : (k : ℕ × ℕ) (v s : ℕ) (ks : List (ℕ × ℕ)) → AllByRecursion (λ y. cmp_mark k y ≡ Less) ks → is_among v s ks ≡ true → cmp_mark k (v, s) ≡ Less
 behind_all k v s [] all among = absurd (cc)
 behind_all k v s (x ∷ xs) all among = elim (cases_Bool (is_mark v s x.0 x.1)) [

@@ -23,7 +23,7 @@ without_key key = where_key cmp_key (λ k. not (eq_by_cmp cmp_key key k))
 abbrev pub slots_of : List (Key × ℕ) → List ℕ
 slots_of = map (λ e. e.1)
 
--- a zero behind the labels of a name, its type, and a zero
+-- a zero after the labels of a name, its type, and a zero
 abbrev pub type_octets : ℕ → List ℕ
 type_octets rtype = 0 ∷ rtype / 256 ∷ rtype % 256 ∷ 0 ∷ []
 
@@ -36,7 +36,7 @@ head_of (Some question) = key_of question.0 ++ type_octets question.1
 abbrev pub filed_as : List ℕ → List ℕ
 filed_as octets = head_of (question_of_key octets) ++ octets
 
--- the octets behind a head, so many octets of a label being left
+-- the octets after a head, so many octets of a label being left
 abbrev pub behind : ℕ → List ℕ → List ℕ
 behind left [] = []
 behind (suc left) (octet ∷ octets) = behind left octets

@@ -13,7 +13,7 @@ unpacked kind octets key_len moment life = record {
   life = life;
 }
 
--- the key's octets are there, and behind them no more than a message has
+-- the key's octets are there, and after them no more than a message has
 pub record IsPacked (octets : List ℕ) (key_len : ℕ) : Type 0 where
   pub key : key_len ≤ length octets
   pub bytes : length octets ≤ key_len + max_message

@@ -22,7 +22,7 @@ impl Ends {
         }
     }
 
-    /// Marks a slot by a moment, if there is one. The one error is want of memory, and only a new
+    /// Marks a slot by a moment, if there is one. The one error is lack of memory, and only a new
     /// mark can want it.
     pub(crate) fn put(&mut self, end: Option<u64>, slot: u64) -> Result<(), AllocError>
         ensures put { OnOk result ((v s : ℕ) → has self.new v s ≡ cond (is_end_mark end slot v s) true (has self.old v s)) }

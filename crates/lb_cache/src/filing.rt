@@ -13,7 +13,7 @@ use lb_suffix::put_key;
 use lb_wire::RecordType;
 use std::marker::Model;
 
-/// What stands behind the labels of a name: a zero, the type, and a zero.
+/// What stands after the labels of a name: a zero, the type, and a zero.
 const TYPE: usize = 4;
 
 /// The most octets that stand before those of a key.
@@ -22,10 +22,10 @@ const HEAD: usize = MAX_NAME + TYPE;
 /// The first octet where a key has no question: no label has so many octets.
 const NO_QUESTION: u8 = 255;
 
-/// The first octet that stands behind every label's length.
+/// The first octet that stands after every label's length.
 const PAST_LABELS: u8 = 64;
 
-/// Octets that stand before those of a key, laid from behind, so that each is laid once. A contract sees them as a list.
+/// Octets that stand before those of a key, laid from the back, so that each is laid once. A contract sees them as a list.
 #[derive(Debug, Drop)]
 pub(crate) struct Head {
     octets: [u8; HEAD],

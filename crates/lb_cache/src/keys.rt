@@ -69,7 +69,7 @@ impl Keys {
         }
     }
 
-    /// Gives a key its slot. The one error is want of memory, and leaves all as it was.
+    /// Gives a key its slot. The one error is lack of memory, and leaves all as it was.
     pub(crate) fn put(&mut self, kind: Kind, octets: &[u8], slot: u64) -> Result<(), AllocError>
         requires { find cmp_key (key_with kind octets.now) self.old ≡ None }
         ensures put { OnOk result (self.new ≡ put cmp_key (key_with kind octets.now) slot self.old) }

@@ -33,7 +33,7 @@ impl Model for Listing {
     ghost invariant = { λ l. T (is_sorted cmp_key (listed_in l.datagrams l.streams)) };
 }
 
-/// Files a slot under octets. The one error is want of memory, and leaves all as it was.
+/// Files a slot under octets. The one error is lack of memory, and leaves all as it was.
 fn file(slots: &mut Ranks, octets: &[u8], slot: u64) -> Result<(), AllocError>
     ensures filed { OnOk result (HasBesides slots.old (filed_at octets.now slot) slots.new) }
     ensures kept { OnErr result (slots.new ≡ slots.old) }
@@ -45,7 +45,7 @@ fn file(slots: &mut Ranks, octets: &[u8], slot: u64) -> Result<(), AllocError>
     filed
 }
 
-/// Puts all slots behind a list, in the order of their keys. The one error is want of memory.
+/// Puts all slots after a list, in the order of their keys. The one error is lack of memory.
 fn list_slots(slots: &Ranks, list: &mut Vec<u64>) -> Result<(), AllocError>
     ensures { OnOk result (list.new.items ≡ list.old.items ++ map (λ f. f.rank) slots.now) }
 {
@@ -68,7 +68,7 @@ impl Listing {
         }
     }
 
-    /// Gives a key its slot. The one error is want of memory, and leaves all as it was.
+    /// Gives a key its slot. The one error is lack of memory, and leaves all as it was.
     pub(crate) fn put(&mut self, kind: Kind, octets: &[u8], slot: u64) -> Result<(), AllocError>
         requires { find cmp_key (key_with kind octets.now) self.old ≡ None }
         ensures put { OnOk result (self.new ≡ put cmp_key (key_with kind octets.now) slot self.old) }
@@ -80,7 +80,7 @@ impl Listing {
         }
     }
 
-    /// The slots in the order of their keys. The one error is want of memory.
+    /// The slots in the order of their keys. The one error is lack of memory.
     pub(crate) fn slot_list(&self, alloc: Global) -> Result<Vec<u64>, AllocError>
         ensures { IfOk result (λ list. list.items ≡ slots_of self.now) }
     {

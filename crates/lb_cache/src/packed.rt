@@ -9,7 +9,7 @@ use lb_wire::{Key, Kind, Octets};
 use std::alloc::{AllocError, Global};
 use std::marker::Model;
 
-/// A kept reply as the slots have it: its octets stand behind those of its key. A contract sees the reply.
+/// A kept reply as the slots have it: its octets stand after those of its key. A contract sees the reply.
 #[derive(Debug, Drop)]
 pub(crate) struct Packed {
     octets: Vec<u8>,
@@ -33,7 +33,7 @@ impl Model for Packed {
     ghost invariant = { λ p. IsPacked p.octets.items p.key_len };
 }
 
-/// These octets and those behind them in one block, which is as long as they are. The one error is want of memory.
+/// These octets and those behind them in one block, which is as long as they are. The one error is lack of memory.
 fn joined(alloc: Global, first: &[u8], second: &[u8]) -> Result<Vec<u8>, AllocError>
     requires first { length first.now ≤ max_message }
     requires second { length second.now ≤ max_message }
@@ -46,7 +46,7 @@ fn joined(alloc: Global, first: &[u8], second: &[u8]) -> Result<Vec<u8>, AllocEr
 }
 
 impl Packed {
-    /// A reply with these octets under its key. The one error is want of memory.
+    /// A reply with these octets under its key. The one error is lack of memory.
     pub(crate) fn new(
         alloc: Global,
         key: &Key,
@@ -91,7 +91,7 @@ impl Packed {
         &self.octets[self.key_len as usize..]
     }
 
-    /// The reply with blocks of its own. The one error is want of memory.
+    /// The reply with blocks of its own. The one error is lack of memory.
     pub(crate) fn to_reply(&self, alloc: Global) -> Result<CachedReply, AllocError>
         ensures { IfOk result (λ reply. reply ≡ self.now) }
     {
@@ -108,7 +108,7 @@ impl Packed {
         })
     }
 
-    /// When the reply is dead, in milliseconds: never where its life ends behind all moments.
+    /// When the reply is dead, in milliseconds: never where its life ends after all moments.
     pub(crate) fn end(&self) -> Option<u64>
         ensures { result ≡ end_of self.now }
     {
@@ -118,7 +118,7 @@ impl Packed {
     /// Whether the reply lives at a moment, in milliseconds.
     pub(crate) fn lives(&self, now: u64) -> bool
         ensures value { result ≡ lives now self.now }
-        // a number behind a reference has a range where it is read
+        // a number after a reference has a range where it is read
         ensures fits { self.now.life < 2 ^ 32 }
     {
         u128::from(now) < u128::from(self.moment) + 1000 * u128::from(self.life)

@@ -213,7 +213,7 @@ fn list_key(
     }
 }
 
-/// The keys of the replies in the slots before one. The one error is want of memory.
+/// The keys of the replies in the slots before one. The one error is lack of memory.
 fn listing_of(
     alloc: Global,
     keys: &Keys,
@@ -283,7 +283,7 @@ impl Store {
         self.cells.get(slot as usize)
     }
 
-    /// The slots in the order of the keys. The one error is want of memory.
+    /// The slots in the order of the keys. The one error is lack of memory.
     pub(crate) fn slot_list(&self, alloc: Global) -> Result<Vec<u64>, AllocError>
         ensures { IfOk result (λ list. list.items ≡ slots_of self.now.keys) }
     {
@@ -300,7 +300,7 @@ impl Store {
     }
 
     /// Puts a reply, whose key no other has, in a slot of its own, and gives that. The one error is
-    /// want of memory.
+    /// lack of memory.
     pub(crate) fn add(&mut self, reply: Packed) -> Result<u64, AllocError>
         requires new { find cmp_key reply.key self.old.keys ≡ None }
         requires few { length self.old.keys ≤ 1000000 }

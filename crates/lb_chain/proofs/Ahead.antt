@@ -108,7 +108,7 @@ module _ (by_name : NamesDecide) (by_mask : MasksDecide) (names : List NamePair)
   holds_at : (r : ℕ) → P r → HoldsAt terms ranks view addr r
   holds_at r offered = holds_found by_name by_mask names masks loose terms ranks view addr r filed offered
 
-  -- what comes behind the ranks before a place stands there or later
+  -- what comes after the ranks before a place stands there or later
   from_place : (at r : ℕ) (held : HoldsAt terms ranks view addr r) → IsBehind ranks at r → at ≤ held.0
   from_place at r held behind =
       let is : get_or ranks held.0 0 ≡ r = held.2 in

@@ -15,7 +15,7 @@ use Rattle.lb_chain.specs.Seen.{seen_limits}
 abbrev pub pass_at : ℕ → Pass → RulePass
 pass_at at pass = record { limiter = at; pass = pass }
 
--- the passes of the next limiter are put behind the others
+-- the passes of the next limiter are put after the others
 pub listed_next : (xs : List Limits) (i : ℕ) (y : Limits) (all new whole : List RulePass) → i < length xs → y ≡ get_or xs i y → new ≡ all ++ map (pass_at i) y.passes → all ++ counted_from i (drop i xs) ≡ whole → new ++ counted_from (i + 1) (drop (i + 1) xs) ≡ whole
 listed_next xs i y all new whole lt is added before =
     let parts : drop i xs ≡ y ∷ drop (i + 1) xs = drop_more xs i y lt ∙ ap (λ (l : Limits). l ∷ drop (i + 1) xs) (sym is) in

@@ -19,7 +19,7 @@ place_none xs i n found whole lt is none before =
     let skipped : places_from i (n ∷ drop (i + 1) xs) ≡ places_from (i + 1) (drop (i + 1) xs) = rw none refl in
     ap (λ (ps : List ℕ). found ++ ps) (sym skipped) ∙ ap (λ (ns : List Numbered). found ++ places_from i ns) (sym parts) ∙ before
 
--- the place of a rule that has one goes behind the others
+-- the place of a rule that has one goes after the others
 pub place_some : (xs : List Numbered) (i : ℕ) (n : Numbered) (found : List ℕ) (whole : List ℕ) → i < length xs → n ≡ get_or xs i n → (length n.limits == 0) ≡ false → found ++ places_from i (drop i xs) ≡ whole → (found ++ i ∷ []) ++ places_from (i + 1) (drop (i + 1) xs) ≡ whole
 place_some xs i n found whole lt is some before =
     let parts : drop i xs ≡ n ∷ drop (i + 1) xs = drop_more xs i n lt ∙ ap (λ (m : Numbered). m ∷ drop (i + 1) xs) (sym is) in

@@ -31,7 +31,7 @@ term_found [] at n lt is = absurd (omega arith)
 term_found (m ∷ rules) zero n lt is = ap (λ (k : Numbered). Some k.rule.term) (sym is)
 term_found (m ∷ rules) (suc at) n lt is = term_found rules at n (omega arith) is
 
--- it is still there where another is put behind it
+-- it is still there where another is put after it
 found_before : {X : Type 0} (xs : List X) (at place : ℕ) (x y : X) → at < place → slice_get xs at ≡ Some y → slice_get (insert xs place x) at ≡ Some y
 found_before [] at place x y lt is = absurd (cc)
 found_before (z ∷ xs) at zero x y lt is = absurd (omega arith)
@@ -45,14 +45,14 @@ found_behind (z ∷ xs) at zero x y le is = is
 found_behind (z ∷ xs) zero (suc place) x y le is = absurd (omega arith)
 found_behind (z ∷ xs) (suc at) (suc place) x y le is = found_behind xs at place x y (omega arith) is
 
--- what is put in behind and then taken out before is moved
+-- what is put in after and then taken out before is moved
 moved_down : {X : Type 0} (xs : List X) (at place : ℕ) (x : X) → at ≤ place → at < length xs → remove (insert xs (suc place) x) at ≡ insert (remove xs at) place x
 moved_down [] at place x le lt = absurd (omega arith)
 moved_down (y ∷ xs) zero place x le lt = refl
 moved_down (y ∷ xs) (suc at) zero x le lt = absurd (omega arith)
 moved_down {X = X} (y ∷ xs) (suc at) (suc place) x le lt = ap (λ (zs : List X). y ∷ zs) (moved_down xs at place x (omega arith) (omega arith))
 
--- and put in before and taken out behind
+-- and put in before and taken out after
 moved_up : {X : Type 0} (xs : List X) (at place : ℕ) (x : X) → place ≤ at → at < length xs → remove (insert xs place x) (suc at) ≡ insert (remove xs at) place x
 moved_up [] at place x le lt = absurd (omega arith)
 moved_up (y ∷ xs) at zero x le lt = refl
@@ -65,7 +65,7 @@ terms_again rules at place n lt is =
     let found : slice_get rules at ≡ Some n = slice_get-get_or rules at n lt ∙ ap Some (sym is) in
     ap (λ (terms : List Selector). insert terms place n.rule.term) (sym (terms_removed rules at)) ∙ sym (terms_inserted (remove rules at) place n) ∙ ap (λ (o : Option Numbered). terms_of (put_again rules at place o)) (sym found)
 
--- its selector is put in behind, and the one before is still there
+-- its selector is put in after, and the one before is still there
 pub found_down : (rules : List Numbered) (at place : ℕ) (n : Numbered) → at < place → at < length rules → n ≡ get_or rules at n → slice_get (insert (terms_of rules) (place + 1) n.rule.term) at ≡ Some n.rule.term
 found_down rules at place n before lt is = found_before (terms_of rules) at (place + 1) n.rule.term n.rule.term (omega arith) (term_found rules at n lt is)
 

@@ -230,7 +230,7 @@ ends_here rules i n verdict view addr kind now a b ps qs t u whole lt is holds e
     ∙ sym (ap (with_before a b ps t) (walk_more rules i n view addr kind now lt is))
     ∙ before
 
--- or behind the last
+-- or after the last
 pub ends_behind : (rules : List Numbered) (i : ℕ) (view : QueryView) (addr : Addr) (kind : Kind) (now : ℕ) (a b : Bool) (ps : List Passed) (t : ℕ) (whole : Walked) → i ≡ length rules → with_before a b ps t (walk_of (drop i rules) view addr kind now) ≡ whole → record { rule = None; verdict = verdicts.Allow; no_recurse = a; skip_cache = b; passes = ps; tests = t } ≡ whole
 ends_behind rules i view addr kind now a b ps t whole at before =
     let none : drop i rules ≡ [] = ap (λ (k : ℕ). drop k rules) at ∙ drop-length rules in

@@ -12,15 +12,15 @@ use Rattle.lb_chain.specs.FirstAsked.{AreRising}
 use Rattle.lb_chain.specs.Filing.{IsFiledFor}
 use Rattle.lb_chain.specs.Offers.{AreOffers}
 
--- the rank comes behind those before the place
+-- the rank comes after those before the place
 abbrev pub IsBehind : List ℕ → ℕ → ℕ → Type 0
 IsBehind ranks at rank = (k : ℕ) → k < at → slice_index ranks k < rank
 
--- the least of the ranks behind a place of which this holds, and none where there is none
+-- the least of the ranks after a place of which this holds, and none where there is none
 abbrev pub IsLeastBehind : (ℕ → Type 0) → List ℕ → ℕ → Option ℕ → Type 0
 IsLeastBehind P ranks at found = IsLeastFrom (λ r. P r × IsBehind ranks at r) 0 found
 
--- the loose ranks behind a place
+-- the loose ranks after a place
 pub record AreLeft (loose ranks : List ℕ) (at : ℕ) (left : List ℕ) : Type 0 where
   pub rising : AreRising left
   pub each : (r : ℕ) → Contains left r ↔ (Contains loose r × IsBehind ranks at r)

@@ -76,7 +76,7 @@ moved_at lacking chain place (Some at) =
 abbrev pub moved : Bool → Rules → RuleId → ℕ → Rules × Result (Unit {0}) ChainFault
 moved lacking chain id place = moved_at lacking chain place (place_of id chain.rules)
 
--- whether an edit was refused for want of memory
+-- whether an edit was refused for lack of memory
 abbrev pub lacks : {A : Type 0} → Result A ChainFault → Bool
 lacks (Err faults.NoMemory) = true
 lacks _ = false

@@ -4,6 +4,7 @@ pub use Rattle.lb_terms.specs.Truth
 pub use Rattle.lb_terms.specs.Limiters
 pub use Rattle.lb_wire.specs.Answer
 pub mod Fault
+pub mod Action
 pub mod Walk
 pub mod Edits
 pub mod Counting

@@ -2,6 +2,7 @@
 use Rattle.std.specs.Prelude.{◌≡◌, ℕ, ◌+◌, Bool, true, false, ◌==◌, ◌&&◌, ◌||◌, List, [], ◌∷◌, ◌++◌, map, Option, None, Some, if◌then◌else◌}
 use Rattle.std.specs.List.{All, count_by, flat_map, list_any}
 use Rattle.lb_wire.specs.declared.addr.Addr.{Addr}
+use Rattle.lb_wire.specs.declared.ids.PoolId.{PoolId}
 use Rattle.lb_wire.specs.declared.transport.Kind.{Kind}
 use Rattle.lb_wire.specs.declared.transport.Kind.TheVariants as kinds
 use Rattle.lb_wire.specs.declared.query.QueryView.{QueryView}
@@ -23,7 +24,7 @@ abbrev pub answers : QueryView → List Addr → Bool
 answers view addrs = view.qclass.0 == 1 && list_any (fits_type view.qtype.0) addrs
 
 -- the verdict of an action that ends the walk for a query of this transport
-abbrev pub ending_of : Action → QueryView → Kind → Option Verdict
+abbrev pub ending_of : Action PoolId → QueryView → Kind → Option Verdict
 ending_of actions.Allow view kind = Some verdicts.Allow
 ending_of actions.Drop view kind = Some verdicts.Drop
 ending_of (actions.Rcode rcode) view kind = Some (verdicts.Rcode rcode)
@@ -35,11 +36,11 @@ ending_of actions.None view kind = None
 ending_of actions.NoRecurse view kind = None
 ending_of actions.SkipCache view kind = None
 
-abbrev pub is_no_recurse : Action → Bool
+abbrev pub is_no_recurse : Action PoolId → Bool
 is_no_recurse actions.NoRecurse = true
 is_no_recurse _ = false
 
-abbrev pub is_skip_cache : Action → Bool
+abbrev pub is_skip_cache : Action PoolId → Bool
 is_skip_cache actions.SkipCache = true
 is_skip_cache _ = false
 
@@ -88,7 +89,7 @@ abbrev pub ending_by : Numbered → QueryView → Addr → Kind → ℕ → Opti
 ending_by n view addr kind now = if truth_of n view addr now then ending_of n.rule.action view kind else None
 
 -- whether one of the rules holds and has an action such as this
-abbrev pub one_says : (Action → Bool) → List Numbered → QueryView → Addr → ℕ → Bool
+abbrev pub one_says : (Action PoolId → Bool) → List Numbered → QueryView → Addr → ℕ → Bool
 one_says such rules view addr now = list_any (λ n. truth_of n view addr now && such n.rule.action) rules
 
 -- the passes of several rules, in order

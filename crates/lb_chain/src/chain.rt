@@ -105,7 +105,7 @@ impl Chain {
         self.rules.as_slice()
     }
 
-    /// The rules in the order of `law_of_list`, with the passes that their limiters hold. The one error is want of memory.
+    /// The rules in the order of `law_of_list`, with the passes that their limiters hold. The one error is lack of memory.
     pub fn list(&self, alloc: Global) -> Result<Vec<Listed>, AllocError>
         ensures list { IfOk result (λ list. list.items ≡ map listed_of self.now.rules) }
         // so the list determines what is seen of the rules: a law says so

@@ -21,7 +21,7 @@ pub enum ChainFault {
     /// The rules would have more than 16 rate limiters.
     #[error("there are too many rate limiters")]
     TooManyLimiters,
-    /// Memory is wanting.
+    /// Memory is lacking.
     #[error("memory is wanting")]
     NoMemory,
     /// The number 2^64-1 was given.

@@ -36,7 +36,7 @@ fn unfile_names(names: &mut SuffixIndex, set: &Names, rank: u64)
     }
 }
 
-/// Files a rank under each of these names. The one error is want of memory; none of them is left then.
+/// Files a rank under each of these names. The one error is lack of memory; none of them is left then.
 fn file_names(names: &mut SuffixIndex, set: &Names, rank: u64) -> Result<(), AllocError>
     ensures ok { OnOk result (AreWith names.old (at_names set.now rank) names.new) }
     ensures err { OnErr result (AreTakenBack names.old (at_names set.now rank) names.new) }
@@ -62,7 +62,7 @@ fn unfile_masks(masks: &mut MaskIndex, set: &[Mask], rank: u64)
     }
 }
 
-/// Files a rank under each of these masks. The one error is want of memory; none of them is left then.
+/// Files a rank under each of these masks. The one error is lack of memory; none of them is left then.
 fn file_masks(masks: &mut MaskIndex, set: &[Mask], rank: u64) -> Result<(), AllocError>
     ensures ok { OnOk result (AreWith masks.old (at_masks set.now rank) masks.new) }
     ensures err { OnErr result (AreTakenBack masks.old (at_masks set.now rank) masks.new) }
@@ -95,7 +95,7 @@ pub(crate) fn unfile(
     }
 }
 
-/// Files the rank of a selector under all that it asks first, or among the loose ones. The one error is want of memory; it is
+/// Files the rank of a selector under all that it asks first, or among the loose ones. The one error is lack of memory; it is
 /// filed nowhere then.
 pub(crate) fn file(
     names: &mut SuffixIndex,

@@ -52,7 +52,7 @@ impl RulePasses {
         self.items.as_slice()
     }
 
-    /// Equal passes. The one error is want of memory.
+    /// Equal passes. The one error is lack of memory.
     fn copy(&self, alloc: Global) -> Result<RulePasses, AllocError>
         ensures { IfOk result (λ copy. copy ≡ self.now) }
     {
@@ -78,7 +78,7 @@ pub struct Listed {
 }
 
 impl Listed {
-    /// An equal rule of the list. The one error is want of memory.
+    /// An equal rule of the list. The one error is lack of memory.
     pub fn copy(&self, alloc: Global) -> Result<Listed, AllocError>
         ensures { IfOk result (λ copy. copy ≡ self.now) }
     {
@@ -90,7 +90,7 @@ impl Listed {
     }
 }
 
-/// Puts the passes of the limiter with this number behind the others.
+/// Puts the passes of the limiter with this number after the others.
 fn list_passes(all: &mut Vec<RulePass>, limiter: u8, passes: &[Pass]) -> Result<(), AllocError>
     ensures { OnOk result (all.new.items ≡ all.old.items ++ map (λ pass. record { limiter = limiter; pass = pass }) passes.now) }
 {

@@ -64,7 +64,7 @@ impl Loose {
         self.ranks.as_slice()
     }
 
-    /// Files a rank, where it is not there already. The one error is want of memory; it leaves all as it was.
+    /// Files a rank, where it is not there already. The one error is lack of memory; it leaves all as it was.
     pub(crate) fn file(&mut self, rank: u64) -> Result<(), AllocError>
         ensures ok { OnOk result (AreWith self.old (rank ∷ []) self.new) }
         ensures err { OnErr result (self.new ≡ self.old) }

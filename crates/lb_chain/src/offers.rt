@@ -72,7 +72,7 @@ fn place_from(ranks: &[u64], at: usize, rank: u64) -> usize
     }
 }
 
-/// A rank between those before a place and those from it on, where there is one: the middle, but behind the last and
+/// A rank between those before a place and those from it on, where there is one: the middle, but after the last and
 /// before the first no further than a step away.
 fn free_rank(ranks: &[u64], place: usize) -> Option<u64>
     requires { place ≤ length ranks.now }
@@ -122,7 +122,7 @@ impl Offers {
         }
     }
 
-    /// Puts a selector at a place, under a rank that is free there. The one error is want of memory.
+    /// Puts a selector at a place, under a rank that is free there. The one error is lack of memory.
     fn put(&mut self, place: usize, rank: u64, term: &CheckedTerm) -> Result<(), AllocError>
         requires place { place ≤ vec_len self.old.ranks }
         requires free { IsFree self.old.ranks.items place rank }
@@ -155,7 +155,7 @@ impl Offers {
         Ok(offers)
     }
 
-    /// A rank that is free at a place. Where there is none, all rules get new ones. The one error is want of memory.
+    /// A rank that is free at a place. Where there is none, all rules get new ones. The one error is lack of memory.
     fn rank_at(&mut self, rules: &[Numbered], place: usize) -> Result<u64, AllocError>
         requires rules { AreOffers self.old (terms_of rules.now) }
         requires place { place ≤ length rules.now }
@@ -170,7 +170,7 @@ impl Offers {
         Ok(place as u64 * GAP + GAP / 2)
     }
 
-    /// Puts the selector of a rule more at a place among those of these rules. The one error is want of memory; no selector
+    /// Puts the selector of a rule more at a place among those of these rules. The one error is lack of memory; no selector
     /// is there more then.
     pub(crate) fn insert(
         &mut self,
@@ -265,7 +265,7 @@ impl Offers {
         lesser(loose, self.indexed_rank(ahead, here, view, addr))
     }
 
-    /// The next place of a walk whose selector may hold of a query from this address; the walk goes on behind it. It takes no
+    /// The next place of a walk whose selector may hold of a query from this address; the walk goes on after it. It takes no
     /// memory.
     pub(crate) fn next(&self, ahead: &mut Ahead<'_>, view: &QueryView, addr: &Addr) -> Option<usize>
         ensures next { (terms : List Selector) → AreOffers self.now terms → IsAhead self.now view.now addr.now ahead.old → IsNextOffered terms view.now addr.now ahead.old.at result }

@@ -16,7 +16,7 @@ use crate::numbered::Numbered;
 use crate::offers::Offers;
 use crate::walked::{Passed, PassedList, Verdict, Walked};
 use lb_terms::{CheckedTerm, Term, holds};
-use lb_wire::{Addr, Class, Kind, QueryView, RecordType, RuleId, fits_type};
+use lb_wire::{Addr, Class, Kind, PoolId, QueryView, RecordType, RuleId, fits_type};
 
 /// A query as the rules see it: its parts, the address that it came from, its transport, and the
 /// moment in milliseconds.
@@ -44,7 +44,7 @@ fn answers(view: &QueryView, addrs: &[Addr]) -> bool
 
 /// Whether an action ends the walk for a query of this transport. If so, its verdict is written
 /// where it is to stand, as a verdict has many octets; else nothing is written.
-fn ends(action: &Action, arrival: &Arrival<'_>, verdict: &mut Verdict) -> bool
+fn ends(action: &Action<PoolId>, arrival: &Arrival<'_>, verdict: &mut Verdict) -> bool
     ensures ended { IsTrue result → ending_of_action action.now arrival.now.view.now arrival.now.kind ≡ Some verdict.new }
     ensures open { result ≡ false → ending_of_action action.now arrival.now.view.now arrival.now.kind ≡ None }
     ensures unwritten { result ≡ false → verdict.new ≡ verdict.old }
@@ -71,7 +71,7 @@ fn ends(action: &Action, arrival: &Arrival<'_>, verdict: &mut Verdict) -> bool
     true
 }
 
-fn is_no_recurse(action: &Action) -> bool
+fn is_no_recurse(action: &Action<PoolId>) -> bool
     ensures { result ≡ is_no_recurse_of action.now }
 {
     match action {
@@ -80,7 +80,7 @@ fn is_no_recurse(action: &Action) -> bool
     }
 }
 
-fn is_skip_cache(action: &Action) -> bool
+fn is_skip_cache(action: &Action<PoolId>) -> bool
     ensures { result ≡ is_skip_cache_of action.now }
 {
     match action {
@@ -89,7 +89,7 @@ fn is_skip_cache(action: &Action) -> bool
     }
 }
 
-/// Puts the limiters of a rule with these numbers behind the others.
+/// Puts the limiters of a rule with these numbers after the others.
 fn add_passes(passes: &mut PassedList, rule: RuleId, limiters: &[u8])
     requires { length passes.old + length limiters.now ≤ 16 }
     ensures { passes.new ≡ passes.old ++ map (λ at. record { rule = rule; limiter = at }) limiters.now }

@@ -4,8 +4,8 @@ use Rattle.std.specs.Prelude.{codes, nat_le}
 use Rattle.lb_wire.specs.declared.addr.Addr.{Addr}
 use Rattle.lb_wire.specs.declared.rcode.Rcode.{Rcode}
 use Rattle.lb_servers.specs.declared.pool.PoolName.{PoolName}
-use Rattle.lb_step.specs.declared.command.StatedAction.{StatedAction}
-use Rattle.lb_step.specs.declared.command.StatedAction.TheVariants as actions
+use Rattle.lb_chain.specs.declared.action.Action.{Action}
+use Rattle.lb_chain.specs.declared.action.Action.TheVariants as actions
 use Rattle.lb_command.specs.Line.{Left}
 use Rattle.lb_command.specs.Reading.{due, listed, taken}
 use Rattle.lb_command.specs.Values.{addr_of, pool_of, rcode_of}
@@ -31,26 +31,26 @@ verdict_text verdicts.NoRecurse = codes "norecurse"
 verdict_text verdicts.SkipCache = codes "skipcache"
 
 -- an action that the grammar allows
-abbrev pub Acts : StatedAction → Left → Left → Type 0
+abbrev pub Acts : Action PoolName → Left → Left → Type 0
 Acts a s t = action a s t × AllowedAction a
 
-rcode_found : (line s t : Left) (y : StatedAction) → word (codes "rcode") line s → rcode_at s ≡ Ok (y, t) → Acts y line t
+rcode_found : (line s t : Left) (y : Action PoolName) → word (codes "rcode") line s → rcode_at s ≡ Ok (y, t) → Acts y line t
 unfolding rcode_at
 rcode_found line s t y w h =
     let a = word_step kinds.UnknownWord (codes "(") s _ (y, t) refl h in
     let b = says_step kinds.UnknownWord rcode_of a.1 _ (y, t) refl a.3 in
     let c = word_step kinds.UnknownWord (codes ")") b.1 _ (y, t) refl b.3 in
-    carried (λ (z : StatedAction) (u : Left). Acts z line u) (actions.Rcode b.0) y c.1 t c.3 ((s, w, (a.1, a.2, (b.1, b.2, c.2))), tt)
+    carried (λ (z : Action PoolName) (u : Left). Acts z line u) (actions.Rcode b.0) y c.1 t c.3 ((s, w, (a.1, a.2, (b.1, b.2, c.2))), tt)
 
-pool_found : (line s t : Left) (y : StatedAction) → word (codes "pool") line s → pool_at s ≡ Ok (y, t) → Acts y line t
+pool_found : (line s t : Left) (y : Action PoolName) → word (codes "pool") line s → pool_at s ≡ Ok (y, t) → Acts y line t
 unfolding pool_at
 pool_found line s t y w h =
     let a = word_step kinds.UnknownWord (codes "(") s _ (y, t) refl h in
     let b = says_step kinds.BadName pool_of a.1 _ (y, t) refl a.3 in
     let c = word_step kinds.UnknownWord (codes ")") b.1 _ (y, t) refl b.3 in
-    carried (λ (z : StatedAction) (u : Left). Acts z line u) (actions.Pool b.0) y c.1 t c.3 ((s, w, (a.1, a.2, (b.1, b.2, c.2))), tt)
+    carried (λ (z : Action PoolName) (u : Left). Acts z line u) (actions.Pool b.0) y c.1 t c.3 ((s, w, (a.1, a.2, (b.1, b.2, c.2))), tt)
 
-spoof_found : (line s t : Left) (y : StatedAction) → word (codes "spoof") line s → spoof_at s ≡ Ok (y, t) → Acts y line t
+spoof_found : (line s t : Left) (y : Action PoolName) → word (codes "spoof") line s → spoof_at s ≡ Ok (y, t) → Acts y line t
 unfolding spoof_at
 spoof_found line s t y w h =
     let a = word_step kinds.UnknownWord (codes "(") s _ (y, t) refl h in
@@ -58,13 +58,13 @@ spoof_found line s t y w h =
     let c = word_step kinds.UnknownWord (codes ")") b.1 _ (y, t) refl b.3 in
     let k = tested (nat_le 1 (length b.0) && nat_le (length b.0) 8) s (actions.Spoof b.0, c.1) (y, t) c.3 in
     let few = le_of (length b.0) 8 (both (nat_le 1 (length b.0)) (nat_le (length b.0) 8) k.0).1 in
-    carried (λ (z : StatedAction) (u : Left). Acts z line u) (actions.Spoof b.0) y c.1 t k.1 ((s, w, (a.1, a.2, (b.1, b.2, c.2))), few)
+    carried (λ (z : Action PoolName) (u : Left). Acts z line u) (actions.Spoof b.0) y c.1 t k.1 ((s, w, (a.1, a.2, (b.1, b.2, c.2))), few)
 
 -- an action that is its word
-alone : (a y : StatedAction) (line s t : Left) → Acts a line s → ◌≡◌ {A = Result (StatedAction × Left) CommandFault} (Ok (a, s)) (Ok (y, t)) → Acts y line t
-alone a y line s t w h = carried (λ (z : StatedAction) (u : Left). Acts z line u) a y s t h w
+alone : (a y : Action PoolName) (line s t : Left) → Acts a line s → ◌≡◌ {A = Result (Action PoolName × Left) CommandFault} (Ok (a, s)) (Ok (y, t)) → Acts y line t
+alone a y line s t w h = carried (λ (z : Action PoolName) (u : Left). Acts z line u) a y s t h w
 
-body_found : (v : Verdict) (line s t : Left) (y : StatedAction) → word (verdict_text v) line s → action_body v s ≡ Ok (y, t) → Acts y line t
+body_found : (v : Verdict) (line s t : Left) (y : Action PoolName) → word (verdict_text v) line s → action_body v s ≡ Ok (y, t) → Acts y line t
 body_found verdicts.Allow line s t y w h = alone actions.Allow y line s t (w, tt) h
 body_found verdicts.Drop line s t y w h = alone actions.Drop y line s t (w, tt) h
 body_found verdicts.Rcode line s t y w h = rcode_found line s t y w h
@@ -109,7 +109,7 @@ spoof_again s t addrs few h =
     rw (word_again kinds.UnknownWord (codes "(") s h.0 h.1, says_list_again kinds.BadAddress addr_of 8 h.0 h.2.0 addrs few (stops_at_close h.2.0 t h.2.2) h.2.1, word_again kinds.UnknownWord (codes ")") h.2.0 t h.2.2, of_le 1 (length addrs) (some_member addrs h.0 h.2.0 h.2.1), of_le (length addrs) 8 few) refl
 
 -- an action is read
-pub action_again : (y : StatedAction) (s t : Left) → Acts y s t → action_at s ≡ Ok (y, t)
+pub action_again : (y : Action PoolName) (s t : Left) → Acts y s t → action_at s ≡ Ok (y, t)
 action_again actions.Allow s t h = behind s t verdicts.Allow refl h.0
 action_again actions.Drop s t h = behind s t verdicts.Drop refl h.0
 action_again (actions.Rcode rcode) s t h = behind s h.0.0 verdicts.Rcode refl h.0.1 ∙ rcode_again h.0.0 t rcode h.0.2

@@ -11,8 +11,9 @@ use Rattle.lb_cache.specs.declared.cached.Covered.TheVariants as covereds
 use Rattle.lb_step.specs.declared.check.CheckSpec.{CheckSpec}
 use Rattle.lb_step.specs.declared.command.Command.{Command}
 use Rattle.lb_step.specs.declared.command.Command.TheVariants.{RuleAdd, RuleRemove, RuleMove, ServerAdd, ServerRemove, ServerMode, PoolAdd, PoolPolicy, CacheAttach, CacheDetach, Expunge, SetTimeout, Show}
-use Rattle.lb_step.specs.declared.command.StatedAction.{StatedAction}
-use Rattle.lb_step.specs.declared.command.StatedAction.TheVariants as actions
+use Rattle.lb_chain.specs.declared.action.Action.{Action}
+use Rattle.lb_chain.specs.declared.action.Action.TheVariants as actions
+use Rattle.lb_servers.specs.declared.pool.PoolName.{PoolName}
 use Rattle.lb_step.specs.declared.event.Event.{Event}
 use Rattle.lb_step.specs.declared.event.Event.TheVariants.{Query, Reply, Tick, HealthResult, Edit}
 use Rattle.lb_command.specs.Line.{Left, Seen, begins_word, in_front, is_word_byte, seen, whole, words_of}
@@ -101,7 +102,7 @@ mutual
   other_terms_keep end s t h = same s t h
   other_terms_keep (more x xs) s t h = behind_word (codes ",") (term x ▷ other_terms xs) (then_keeps (term x) (other_terms xs) (term_keeps x) (other_terms_keep xs)) s t h
 
-action_keeps : (a : StatedAction) → Keeps (action a)
+action_keeps : (a : Action PoolName) → Keeps (action a)
 action_keeps actions.Allow = word_keeps (codes "allow")
 action_keeps actions.Drop = word_keeps (codes "drop")
 action_keeps (actions.Rcode rcode) = behind_word (codes "rcode") (bracketed (says rcode_of rcode)) (bracketed_keeps (says rcode_of rcode) (says_keeps rcode_of rcode))

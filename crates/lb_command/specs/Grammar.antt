@@ -15,8 +15,8 @@ use Rattle.lb_cache.specs.Skips.{cookie, each_once}
 use Rattle.lb_step.specs.declared.check.CheckSpec.{CheckSpec}
 use Rattle.lb_step.specs.declared.command.Command.{Command}
 use Rattle.lb_step.specs.declared.command.Command.TheVariants.{RuleAdd, RuleRemove, RuleMove, ServerAdd, ServerRemove, ServerMode, PoolAdd, PoolPolicy, CacheAttach, CacheDetach, Expunge, SetTimeout, Show}
-use Rattle.lb_step.specs.declared.command.StatedAction.{StatedAction}
-use Rattle.lb_step.specs.declared.command.StatedAction.TheVariants as actions
+use Rattle.lb_chain.specs.declared.action.Action.{Action}
+use Rattle.lb_chain.specs.declared.action.Action.TheVariants as actions
 use Rattle.lb_step.specs.declared.event.Event.{Event}
 use Rattle.lb_step.specs.declared.event.Event.TheVariants.{Query, Reply, Tick, HealthResult, Edit}
 use Rattle.lb_command.specs.Line.{Left, Seen, seen, whole}
@@ -103,7 +103,7 @@ abbrev mutual
   other_terms (more member members) left rest = (word (codes ",") ▷ term member ▷ other_terms members) left rest
 
 -- ACTION = allow | drop | rcode(RCODE) | pool(PNAME) | tc | spoof(ADDR{,ADDR}) | none | norecurse | skipcache
-abbrev pub action : StatedAction → Part
+abbrev pub action : Action PoolName → Part
 action actions.Allow = word (codes "allow")
 action actions.Drop = word (codes "drop")
 action (actions.Rcode rcode) = word (codes "rcode") ▷ bracketed (says rcode_of rcode)
@@ -239,7 +239,7 @@ setup (setups.Log n) = word (codes "log") ▷ says (number_up_to 10 1000000) n
 setup (setups.Edit c) = command c
 
 -- within the limits: those of terms, eight addresses of an answer, eight pools of a server with repeats counted
-abbrev pub AllowedAction : StatedAction → Type 0
+abbrev pub AllowedAction : Action PoolName → Type 0
 AllowedAction (actions.Spoof addrs) = length addrs ≤ 8
 AllowedAction _ = Unit {0}
 

@@ -10,8 +10,8 @@ use crate::fault::{FaultKind, Unread};
 use crate::parts::{addr, pool, rcode};
 use crate::values::look_up;
 use crate::words::Words;
-use lb_chain::{Addrs, MAX_ADDRS};
-use lb_core::StatedAction;
+use lb_chain::{Action, Addrs, MAX_ADDRS};
+use lb_servers::PoolName;
 use lb_wire::Addr;
 use std::alloc::Global;
 
@@ -67,7 +67,7 @@ fn addrs(alloc: Global, words: &mut Words<'_>) -> Result<Vec<Addr>, Unread>
 
 /// `(ADDR{,ADDR})`
 #[tactic(auto, unfolding(crate::specs::Actions::spoof_at))]
-fn read_spoof(alloc: Global, words: &mut Words<'_>) -> Result<StatedAction, Unread>
+fn read_spoof(alloc: Global, words: &mut Words<'_>) -> Result<Action<PoolName>, Unread>
     ensures { Reads (λ action. action) result words.new (spoof_at words.old) }
 {
     let token = words.peek();
@@ -75,36 +75,36 @@ fn read_spoof(alloc: Global, words: &mut Words<'_>) -> Result<StatedAction, Unre
     let addrs = addrs(alloc, words)?;
     words.word(b")")?;
     match Addrs::from_slice(addrs.as_slice()) {
-        Some(addrs) => Ok(StatedAction::Spoof(addrs)),
+        Some(addrs) => Ok(Action::Spoof(addrs)),
         None => Err(token.is_too_many()),
     }
 }
 
 /// `(RCODE)`
 #[tactic(auto, unfolding(crate::specs::Actions::rcode_at))]
-fn read_rcode(words: &mut Words<'_>) -> Result<StatedAction, Unread>
+fn read_rcode(words: &mut Words<'_>) -> Result<Action<PoolName>, Unread>
     ensures { Reads (λ action. action) result words.new (rcode_at words.old) }
 {
     words.word(b"(")?;
     let rcode = rcode(words)?;
     words.word(b")")?;
-    Ok(StatedAction::Rcode(rcode))
+    Ok(Action::Rcode(rcode))
 }
 
 /// `(PNAME)`
 #[tactic(auto, unfolding(crate::specs::Actions::pool_at))]
-fn read_pool(words: &mut Words<'_>) -> Result<StatedAction, Unread>
+fn read_pool(words: &mut Words<'_>) -> Result<Action<PoolName>, Unread>
     ensures { Reads (λ action. action) result words.new (pool_at words.old) }
 {
     words.word(b"(")?;
     let pool = pool(words)?;
     words.word(b")")?;
-    Ok(StatedAction::Pool(pool))
+    Ok(Action::Pool(pool))
 }
 
 /// Takes an action.
 #[tactic(auto, unfolding(crate::specs::Actions::action_at))]
-pub(crate) fn action(alloc: Global, words: &mut Words<'_>) -> Result<StatedAction, Unread>
+pub(crate) fn action(alloc: Global, words: &mut Words<'_>) -> Result<Action<PoolName>, Unread>
     ensures { Reads (λ action. action) result words.new (action_at words.old) }
 {
     let token = words.next();
@@ -112,14 +112,14 @@ pub(crate) fn action(alloc: Global, words: &mut Words<'_>) -> Result<StatedActio
         return Err(token.fault(FaultKind::UnknownWord));
     };
     match verdict {
-        Verdict::Allow => Ok(StatedAction::Allow),
-        Verdict::Drop => Ok(StatedAction::Drop),
+        Verdict::Allow => Ok(Action::Allow),
+        Verdict::Drop => Ok(Action::Drop),
         Verdict::Rcode => read_rcode(words),
         Verdict::Pool => read_pool(words),
-        Verdict::Tc => Ok(StatedAction::Tc),
+        Verdict::Tc => Ok(Action::Tc),
         Verdict::Spoof => read_spoof(alloc, words),
-        Verdict::None => Ok(StatedAction::None),
-        Verdict::NoRecurse => Ok(StatedAction::NoRecurse),
-        Verdict::SkipCache => Ok(StatedAction::SkipCache),
+        Verdict::None => Ok(Action::None),
+        Verdict::NoRecurse => Ok(Action::NoRecurse),
+        Verdict::SkipCache => Ok(Action::SkipCache),
     }
 }

@@ -12,8 +12,8 @@ pub use laws::{
 pub use lb_step::{
     Answer, Balancer, BoxedCommand, CacheCounts, Check, CheckSpec, Command, Count, Counts,
     CountsByNumber, DropReason, EditFault, Event, FIRST_TIMEOUT, IgnoreReason, LocalReason,
-    MAX_TIMEOUT, Note, Noted, Plain, Served, ServerCounts, StatedAction, StatedRule, Tally,
-    Timeout, Totals, balancers_cross_threads, equal_snapshots_are_of_equal_states, health_follows,
+    MAX_TIMEOUT, Note, Noted, Plain, Served, ServerCounts, StatedRule, Tally, Timeout, Totals,
+    balancers_cross_threads, equal_snapshots_are_of_equal_states, health_follows,
     pools_are_found_in_routes, refusals_change_nothing, routes_follow,
 };
 pub use runs::{run, run_counted};

@@ -9,7 +9,7 @@ use lb_wire::Octets;
 use std::alloc::{AllocError, Global};
 use std::marker::Model;
 
-/// What stands in a stream behind its last whole message. A contract sees the octets. It holds what came and no room for what is
+/// What stands in a stream after its last whole message. A contract sees the octets. It holds what came and no room for what is
 /// announced.
 #[derive(Debug, Drop)]
 pub struct Framer {
@@ -43,7 +43,7 @@ impl Framer {
         self.held.len()
     }
 
-    /// What was held, followed by the piece, is divided into the messages and what is held then. The one error is want of memory, and
+    /// What was held, followed by the piece, is divided into the messages and what is held then. The one error is lack of memory, and
     /// then nothing has changed.
     pub fn feed(&mut self, piece: &[u8]) -> Result<Vec<Message>, AllocError>
         ensures divides { IfOk result (λ messages. Divides (self.old ++ piece.now) messages.items self.new) }
@@ -64,7 +64,7 @@ impl Framer {
         }
     }
 
-    /// The same, where something is held. Refused, the piece may stand behind it.
+    /// The same, where something is held. Refused, the piece may stand after it.
     fn continued(&mut self, piece: &[u8]) -> Result<Vec<Message>, AllocError>
         ensures divides { IfOk result (λ messages. Divides (self.old ++ piece.now) messages.items self.new) }
         ensures front { OnErr result (take (length self.old) self.new ≡ self.old) }
@@ -78,7 +78,7 @@ impl Framer {
     }
 }
 
-/// The messages at the front of some octets, and the place behind them. The one error is want of memory.
+/// The messages at the front of some octets, and the place after them. The one error is lack of memory.
 #[tactic(auto, using(crate::proofs::Parts::parts_more, crate::proofs::Once::all_messages))]
 fn divided(alloc: Global, bytes: &[u8]) -> Result<(Vec<Message>, usize), AllocError>
     ensures within { IfOk result (λ r. r.1 ≤ length bytes.now) }
@@ -97,7 +97,7 @@ fn divided(alloc: Global, bytes: &[u8]) -> Result<(Vec<Message>, usize), AllocEr
     }
 }
 
-/// A message of at most 65,535 octets after its length in two octets (RFC 7766 section 8). The one error is want of memory.
+/// A message of at most 65,535 octets after its length in two octets (RFC 7766 section 8). The one error is lack of memory.
 pub fn frame(alloc: Global, message: &[u8]) -> Result<Vec<u8>, AllocError>
     requires { length message.now ≤ max_message }
     ensures { IfOk result (λ octets. octets.items ≡ framed message.now) }

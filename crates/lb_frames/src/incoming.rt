@@ -9,7 +9,7 @@ use lb_wire::Octets;
 use std::alloc::{AllocError, Global};
 use std::marker::Model;
 
-/// What came of a stream and was not taken yet: whole messages, and what stands behind them. A contract sees the octets. What was
+/// What came of a stream and was not taken yet: whole messages, and what stands after them. A contract sees the octets. What was
 /// taken is dropped without moving the rest.
 #[derive(Drop)]
 pub struct Incoming {
@@ -51,7 +51,7 @@ impl Incoming {
         message_end(self.octets.as_slice(), 0).is_some()
     }
 
-    /// Puts a piece behind what is held. The one error is want of memory, and then nothing has changed.
+    /// Puts a piece after what is held. The one error is lack of memory, and then nothing has changed.
     pub fn push(&mut self, piece: &[u8]) -> Result<(), AllocError>
         ensures pushed { OnOk result (self.new ≡ self.old ++ piece.now) }
         ensures same { OnErr result (self.new ≡ self.old) }
@@ -59,7 +59,7 @@ impl Incoming {
         self.octets.extend_from_slice(piece)
     }
 
-    /// A copy of the whole message that stands in front; None where none is whole. The one error is want of memory.
+    /// A copy of the whole message that stands in front; None where none is whole. The one error is lack of memory.
     pub fn first(&self, alloc: Global) -> Result<Option<Message>, AllocError>
         ensures found { IfOk result (λ found. IfSome found (λ message. (rest : List ℕ) × (length message < 2 ^ 16) × (self.now ≡ framed message ++ rest))) }
         ensures none { IfOk result (λ found. IfNone found (NoneWhole self.now)) }

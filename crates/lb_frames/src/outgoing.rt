@@ -51,7 +51,7 @@ impl Outgoing {
         self.octets.len()
     }
 
-    /// Puts these octets behind the others. The one error is want of memory, and then nothing has changed.
+    /// Puts these octets after the others. The one error is lack of memory, and then nothing has changed.
     pub fn push(&mut self, octets: &[u8]) -> Result<(), AllocError>
         ensures pushed { OnOk result (self.new ≡ self.old ++ octets.now) }
         ensures same { OnErr result (self.new ≡ self.old) }
@@ -59,7 +59,7 @@ impl Outgoing {
         self.octets.extend_from_slice(octets)
     }
 
-    /// Puts a message of at most 65,535 octets behind the others, after its length (RFC 7766 section 8). The one error is want of memory, and then
+    /// Puts a message of at most 65,535 octets after the others, after its length (RFC 7766 section 8). The one error is lack of memory, and then
     /// nothing has changed.
     pub fn push_framed(&mut self, message: &[u8]) -> Result<(), AllocError>
         requires { length message.now ≤ max_message }

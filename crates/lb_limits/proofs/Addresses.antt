@@ -75,7 +75,7 @@ less_differs a b less = addr_ties a b ∙ less_not_equal (cmp_addr a b) less
 pub less_differs_back : (a b : Addr) → is_lt (cmp_addr a b) ≡ true → same_addr b a ≡ false
 less_differs_back a b less = addr_ties b a ∙ ap is_eq (addr_antisymm b a) ∙ less_not_back (cmp_addr a b) less
 
--- one that is neither before another one nor the same is behind it
+-- one that is neither before another one nor the same is after it
 pub behind : (a b : Addr) → is_lt (cmp_addr a b) ≡ false → same_addr b a ≡ false → is_lt (cmp_addr b a) ≡ true
 behind a b fails differs =
     let test : is_eq (ordering_reverse (cmp_addr a b)) ≡ false = ap is_eq (sym (addr_antisymm b a)) ∙ sym (addr_ties b a) ∙ differs in

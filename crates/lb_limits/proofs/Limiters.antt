@@ -17,7 +17,7 @@ use Rattle.lb_limits.specs.Moments.{is_recent, ends_recent}
 use Rattle.lb_limits.specs.Buckets.{IsRated, Keeps, Leaves, free_of, held_at, live_count, many, pass_of}
 use Rattle.lb_limits.specs.Limiter.{IsLatest, IsRoom, IsLimiter}
 use Rattle.lb_limits.specs.Ticks.{HasRoom, IsTally, Rises, address_count, live_at, moments_of}
-use Rattle.lb_limits.specs.declared.ticks.Tick.{Tick}
+use Rattle.lb_limits.specs.declared.ticks.LastPasses.{LastPasses}
 use Rattle.lb_limits.specs.declared.ticks.Ticks.{Ticks}
 use Rattle.lb_limits.proofs.Keeps.{held_later}
 use Rattle.lb_limits.proofs.Rated.{held_few, rated_later}
@@ -86,12 +86,12 @@ module _ (qps v4 v6 m : ℕ) (bs cs : List Bucket) (ticks wider : Ticks) (reserv
   wider_latest : IsLatest m wider bs
   wider_latest = record {
     tally = record {
-      order = subst (λ (ts : List Tick). Rises (moments_of ts)) (sym same) is.ends.tally.order;
-      few = omega (arith, ap (λ (ts : List Tick). length ts) same, is.ends.tally.few);
+      order = subst (λ (ts : List LastPasses). Rises (moments_of ts)) (sym same) is.ends.tally.order;
+      few = omega (arith, ap (λ (ts : List LastPasses). length ts) same, is.ends.tally.few);
       total = total ∙ is.ends.tally.total ∙ sym (ap address_count same);
       crowd = omega (arith, total, is.ends.tally.crowd);
     };
-    past = subst (λ (ts : List Tick). All (λ x. x ≤ m) (moments_of ts)) (sym same) is.ends.past;
+    past = subst (λ (ts : List LastPasses). All (λ x. x ≤ m) (moments_of ts)) (sym same) is.ends.past;
     live = λ now le. ap (live_at now) same ∙ is.ends.live now le;
   }
 
@@ -109,7 +109,7 @@ module _ (qps v4 v6 m : ℕ) (bs cs : List Bucket) (ticks wider : Ticks) (reserv
   }
 
   module _ (keeps : Keeps m bs cs) (rated : All (IsRated qps m) cs) (longer : length cs ≤ length bs + 1) (rooms : (key : Addr) → 0 < free_of key bs → 0 < free_of key cs) where
-    -- one that is refused behind that
+    -- one that is refused after that
     pub refused_limiter : IsLimiter qps v4 v6 m cs wider reserved
     refused_limiter = record {
       rate = is.rate;

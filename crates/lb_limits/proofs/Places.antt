@@ -34,7 +34,7 @@ place_is key bs place within point = record {
   above = all_dropped (λ b. is_below key b ≡ false) bs place point.1;
 }
 
--- an address's bucket, those before it and those behind it
+-- an address's bucket, those before it and those after it
 pub record Stands (key : Addr) (front : List Bucket) (b : Bucket) (back : List Bucket) : Type 0 where
   pub same : key ≡ b.source
   pub below : All (λ c. is_lt (cmp_addr c.source key) ≡ true) front
@@ -63,7 +63,7 @@ stands_at key bs place d ascends at lt found =
       above = λ k e lt. subst (λ (a : Addr). is_lt (cmp_addr a (get_or back k e).source) ≡ true) (sym is) (rest k e lt);
     }
 
--- where an address has no bucket, those from its place on are behind it
+-- where an address has no bucket, those from its place on are after it
 pub stands_before : (key : Addr) (bs : List Bucket) → Ascends bs → All (λ b. is_below key b ≡ false) bs → begins key bs ≡ false → All (λ b. is_lt (cmp_addr key b.source) ≡ true) bs
 stands_before key [] ascends above new = All-nil (λ (b : Bucket). is_lt (cmp_addr key b.source) ≡ true)
 stands_before key (b ∷ bs) ascends above new =

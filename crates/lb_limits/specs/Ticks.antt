@@ -1,29 +1,29 @@
 -- The milliseconds in which addresses had their last passes, each with how many addresses had them then.
 use Rattle.std.specs.Prelude.{◌≡◌, ℕ, ◌<◌, ◌≤◌, List, length, map, take, drop, vec_len, vec_capacity, if◌then◌else◌}
 use Rattle.std.specs.List.{sum_by, All, AllPairs}
-use Rattle.lb_limits.specs.declared.ticks.Tick.{Tick}
+use Rattle.lb_limits.specs.declared.ticks.LastPasses.{LastPasses}
 use Rattle.lb_limits.specs.declared.ticks.Ticks.{Ticks}
 use Rattle.lb_limits.specs.Moments.{is_recent}
 use Rattle.lb_limits.specs.Window.{max_live}
 
 -- the moments of ticks
-abbrev pub moments_of : List Tick → List ℕ
-moments_of ticks = map (λ (tick : Tick). tick.moment) ticks
+abbrev pub moments_of : List LastPasses → List ℕ
+moments_of ticks = map (λ (tick : LastPasses). tick.moment) ticks
 
 -- the addresses of a tick
-abbrev pub addresses_in : Tick → ℕ
+abbrev pub addresses_in : LastPasses → ℕ
 addresses_in tick = tick.addresses
 
 -- the addresses of all ticks together
-abbrev pub address_count : List Tick → ℕ
+abbrev pub address_count : List LastPasses → ℕ
 address_count ticks = sum_by addresses_in ticks
 
 -- how many addresses of a tick are live
-abbrev pub live_in : ℕ → Tick → ℕ
+abbrev pub live_in : ℕ → LastPasses → ℕ
 live_in now tick = if is_recent now tick.moment then tick.addresses else 0
 
 -- how many addresses are live
-abbrev pub live_at : ℕ → List Tick → ℕ
+abbrev pub live_at : ℕ → List LastPasses → ℕ
 live_at now ticks = sum_by (live_in now) ticks
 
 -- so many milliseconds count

@@ -56,7 +56,7 @@ abbrev pub matches : Limits → Addr → ℕ → Bool
 matches l addr now =
     nat_le l.qps (in_window (source_of l addr) now l.passes) || (in_window (source_of l addr) now l.passes == 0 && nat_le max_live (live_of (source_of l addr) now l.passes))
 
--- with a pass at its place in the order, behind those equal to it
+-- with a pass at its place in the order, after those equal to it
 abbrev pub put_pass : Pass → List Pass → List Pass
 put_pass pass passes = insert passes (unwrap_or (position (is_before pass) passes) (length passes)) pass
 

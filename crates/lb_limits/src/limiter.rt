@@ -135,7 +135,7 @@ impl Limiter {
         let _moment = self.moment;
     }
 
-    /// The passes that it holds, in the order of `law_of_list`. The one error is want of memory.
+    /// The passes that it holds, in the order of `law_of_list`. The one error is lack of memory.
     pub fn list(&self, alloc: Global) -> Result<Vec<Pass>, AllocError>
         ensures { IfOk result (λ list. list.items ≡ self.now.passes) }
     {

@@ -12,7 +12,7 @@ use std::alloc::{AllocError, Global};
 
 /// A millisecond in which addresses had their last passes.
 #[derive(Clone, Copy, Debug)]
-pub(crate) struct Tick {
+pub(crate) struct LastPasses {
     pub(crate) moment: u64,
     // How many addresses.
     pub(crate) addresses: u32,
@@ -21,7 +21,7 @@ pub(crate) struct Tick {
 /// Such milliseconds, each once, ascending.
 #[derive(Debug, Drop)]
 pub(crate) struct Ticks {
-    pub(crate) list: Vec<Tick>,
+    pub(crate) list: Vec<LastPasses>,
     // The addresses of all of them together.
     pub(crate) total: u32,
 }
@@ -102,7 +102,7 @@ impl Ticks {
             self.list[place].addresses += 1;
         } else {
             self.list
-                .push(Tick {
+                .push(LastPasses {
                     moment: now,
                     addresses: 1,
                 })
@@ -145,7 +145,7 @@ impl Ticks {
 }
 
 /// The place of a moment.
-fn place_of(ticks: &[Tick], moment: u64) -> usize
+fn place_of(ticks: &[LastPasses], moment: u64) -> usize
     requires { Rises (moments_of ticks.now) }
     ensures { IsTickPlace moment result (moments_of ticks.now) }
 {
@@ -153,7 +153,7 @@ fn place_of(ticks: &[Tick], moment: u64) -> usize
 }
 
 /// The place of the first one that counts.
-fn recent_from(ticks: &[Tick], now: u64) -> usize
+fn recent_from(ticks: &[LastPasses], now: u64) -> usize
     requires { Rises (moments_of ticks.now) }
     ensures within { result ≤ length ticks.now }
     ensures rest { drop result ticks.now ≡ filter (λ tick. is_recent now tick.moment) ticks.now }
@@ -162,7 +162,7 @@ fn recent_from(ticks: &[Tick], now: u64) -> usize
 }
 
 /// How many addresses had their last passes in milliseconds that no longer count.
-fn out_of(ticks: &[Tick], now: u64) -> u32
+fn out_of(ticks: &[LastPasses], now: u64) -> u32
     requires order { Rises (moments_of ticks.now) }
     requires fits { address_count ticks.now ≤ max_live }
     ensures { result + live_at now ticks.now ≡ address_count ticks.now }

@@ -3,9 +3,10 @@
 //! looked at in each function that names it.
 
 use crate::events::{query, rule_for_all};
-use lb_chain::ChainFault;
-use lb_core::{Answer, EditFault, Event, StatedAction};
+use lb_chain::{Action, ChainFault};
+use lb_core::{Answer, EditFault, Event};
 use lb_desk::{Desk, DeskFault, Naming, Seat};
+use lb_servers::PoolName;
 use std::alloc::Global;
 use std::sync::Wait;
 use std::sync::atomic::{AtomicBool, Ordering};
@@ -102,7 +103,7 @@ pub(crate) fn is_done<C: Calls, R: Wait + Clock + Eprint>(
         Caller::Asks(count) => has_asked(alloc, calls, count),
         Caller::AsksAgain => has_asked_again(rt, alloc, calls),
         Caller::Edits(count) => has_edited(alloc, calls, count),
-        Caller::Drops => has_ruled(alloc, calls, 1, StatedAction::Drop),
+        Caller::Drops => has_ruled(alloc, calls, 1, Action::Drop),
         Caller::Waits(true) => has_waited(rt, calls, &flags.first, &flags.second),
         Caller::Waits(false) => has_waited(rt, calls, &flags.second, &flags.first),
     }
@@ -172,8 +173,8 @@ pub(crate) fn is_wanting(answer: &Answer) -> bool {
 
 fn has_edited<C: Calls>(alloc: Global, calls: &mut C, count: u64) -> bool {
     for now in 0..count {
-        if !(has_ruled(alloc, calls, now, StatedAction::None)
-            || has_ruled(alloc, calls, now, StatedAction::None))
+        if !(has_ruled(alloc, calls, now, Action::None)
+            || has_ruled(alloc, calls, now, Action::None))
         {
             return false;
         }
@@ -185,7 +186,7 @@ pub(crate) fn has_ruled<C: Calls>(
     alloc: Global,
     calls: &mut C,
     now: u64,
-    action: StatedAction,
+    action: Action<PoolName>,
 ) -> bool {
     match rule_for_all(alloc, now, action) {
         Some(event) => suffices(calls, event),

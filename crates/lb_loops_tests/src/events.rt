@@ -1,6 +1,8 @@
 //! Events for calls.
 
-use lb_core::{BoxedCommand, Command, Event, StatedAction, StatedRule};
+use lb_chain::Action;
+use lb_core::{BoxedCommand, Command, Event, StatedRule};
+use lb_servers::PoolName;
 use lb_terms::Term;
 use lb_wire::{Addr, Kind, Octets, Origin};
 use std::alloc::{AllocError, Global};
@@ -26,7 +28,7 @@ pub(crate) fn query(alloc: Global, now: u64) -> Result<Event, AllocError> {
 }
 
 /// The edit that adds a rule for every query.
-pub(crate) fn rule_for_all(alloc: Global, now: u64, action: StatedAction) -> Option<Event> {
+pub(crate) fn rule_for_all(alloc: Global, now: u64, action: Action<PoolName>) -> Option<Event> {
     let term = Term::All.checked().ok()?;
     let command = Command::RuleAdd(None, StatedRule { term, action });
     Some(Event::Edit {

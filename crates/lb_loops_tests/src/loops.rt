@@ -2,7 +2,8 @@
 //! streams, and the clock.
 
 use crate::callers::{AtDesk, has_ruled, is_raised};
-use lb_core::{Answer, Event, StatedAction};
+use lb_chain::Action;
+use lb_core::{Answer, Event};
 use lb_desk::{Desk, DeskFault, Naming, Seat, desks_cross_threads};
 use lb_loops::{
     ClockParts, Connections, Datagram, DatagramParts, Ended, Endpoint, Gate, LoopFault, Outbox,
@@ -295,7 +296,7 @@ fn is_ruled<J: Naming, R: Wait>(
 ) -> bool {
     match seats.first_mut() {
         Some(seat) => {
-            let refused = StatedAction::Rcode(Rcode::Refused);
+            let refused = Action::Rcode(Rcode::Refused);
             has_ruled(alloc, &mut AtDesk { rt, desk, seat }, 0, refused)
         }
         None => false,

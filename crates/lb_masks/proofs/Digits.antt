@@ -8,7 +8,7 @@ use Rattle.std.specs.List.{list_all}
 use Rattle.std.specs.Char.{digit_value, is_digit}
 use Rattle.std.specs.Str.Parse.{digits_value_after}
 
--- the number that a text spells behind the digits of another
+-- the number that a text spells after the digits of another
 abbrev pub rest_up_to : ℕ → ℕ → ℕ → List ℕ → Option ℕ
 rest_up_to radix most n text =
     if list_all (λ b. is_digit b radix) text && nat_le (digits_value_after radix n text) most then Some (digits_value_after radix n text) else None

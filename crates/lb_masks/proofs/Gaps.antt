@@ -51,7 +51,7 @@ gap_none i text past =
       | inr out ↦ ap gap_place (drop_all i text out)
     ]
 
--- octets before and behind, put over zeros
+-- octets before and after, put over zeros
 pub over_zeros : (a b front back zeros : List ℕ) → front ≡ a → back ≡ b → zeros ≡ replicate 16 0 → length a + length b ≤ 16 → take (16 - length b) (front ++ drop (length a) zeros) ++ (back ++ drop (16 - (16 - length b)) (drop (16 - length b) (front ++ drop (length a) zeros))) ≡ a ++ replicate (16 - length a - length b) 0 ++ b
 over_zeros a b front back zeros front_is back_is zeros_is fits =
     let free : ℕ = 16 - length a in

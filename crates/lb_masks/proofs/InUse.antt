@@ -17,7 +17,7 @@ any_turned : (xs : List ℕ) (y : ℕ) → list_any (nat_eq y) xs ≡ list_any (
 any_turned [] y = refl
 any_turned (x ∷ xs) y = ap (λ (t : Bool). t || list_any (nat_eq y) xs) (nat_eq_equiv.symm y x) ∙ ap (λ (t : Bool). nat_eq x y || t) (any_turned xs y)
 
--- a kind that is not there is put behind the others
+-- a kind that is not there is put after the others
 pub once_more : (xs ys : List ℕ) (y : ℕ) → ys ≡ xs ++ y ∷ [] → list_any (λ z. nat_eq z y) xs ≡ false → IsDistinct nat_eq xs → IsDistinct nat_eq ys
 once_more xs ys y is none once = subst (λ (zs : List ℕ). IsDistinct nat_eq zs) (sym is) (IsDistinct-push nat_eq_equiv xs y once (any_turned xs y ∙ none))
 

@@ -17,7 +17,7 @@ pieces_open form a left rest text mark piece whole is left_is mark_is cut =
     let pieces : cut_at (mark_of form) text.now ≡ piece ∷ pieces_left (mark_of form) rest = rw mark_is at cut in
     sym (ap (λ (some : Option (Bor (List ℕ))). joined (Some a) (all_octets form (pieces_left (mark_of form) some))) left_is ∙ ap (λ (all : List (List ℕ)). joined (Some a) (all_octets form all)) pieces) ∙ is
 
--- a piece that is put behind the others
+-- a piece that is put after the others
 pub pieces_more : (a new : List ℕ) (b c whole : Option (List ℕ)) → joined (Some a) (joined b c) ≡ whole → joined (Some a) b ≡ Some new → joined (Some new) c ≡ whole
 pieces_more a new b c whole is pushed = ap (λ (front : Option (List ℕ)). joined front c) (sym pushed) ∙ sym (join_on a b c) ∙ is
 

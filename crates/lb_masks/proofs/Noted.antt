@@ -6,18 +6,18 @@ use Rattle.std.proofs.lemmas.Bool.{cases_Bool, eqb-true, ltb-false}
 use Rattle.std.proofs.lemmas.List.{map-append}
 use Rattle.std.proofs.lemmas.List.Quantifiers.{position-Some}
 use Rattle.lb_masks.specs.Kinds.{numbers}
-use Rattle.lb_masks.specs.declared.kinds.Kind.{Kind}
+use Rattle.lb_masks.specs.declared.kinds.MaskKind.{MaskKind}
 use Rattle.lb_masks.proofs.Pairs.{cons_cases, cons_here, cons_there, none_there}
 
 -- whether a kind has a number
-abbrev pub is_number : ℕ → Kind → Bool
+abbrev pub is_number : ℕ → MaskKind → Bool
 is_number number kind = kind.number == number
 
 -- what a search for a number finds has it
-pub found_number : (kinds : List Kind) (number place : ℕ) (d : Kind) → position (is_number number) kinds ≡ Some place → (get_or kinds place d).number ≡ number
+pub found_number : (kinds : List MaskKind) (number place : ℕ) (d : MaskKind) → position (is_number number) kinds ≡ Some place → (get_or kinds place d).number ≡ number
 found_number kinds number place d is = eqb-true (get_or kinds place d).number number (position-Some (is_number number) kinds place d is).1
 
-beyond : (number : ℕ) (kinds : List Kind) → length kinds ≤ position_or_len (is_number number) kinds → list_any (λ z. nat_eq z number) (numbers kinds) ≡ false
+beyond : (number : ℕ) (kinds : List MaskKind) → length kinds ≤ position_or_len (is_number number) kinds → list_any (λ z. nat_eq z number) (numbers kinds) ≡ false
 beyond number [] far = refl
 beyond number (k ∷ kinds) far =
     elim (cases_Bool (k.number == number)) [
@@ -28,24 +28,24 @@ beyond number (k ∷ kinds) far =
     ]
 
 -- and where it finds none, none has it
-pub no_number : (kinds : List Kind) (number : ℕ) → position (is_number number) kinds ≡ None → list_any (λ z. nat_eq z number) (numbers kinds) ≡ false
+pub no_number : (kinds : List MaskKind) (number : ℕ) → position (is_number number) kinds ≡ None → list_any (λ z. nat_eq z number) (numbers kinds) ≡ false
 no_number kinds number none =
     elim (cases_Bool (nat_lt (position_or_len (is_number number) kinds) (length kinds))) [
       | inl there ↦ absurd (let some : position (is_number number) kinds ≡ Some (position_or_len (is_number number) kinds) = rw there refl in cc)
       | inr far ↦ beyond number kinds (omega (arith, ltb-false (position_or_len (is_number number) kinds) (length kinds) far))
     ]
 
-pub number_has : (kinds : List Kind) (k : Kind) → Contains kinds k → Contains (numbers kinds) k.number
+pub number_has : (kinds : List MaskKind) (k : MaskKind) → Contains kinds k → Contains (numbers kinds) k.number
 number_has [] k has = absurd (none_there k has)
 number_has (j ∷ kinds) k has =
     elim (cons_cases j kinds k has) [
-      | inl same ↦ subst (λ (x : Kind). Contains (numbers (j ∷ kinds)) x.number) same (cons_here j.number (numbers kinds))
+      | inl same ↦ subst (λ (x : MaskKind). Contains (numbers (j ∷ kinds)) x.number) same (cons_here j.number (numbers kinds))
       | inr there ↦ cons_there j.number (numbers kinds) k.number (number_has kinds k there)
     ]
 
 -- a kind that is there stands for one of its number
-pub numbers_set : (kinds : List Kind) (place : ℕ) (k d : Kind) → k.number ≡ (get_or kinds place d).number → numbers (set kinds place k) ≡ numbers kinds
-numbers_set kinds place k d same = map-set_same (λ (x : Kind). x.number) kinds place k d same
+pub numbers_set : (kinds : List MaskKind) (place : ℕ) (k d : MaskKind) → k.number ≡ (get_or kinds place d).number → numbers (set kinds place k) ≡ numbers kinds
+numbers_set kinds place k d same = map-set_same (λ (x : MaskKind). x.number) kinds place k d same
 
 -- so the numbers are those that were there
 pub noted_same : (xs ys : List ℕ) (number : ℕ) → ys ≡ xs → Contains xs number → (k : ℕ) → Contains ys k ↔ ((k ≡ number) ⊎ Contains xs k)
@@ -87,6 +87,6 @@ noted_more xs ys number is k = (
   ],
 )
 
-pub numbers_push : (kinds new : List Kind) (k : Kind) (number : ℕ) → new ≡ kinds ++ k ∷ [] → k.number ≡ number → numbers new ≡ numbers kinds ++ number ∷ []
+pub numbers_push : (kinds new : List MaskKind) (k : MaskKind) (number : ℕ) → new ≡ kinds ++ k ∷ [] → k.number ≡ number → numbers new ≡ numbers kinds ++ number ∷ []
 numbers_push kinds new k number is same =
-    ap numbers is ∙ map-append (λ (x : Kind). x.number) kinds (k ∷ []) ∙ ap (λ (n : ℕ). numbers kinds ++ n ∷ []) same
+    ap numbers is ∙ map-append (λ (x : MaskKind). x.number) kinds (k ∷ []) ∙ ap (λ (n : ℕ). numbers kinds ++ n ∷ []) same

@@ -14,7 +14,7 @@ cut_at mark text = slice_split (λ b. b == mark) text
 abbrev pub before : ℕ → List ℕ → List ℕ
 before mark text = before_first (λ b. b == mark) text
 
--- what stands behind the first mark, where there is one
+-- what stands after the first mark, where there is one
 abbrev pub behind : ℕ → List ℕ → Option (List ℕ)
 behind mark text = option_map (λ place. drop (place + 1) text) (position (λ b. b == mark) text)
 

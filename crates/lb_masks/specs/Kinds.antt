@@ -8,10 +8,10 @@ use Rattle.lb_ranks.specs.Filed.{filed_at, IsFiledAt}
 use Rattle.lb_masks.specs.Bits.{octets_of}
 use Rattle.lb_masks.specs.Key.{HasOctets, IsMask, kind_at, key_of}
 use Rattle.lb_masks.specs.Marks.{mark_at, HasMark}
-use Rattle.lb_masks.specs.declared.kinds.Kind.{Kind}
+use Rattle.lb_masks.specs.declared.kinds.MaskKind.{MaskKind}
 
 -- the numbers of kinds
-abbrev pub numbers : List Kind → List ℕ
+abbrev pub numbers : List MaskKind → List ℕ
 numbers kinds = map (λ k. k.number) kinds
 
 -- a rank is filed under a key of this kind
@@ -28,20 +28,20 @@ abbrev pub mark_of : Prefix → ℕ
 mark_of mask = mark_at mask.len (octets_of mask.network)
 
 -- one of the kinds has this number and this mark
-abbrev pub HasMarked : List Kind → ℕ → ℕ → Type 0
-HasMarked kinds number mark = (k : Kind) × Contains kinds k × (k.number ≡ number) × HasMark k.marks mark
+abbrev pub HasMarked : List MaskKind → ℕ → ℕ → Type 0
+HasMarked kinds number mark = (k : MaskKind) × Contains kinds k × (k.number ≡ number) × HasMark k.marks mark
 
 -- the kind has the mark now, and all kinds have the marks that they had
-pub record IsNoted (old : List Kind) (number mark : ℕ) (new : List Kind) : Type 0 where
+pub record IsNoted (old : List MaskKind) (number mark : ℕ) (new : List MaskKind) : Type 0 where
   pub own : HasMarked new number mark
   pub kept : (n m : ℕ) → HasMarked old n m → HasMarked new n m
 
 -- all kinds have the marks that they had, but for one of which no rank is filed
-abbrev pub KeepsMarks : List Kind → ℕ → List Filed → List Kind → Type 0
+abbrev pub KeepsMarks : List MaskKind → ℕ → List Filed → List MaskKind → Type 0
 KeepsMarks old number items new = (n m : ℕ) → ((n ≡ number → ⊥) ⊎ HasKind items number) → HasMarked old n m → HasMarked new n m
 
 -- each mask under which a rank is filed has its mark at its kind
-abbrev pub AreMarked : List Kind → List Filed → Type 0
+abbrev pub AreMarked : List MaskKind → List Filed → Type 0
 AreMarked kinds items = (mask : Prefix) (rank : ℕ) → IsMask mask → IsFiledAt items (key_of mask) rank → HasMarked kinds (kind_at mask.network mask.len) (mark_of mask)
 
 -- the mark is that of the network of the address under the length of this kind
@@ -53,11 +53,11 @@ pub record IsMarkOver (number : ℕ) (addr : Addr) (mark : ℕ) : Type 0 where
   pub is : mark ≡ mark_at len (octets_of addr)
 
 -- the rank is filed under a mask of this kind, and with a mark of it, that covers the address
-abbrev pub IsOfKind : List Filed → Addr → Kind → ℕ → Type 0
+abbrev pub IsOfKind : List Filed → Addr → MaskKind → ℕ → Type 0
 IsOfKind items addr kind rank =
     (mask : Prefix) × IsMask mask × (kind.number ≡ kind_at mask.network mask.len) × Covers mask addr × IsFiledAt items (key_of mask) rank × HasMark kind.marks (mark_of mask)
 
 -- or of one of these kinds
-abbrev pub IsOfKinds : List Filed → Addr → List Kind → ℕ → Type 0
+abbrev pub IsOfKinds : List Filed → Addr → List MaskKind → ℕ → Type 0
 IsOfKinds items addr [] rank = ⊥
 IsOfKinds items addr (kind ∷ kinds) rank = IsOfKind items addr kind rank ⊎ IsOfKinds items addr kinds rank

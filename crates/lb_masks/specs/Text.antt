@@ -56,7 +56,7 @@ abbrev pub with_length : Addr → Option ℕ → Result Prefix MaskFault
 with_length addr None = Err BadLength
 with_length addr (Some len) = Ok (prefix_of len addr)
 
--- the prefix of an address and the text behind a `/`; with no `/` all bits count
+-- the prefix of an address and the text after a `/`; with no `/` all bits count
 abbrev pub with_digits : Option Addr → Option (List ℕ) → Result Prefix MaskFault
 with_digits None digits = Err BadAddress
 with_digits (Some addr) None = Ok (prefix_of (width addr) addr)

@@ -52,7 +52,7 @@ fn side(text: &[u8]) -> Option<ArrayVec<u8, MAX_OCTETS>>
     spelled(text, Form::Colons)
 }
 
-/// The address of the octets before and behind a `::`, with zeros between them. None where no group is left for it.
+/// The address of the octets before and after a `::`, with zeros between them. None where no group is left for it.
 fn filled(before: &[u8], behind: &[u8]) -> Option<Addr>
     ensures { result ≡ filled (Some before.now) (Some behind.now) }
 {
@@ -65,7 +65,7 @@ fn filled(before: &[u8], behind: &[u8]) -> Option<Addr>
     Some(Addr::V6(octets))
 }
 
-/// The address of the groups before and behind a `::`.
+/// The address of the groups before and after a `::`.
 fn around(before: &[u8], behind: &[u8]) -> Option<Addr>
     ensures { result ≡ filled (side before.now) (side behind.now) }
 {

@@ -11,7 +11,7 @@ pub enum MaskFault {
     /// What stands before the first `/` is no address.
     #[error("the address is malformed")]
     BadAddress,
-    /// What stands behind it is no number, or one over the bits of the address.
+    /// What stands after it is no number, or one over the bits of the address.
     #[error("the length is no number of bits of the address")]
     BadLength,
 }

@@ -38,7 +38,7 @@ fn first_mark(text: &[u8], mark: u8) -> Option<usize>
     text.iter().position(|byte| *byte == mark)
 }
 
-/// The text up to its first mark, and what stands behind that mark, where there is one.
+/// The text up to its first mark, and what stands after that mark, where there is one.
 pub(crate) fn first_piece(text: &[u8], mark: u8) -> (&[u8], Option<&[u8]>)
     ensures before { result.0.now ≡ before mark text.now }
     ensures behind { option_map (λ rest. rest.now) result.1 ≡ behind mark text.now }

@@ -108,7 +108,7 @@ impl Group {
     }
 
     /// Has the masks found by an index from now on, where they are more than 16 for each length that they have. Nothing that is
-    /// seen changes. The one error is want of memory.
+    /// seen changes. The one error is lack of memory.
     pub fn index(&mut self) -> Result<(), AllocError>
         ensures { self.new ≡ self.old }
     {

@@ -6,7 +6,7 @@ ghost use Rattle.lb_masks.specs.Index.{pair_of, ArePairsInOrder, HaveSame, IsFil
 ghost use Rattle.lb_masks.specs.Kinds.{IsOfKind, IsOfKinds};
 
 use crate::key::{key_of, key_over, kind_of, mark_of, mark_over};
-use crate::kinds::{Kind, forget_unused, note};
+use crate::kinds::{MaskKind, forget_unused, note};
 use crate::mask::Mask;
 use lb_ranks::{Ranks, lesser};
 use lb_wire::Addr;
@@ -19,7 +19,7 @@ use std::marker::Model;
 pub struct MaskIndex {
     ranks: Ranks,
     // The kinds of mask that are in use: a look is made for each that has the mark of the address.
-    kinds: Vec<Kind>,
+    kinds: Vec<MaskKind>,
 }
 
 impl Model for MaskIndex {
@@ -38,7 +38,7 @@ impl Model for MaskIndex {
 
 /// The least rank at or after a rank that is filed under a mask of this kind that covers the address. It looks for one only where
 /// the kind has the mark of the address.
-fn next_of_kind(ranks: &Ranks, addr: &Addr, kind: &Kind, from: u64) -> Option<u64>
+fn next_of_kind(ranks: &Ranks, addr: &Addr, kind: &MaskKind, from: u64) -> Option<u64>
     ensures { IsLeastFrom (IsOfKind ranks.now addr.now kind.now) from result }
 {
     let mark = mark_over(kind.number, addr)?;
@@ -50,7 +50,7 @@ fn next_of_kind(ranks: &Ranks, addr: &Addr, kind: &Kind, from: u64) -> Option<u6
 }
 
 /// The least rank at or after a rank that is filed under a mask of one of these kinds that covers the address.
-fn next_of_kinds(ranks: &Ranks, addr: &Addr, kinds: &[Kind], from: u64) -> Option<u64>
+fn next_of_kinds(ranks: &Ranks, addr: &Addr, kinds: &[MaskKind], from: u64) -> Option<u64>
     ensures { IsLeastFrom (IsOfKinds ranks.now addr.now kinds.now) from result }
 {
     let mut best = None;
@@ -76,7 +76,7 @@ impl MaskIndex {
         self.kinds.len()
     }
 
-    /// Files a rank under a mask, where it is not filed there already. The one error is want of memory; it leaves the
+    /// Files a rank under a mask, where it is not filed there already. The one error is lack of memory; it leaves the
     /// index as it was.
     pub fn file(&mut self, mask: &Mask, rank: u64) -> Result<(), AllocError>
         ensures ok { OnOk result (IsFiledWith self.old (pair_of mask.now rank) self.new) }

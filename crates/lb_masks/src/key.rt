@@ -142,7 +142,7 @@ pub(crate) fn mark_over(kind: u8, addr: &Addr) -> Option<u8>
     Some(mark_at(octets_of(addr), length))
 }
 
-/// A kind and the octets behind it.
+/// A kind and the octets after it.
 fn key_at(kind: u8, network: &Addr) -> MaskKey
     ensures { result ≡ kind ∷ octets_of network.now }
 {

@@ -14,17 +14,17 @@ const WORD: u8 = 64;
 /// A kind of mask that is in use, and marks of the networks of its masks: where the mark of a network is not among them, no mask of
 /// the kind has that network. A mark stays when its mask goes, and costs a look then; with the last mask of the kind all go.
 #[derive(Clone, Copy, Debug)]
-pub(crate) struct Kind {
+pub(crate) struct MaskKind {
     pub(crate) number: u8,
     pub(crate) marks: [u64; 4],
 }
 
-impl Kind {
+impl MaskKind {
     /// A kind with no mark.
-    fn new(number: u8) -> Kind
+    fn new(number: u8) -> MaskKind
         ensures { result.number ≡ number }
     {
-        Kind {
+        MaskKind {
             number,
             marks: [0; 4],
         }
@@ -38,14 +38,14 @@ impl Kind {
     }
 
     /// The kind with one mark more.
-    fn with(self, mark: u8) -> Kind
+    fn with(self, mark: u8) -> MaskKind
         ensures number { result.number ≡ self.number }
         ensures own { HasMark result.marks mark }
         ensures kept { (m : ℕ) → HasMark self.marks m → HasMark result.marks m }
     {
         let mut marks = self.marks;
         marks[usize::from(mark / WORD)] |= 1 << (mark % WORD);
-        Kind {
+        MaskKind {
             number: self.number,
             marks,
         }
@@ -53,7 +53,7 @@ impl Kind {
 }
 
 /// Where a kind stands among others.
-fn place_of(kinds: &[Kind], number: u8) -> Option<usize>
+fn place_of(kinds: &[MaskKind], number: u8) -> Option<usize>
     ensures place { result ≡ position (λ k. k.number == number) kinds.now }
     ensures within { IfSome result (λ place. place < length kinds.now) }
 {
@@ -61,7 +61,7 @@ fn place_of(kinds: &[Kind], number: u8) -> Option<usize>
 }
 
 /// Puts a kind among the others, where it is not there already, and a mark to it.
-pub(crate) fn note(kinds: &mut Vec<Kind>, number: u8, mark: u8) -> Result<(), AllocError>
+pub(crate) fn note(kinds: &mut Vec<MaskKind>, number: u8, mark: u8) -> Result<(), AllocError>
     ensures ok { OnOk result ((k : ℕ) → Contains (numbers kinds.new.items) k ↔ ((k ≡ number) ⊎ Contains (numbers kinds.old.items) k)) }
     ensures marked { OnOk result (IsNoted kinds.old.items number mark kinds.new.items) }
     ensures err { OnErr result (kinds.new.items ≡ kinds.old.items) }
@@ -69,13 +69,13 @@ pub(crate) fn note(kinds: &mut Vec<Kind>, number: u8, mark: u8) -> Result<(), Al
 {
     match place_of(kinds.as_slice(), number) {
         Some(place) => kinds[place] = kinds[place].with(mark),
-        None => kinds.push(Kind::new(number).with(mark))?,
+        None => kinds.push(MaskKind::new(number).with(mark))?,
     }
     Ok(())
 }
 
 /// Takes a kind from the others, and its marks.
-fn forget(kinds: &mut Vec<Kind>, number: u8)
+fn forget(kinds: &mut Vec<MaskKind>, number: u8)
     ensures { kinds.new.items ≡ filter (λ k. not (k.number == number)) kinds.old.items }
 {
     kinds.retain(|kind| kind.number != number);
@@ -93,7 +93,7 @@ fn has_kind(ranks: &Ranks, kind: u8) -> bool
 }
 
 /// Takes a kind from the others, where no rank is filed under a key of it.
-pub(crate) fn forget_unused(kinds: &mut Vec<Kind>, number: u8, ranks: &Ranks)
+pub(crate) fn forget_unused(kinds: &mut Vec<MaskKind>, number: u8, ranks: &Ranks)
     requires { number < 255 }
     ensures kinds { (k : ℕ) → Contains (numbers kinds.new.items) k ↔ (((k ≡ number → ⊥) ⊎ HasKind ranks.now number) × Contains (numbers kinds.old.items) k) }
     ensures marked { KeepsMarks kinds.old.items number ranks.now kinds.new.items }

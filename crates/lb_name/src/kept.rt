@@ -25,7 +25,7 @@ impl Model for KeptName {
 }
 
 impl KeptName {
-    /// The name, kept. The one error is want of memory.
+    /// The name, kept. The one error is lack of memory.
     pub fn of(alloc: Global, name: &Name) -> Result<KeptName, AllocError>
         ensures { IfOk result (λ kept. kept ≡ name.now) }
     {
@@ -43,7 +43,7 @@ impl KeptName {
         }
     }
 
-    /// An equal name, kept in a block of its own. The one error is want of memory.
+    /// An equal name, kept in a block of its own. The one error is lack of memory.
     pub fn copy(&self, alloc: Global) -> Result<KeptName, AllocError>
         ensures { IfOk result (λ copy. copy ≡ self.now) }
     {

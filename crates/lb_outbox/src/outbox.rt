@@ -75,7 +75,7 @@ impl Model for Settled {
 }
 
 impl Outbox {
-    /// The two senders and the receiver of a queue of so many jobs. The one error is want of memory.
+    /// The two senders and the receiver of a queue of so many jobs. The one error is lack of memory.
     pub fn made(alloc: Global, capacity: usize) -> Result<(Sender, Sender, Receiver), AllocError>
         requires capacity { (1 ≤ capacity) × (capacity ≤ 4096) }
         ensures one { IfOk result (λ r. (r.0.id ≡ One) × (r.0.sent ≡ [])) }
@@ -106,7 +106,7 @@ impl Outbox {
 }
 
 impl Sender {
-    /// Puts a job behind the others. Where the queue is full it comes back, and nothing has changed.
+    /// Puts a job after the others. Where the queue is full it comes back, and nothing has changed.
     pub fn send<R: Wait>(&mut self, rt: &R, job: Job) -> Result<(), Job>
         ensures sent { OnOk result (self.new ≡ record self.old { sent = self.old.sent ++ job ∷ [] }) }
         ensures full { IfErr result (λ back. back ≡ job) }

@@ -170,7 +170,7 @@ fn term(alloc: Global, asks: Asks) -> Result<Term, Fail> {
     }
 }
 
-fn action(does: Does) -> Result<Action, Fail> {
+fn action(does: Does) -> Result<Action<PoolId>, Fail> {
     Ok(match does {
         Does::Nothing => Action::None,
         Does::Drop => Action::Drop,

@@ -144,7 +144,7 @@ start_place cs filled = record { upto = omega arith; there = λ some. some; with
 pub next_place : (cs : List (List Filed)) (n : ℕ) → n < length (chunk_at cs 0) → IsPlace cs 0 n
 next_place cs n lt = record { upto = omega arith; there = λ some. some; within = omega (arith, lt); last = λ le. absurd (omega (arith, lt, le)) }
 
--- the chunks behind the first are filled
+-- the chunks after the first are filled
 pub filled_rest : (all cs : List (List Filed)) (c : List Filed) → all ≡ c ∷ cs → All IsFilled all → All IsFilled cs
 filled_rest all cs c is filled = λ k d lt. subst (λ (xs : List (List Filed)). All IsFilled xs) is filled (suc k) d (omega (arith, lt))
 

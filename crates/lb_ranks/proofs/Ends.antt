@@ -117,6 +117,6 @@ fence_take fence cs k p new filled lt own is =
     fence_kept fence cs k p (front_of cs k p ++ drop (suc p) (chunk_at cs k)) new filled lt own
     (is ∙ ap (λ (xs : List Filed). front_of cs k p ++ xs) (own_rest cs k p (omega (arith, lt))) ∙ sym (append_assoc (front_of cs k p) (drop (suc p) (chunk_at cs k)) (behind cs k)))
 
--- a chunk that is not the last has one behind it
+-- a chunk that is not the last has one after it
 pub not_last : (last : Bool) (k n : ℕ) → IsTrue last ↔ (n ≤ k + 1) → last ≡ false → suc k < n
 not_last last k n told is = elim (cases_lt (suc k) n) [ inl lt ↦ lt | inr le ↦ (let yes : IsTrue last = told.1 (omega (arith, le)) in absurd (cc (yes, is))) ]

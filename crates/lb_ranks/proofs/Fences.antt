@@ -35,7 +35,7 @@ fence_less fence (x ∷ xs) at empty is_fence octets is none =
     let some : (length (x ∷ xs) == 0) ≡ false = ne_eqb (length (x ∷ xs)) 0 (λ same. absurd (omega (arith, same))) in
     ap not (none ∙ some) ∙ sym (fence_tells fence (x ∷ xs) at Less is_fence octets (omega arith) is (λ same. absurd (cc)))
 
--- and it does not where its fence stands behind
+-- and it does not where its fence stands after
 pub fence_greater : (fence : Front) (items : List Filed) (at : Filed) → IsFence fence items → AreOctets at.key → front_cmp fence (front_of_key at.key) ≡ Greater → false ≡ ends_before at items
 fence_greater fence [] at is_fence octets is = sym (not_own at)
 fence_greater fence (x ∷ xs) at is_fence octets is = sym (fence_tells fence (x ∷ xs) at Greater is_fence octets (omega arith) is (λ same. absurd (cc)))

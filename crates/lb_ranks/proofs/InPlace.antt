@@ -11,7 +11,7 @@ use Rattle.lb_ranks.proofs.Chunks.{whole}
 use Rattle.lb_ranks.proofs.Order.{each_at, each_weaker, lower, order_head, order_tail}
 use Rattle.lb_ranks.proofs.Spots.{Parts, after_place, before_place}
 
--- a pair stands behind all that stand before it
+-- a pair stands after all that stand before it
 place_by : (at : Filed) (front back : List Filed) → AllByRecursion (λ (f : Filed). is_before at f ≡ true) front → AllByRecursion (λ (f : Filed). is_before at f ≡ false) back → place_in at (front ++ back) ≡ length front
 place_by at [] [] before after = refl
 place_by at [] (b ∷ back) before after = ap (λ (x : Bool). if x then suc (place_in at back) else zero) after.0

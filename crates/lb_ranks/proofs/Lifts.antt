@@ -27,7 +27,7 @@ got_drop (x ∷ c) (suc p) = got_drop c p
 pub own_head : (cs : List (List Filed)) (k p : ℕ) → IsPlace cs k p → slice_get (drop p (chunk_at cs k)) 0 ≡ slice_get (back_of cs k p) 0
 own_head cs k p place = sym (got_drop (chunk_at cs k) p) ∙ get_back cs k p place
 
--- the pairs behind the first of a list and behind that list
+-- the pairs after the first of a list and after that list
 drop_some : (xs ys : List Filed) (f : Filed) → slice_get xs 0 ≡ Some f → drop 1 xs ++ ys ≡ drop 1 (xs ++ ys)
 drop_some [] ys f is = absurd (cc is)
 drop_some (x ∷ xs) ys f is = refl
@@ -82,6 +82,6 @@ lift_below high cs k p (Some rank) new lt place took =
       set_less cs k p new lt (drop_below high (drop p (chunk_at cs k)) (behind cs k) took.0) took.2,
     )
 
--- the pairs behind that at a place that is taken
+-- the pairs after that at a place that is taken
 pub rest_is : (cs : List (List Filed)) (k p : ℕ) → IsTaken cs k p → rest_of cs k p ≡ drop 1 (back_of cs k p)
 rest_is cs k p taken = ap (λ (xs : List Filed). drop 1 xs) (sym (heads cs k p (filed_at [] 0) taken.there taken.within))

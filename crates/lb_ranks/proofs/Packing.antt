@@ -1,4 +1,4 @@
--- Keys by their fronts: the order, and that a front and what is behind it tell the key.
+-- Keys by their fronts: the order, and that a front and what is after it tell the key.
 use Rattle.std.proofs.Common.{◌≡◌, ◌⊎◌, inl, inr, set, replicate, ℕ, zero, suc, ◌+◌, ◌*◌, ◌^◌, ◌<◌, ◌≤◌, min, List, [], ◌∷◌, ◌++◌, length, get_or, slice_index, take, drop, refl, sym, ap, subst, ◌∙◌, arith, take-append-drop, mul-le-mul_right, suc-mul}
 use Rattle.std.specs.List.{AllByRecursion}
 use Rattle.std.specs.Int.{from_be_bytes, to_be_bytes, w64}
@@ -53,7 +53,7 @@ zeros_less (suc n) p q (z ∷ b) lt = zero_by z (nat_cmp 0 z) (slice_cmp nat_cmp
 zeros_more : (n p q : ℕ) (b : List ℕ) → p < q → slice_cmp nat_cmp (padded n b ++ q ∷ []) (padded n [] ++ p ∷ []) ≡ Greater
 zeros_more n p q b lt = nat_list_cmp_total.antisymm (padded n b ++ q ∷ []) (padded n [] ++ p ∷ []) ∙ ap ordering_reverse (zeros_less n p q b lt)
 
--- lists are in the order of their fronts, and then of what is behind these
+-- lists are in the order of their fronts, and then of what is after these
 abbrev ByFronts : ℕ → ℕ → List ℕ → List ℕ → Ordering
 ByFronts n k a b = ordering_then (slice_cmp nat_cmp (padded n a ++ (k + counted n a) ∷ []) (padded n b ++ (k + counted n b) ∷ [])) (slice_cmp nat_cmp (drop n a) (drop n b))
 
@@ -224,7 +224,7 @@ key_pieces key octets =
     pieces (front_octets key) (omega (arith, length-append (padded 23 key) (counted 23 key ∷ []), padded_len 23 key))
     (bounded_front 23 key (counted 23 key) octets (let few : counted 23 key ≤ 24 = counted_few 23 key in omega (arith, few)))
 
--- keys are in the order of their fronts, and then of what is behind these
+-- keys are in the order of their fronts, and then of what is after these
 pub key_order : (a b : List ℕ) → AreOctets a → AreOctets b → slice_cmp nat_cmp a b ≡ ordering_then (front_cmp (front_of_key a) (front_of_key b)) (slice_cmp nat_cmp (drop 23 a) (drop 23 b))
 key_order a b octets_a octets_b =
     let rest : Ordering = slice_cmp nat_cmp (drop 23 a) (drop 23 b) in
@@ -257,7 +257,7 @@ octets_back f p =
     ∙ ap (λ (xs : List ℕ). take 8 f ++ (take 8 f8 ++ xs)) three
     ∙ ap (λ (xs : List ℕ). take 8 f ++ xs) (take-append-drop 8 f8) ∙ take-append-drop 8 f
 
--- the front and what is behind it tell the key
+-- the front and what is after it tell the key
 pub key_back : (key : List ℕ) → AreOctets key → key_from (front_of_key key) (drop 23 key) ≡ key
 key_back key octets =
     let whole : octets_of_front (front_of_key key) ≡ front_octets key = octets_back (front_octets key) (key_pieces key octets) in
@@ -320,7 +320,7 @@ drop_over (suc n) [] le = refl
 drop_over zero (x ∷ key) le = absurd (omega (arith, le))
 drop_over (suc n) (x ∷ key) le = drop_over n key (omega (arith, le))
 
--- what is behind the front, where there may be less than a front
+-- what is after the front, where there may be less than a front
 pub drop_least : (n m : ℕ) (key : List ℕ) → m ≡ min (length key) n → drop m key ≡ drop n key
 drop_least n m key is =
     let least = least_of (length key) n m is in

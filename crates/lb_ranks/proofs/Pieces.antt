@@ -53,7 +53,7 @@ both_least a b n m k one two = grind arith
 pub two_least : (n : ℕ) (h t : List ℕ) (m k : ℕ) → m ≡ min (length h) n → k ≡ min (length t) (n - m) → m + k ≡ min (length (h ++ t)) n
 two_least n h t m k one two = both_least (length h) (length t) n m k one two ∙ ap (λ (i : ℕ). min i n) (sym (length-append h t))
 
--- what is behind a front's octets in both pieces
+-- what is after a front's octets in both pieces
 pub drop_front : (n : ℕ) (h t : List ℕ) (m k : ℕ) → m ≡ min (length h) n → k ≡ min (length t) (n - m) → drop m h ++ drop k t ≡ drop n (h ++ t)
 drop_front n h t m k one two = drop_two n h t m k one two ∙ drop_least n (m + k) (h ++ t) (two_least n h t m k one two)
 
@@ -64,7 +64,7 @@ drop_drop (suc a) b (x ∷ z) =
     let more : suc (a + b) ≡ suc a + b = omega arith in
     drop_drop a b z ∙ ap (λ (i : ℕ). drop i (x ∷ z)) more
 
--- a piece over the first of others, and then another piece behind it
+-- a piece over the first of others, and then another piece after it
 pub put_two : (first second z o : List ℕ) → o ≡ first ++ drop (length first) z → take (length first) o ++ (second ++ drop (length first + length second) o) ≡ first ++ (second ++ drop (length first + length second) z)
 put_two first second z o is =
     ap (λ (xs : List ℕ). take (length first) xs ++ (second ++ drop (length first + length second) xs)) is

@@ -29,7 +29,7 @@ all_of chunks = flat_map (λ c. c) chunks
 abbrev pub chunk_at : List (List Filed) → ℕ → List Filed
 chunk_at chunks k = slice_index_or chunks k []
 
--- the pairs of the chunks behind one
+-- the pairs of the chunks after one
 abbrev pub behind : List (List Filed) → ℕ → List Filed
 behind [] k = []
 behind (c ∷ cs) zero = all_of cs
@@ -51,7 +51,7 @@ back_of (c ∷ cs) (suc k) place = back_of cs k place
 abbrev pub IsCutAt : Filed → List (List Filed) → ℕ → ℕ → Type 0
 IsCutAt at chunks k place = IsCut at (front_of chunks k place) (back_of chunks k place)
 
--- the pairs behind that at a place of a chunk
+-- the pairs after that at a place of a chunk
 abbrev pub rest_of : List (List Filed) → ℕ → ℕ → List Filed
 rest_of [] k place = []
 rest_of (c ∷ cs) zero place = drop (suc place) c ++ all_of cs

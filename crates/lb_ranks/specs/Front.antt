@@ -42,7 +42,7 @@ front_of_key key = front_from (front_octets key)
 abbrev pub octets_of_front : Front → List ℕ
 octets_of_front front = to_be_bytes w64 front.first ++ (to_be_bytes w64 front.second ++ to_be_bytes w64 front.third)
 
--- the key of a front and the octets behind it
+-- the key of a front and the octets after it
 abbrev pub key_from : Front → List ℕ → List ℕ
 key_from front rest = take (slice_index (octets_of_front front) 23) (take 23 (octets_of_front front)) ++ rest
 
@@ -50,7 +50,7 @@ key_from front rest = take (slice_index (octets_of_front front) 23) (take 23 (oc
 abbrev pub AreOctets : List ℕ → Type 0
 AreOctets octets = (i : ℕ) → slice_index octets i < 256
 
--- the front and what is behind it are those of their key
+-- the front and what is after it are those of their key
 pub record IsPacked (front : Front) (rest : List ℕ) : Type 0 where
   pub front_is : front ≡ front_of_key (key_from front rest)
   pub rest_is : rest ≡ drop 23 (key_from front rest)

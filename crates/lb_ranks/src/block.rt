@@ -64,7 +64,7 @@ fn last_is_before(chunks: &[Chunk], at: &Probe<'_>) -> bool
     }
 }
 
-/// Whether no chunk stands behind the one at a place.
+/// Whether no chunk stands after the one at a place.
 fn is_last(chunks: &[Chunk], at: usize) -> bool
     ensures { IsTrue result ↔ (length chunks.now ≤ at + 1) }
 {

@@ -35,7 +35,7 @@ impl Model for Key {
 #[derive(Debug, Drop)]
 pub(crate) struct Probe<'a> {
     front: Front,
-    /// The octets behind the front, in two pieces.
+    /// The octets after the front, in two pieces.
     rest: &'a [u8],
     more: &'a [u8],
     rank: u64,
@@ -73,7 +73,7 @@ fn is_joined(octets: &[u8], first: &[u8], second: &[u8]) -> bool
     front == first && back == second
 }
 
-/// The octets of two pieces in a block that is as long as they are. The one error is want of memory.
+/// The octets of two pieces in a block that is as long as they are. The one error is lack of memory.
 fn joined(alloc: Global, first: &[u8], second: &[u8]) -> Result<Vec<u8>, AllocError>
     ensures { IfOk result (λ octets. octets.items ≡ first.now ++ second.now) }
 {

@@ -34,7 +34,7 @@ abbrev pub first_of : List ℕ → ℕ
 first_of [] = 0
 first_of (k ∷ ks) = k
 
--- the slot behind another one, 0 where that is the last
+-- the slot after another one, 0 where that is the last
 abbrev pub after : ℕ → List ℕ → ℕ
 after slot [] = 0
 after slot (k ∷ ks) = cond (is_slot slot k) (first_of ks) (after slot ks)
@@ -49,7 +49,7 @@ abbrev pub without : ℕ → List ℕ → List ℕ
 without slot [] = []
 without slot (k ∷ ks) = cond (is_slot slot k) ks (k ∷ without slot ks)
 
--- a list with a slot behind another one, or in front where that is 0
+-- a list with a slot after another one, or in front where that is 0
 abbrev pub put_after : ℕ → ℕ → List ℕ → List ℕ
 put_after prev slot [] = []
 put_after prev slot (k ∷ ks) = cond (is_slot prev k) (k ∷ slot ∷ ks) (k ∷ put_after prev slot ks)

@@ -6,7 +6,7 @@ ghost use Rattle.lb_ring.specs.Ring.{Distinct, Lacks, after, before, first_of, h
 use std::alloc::{AllocError, Global};
 use std::marker::Model;
 
-/// The slots ahead of one and behind it. Slot 0 is the end on both sides.
+/// The slots ahead of one and after it. Slot 0 is the end on both sides.
 #[derive(Clone, Copy, Debug)]
 pub(crate) struct Links {
     pub(crate) prev: usize,
@@ -33,7 +33,7 @@ impl Model for Ring {
     ghost invariant = { λ r. IsRing r.links.items r.len };
 }
 
-/// The slot behind one, 0 where it was never in a ring.
+/// The slot after one, 0 where it was never in a ring.
 fn next_in(links: &Vec<Links>, slot: usize) -> usize
     ensures { result ≡ next_of links.now.items slot }
 {
@@ -53,7 +53,7 @@ fn prev_in(links: &Vec<Links>, slot: usize) -> usize
     }
 }
 
-/// Puts a slot behind another one.
+/// Puts a slot after another one.
 fn link(links: &mut Vec<Links>, prev: usize, slot: usize)
     requires within { prev < length links.old.items }
     requires room { slot < length links.old.items }
@@ -133,7 +133,7 @@ impl Ring {
         next_in(&self.links, 0)
     }
 
-    /// The slot behind one of the ring, 0 where it is the last.
+    /// The slot after one of the ring, 0 where it is the last.
     pub fn next(&self, slot: usize) -> usize
         requires { has slot self.now ≡ true }
         ensures { result ≡ after slot self.now }
@@ -149,7 +149,7 @@ impl Ring {
         prev_in(&self.links, slot)
     }
 
-    /// Puts a new slot behind another one, in front where that is 0. The one error is want of memory.
+    /// Puts a new slot after another one, in front where that is 0. The one error is lack of memory.
     pub fn put(&mut self, prev: usize, slot: usize) -> Result<(), AllocError>
         requires slot { 0 < slot }
         requires bound { slot + 1 < 2 ^ 64 }

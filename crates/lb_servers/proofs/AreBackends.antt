@@ -170,7 +170,7 @@ all_in : (pools : List Pool) (names : List PoolName) → AllByRecursion (λ id. 
 all_in pools [] = tt
 all_in pools (name ∷ names) = found_in pools (pool_named pools name) name (filter_map (pool_named pools) names) refl (all_in pools names)
 
--- what holds where each is put behind the others unless it is among them
+-- what holds where each is put after the others unless it is among them
 join_keeps : (P : PoolId → Type 0) (b : Bool) (ids : List PoolId) (pool : PoolId) → AllByRecursion P ids → P pool → AllByRecursion P (cond b ids (ids ++ pool ∷ []))
 join_keeps P true ids pool all one = all
 join_keeps P false ids pool all one = each_push P ids pool all one
@@ -522,7 +522,7 @@ pools_back change at pools new next next_cache given servers ranks ups is made w
       made whole.1,
     )
 
--- a pool put behind the others, with its up servers
+-- a pool put after the others, with its up servers
 pub pool_pushed : (name : PoolName) (next next_cache : ℕ) (servers : List Loaded) (pools new : List Pool) (ranks : List ℕ) (ups made : List (List ℕ)) (places : List ℕ) → new ≡ pools ++ new_pool name ∷ [] → made ≡ ups ++ places ∷ [] → StandAt servers places (up_servers (record { 0 = length pools }) servers) →
     list_any (is_named name) pools ≡ false → length pools < 64 → Whole next next_cache servers pools ranks ups → Whole next next_cache servers new ranks made
 pool_pushed name next next_cache servers pools new ranks ups made places is more stand free few whole =
@@ -542,7 +542,7 @@ none_if : (b : Bool) (fault : ParkFault) (rest : Option ParkFault) → None ≡ 
 none_if true fault rest is = absurd (cc is)
 none_if false fault rest is = (refl, is)
 
--- a server put behind the others
+-- a server put after the others
 pub server_pushed : (park : Backends) (spec : ServerSpec) (l : Loaded) (new : List Loaded) → None ≡ server_fault park spec → length spec.pools ≤ 8 → length park.servers < 256 → l ≡ new_server park.next park.pools spec → new ≡ park.servers ++ l ∷ [] → AreBackends park →
     AreBackends (record park { next = park.next + 1; servers = new })
 server_pushed park spec l new none short few is made are =

@@ -41,7 +41,7 @@ max_servers = 256
 abbrev pub max_pools : ℕ
 max_pools = 64
 
--- a pool added behind the others: the refusals in their order, and else the table with it and its number
+-- a pool added after the others: the refusals in their order, and else the table with it and its number
 abbrev pub added_pool : Bool → Backends → PoolName → Backends × Result PoolId ParkFault
 added_pool lacking park name =
     if list_any (is_named name) park.pools then (park, Err faults.NameTaken)
@@ -49,7 +49,7 @@ added_pool lacking park name =
     else (if lacking then (park, Err faults.NoMemory)
     else (record park { pools = park.pools ++ new_pool name ∷ [] }, Ok (record { 0 = length park.pools }))))
 
--- a server added behind the others: the refusals in their order, and else the table with it and its number
+-- a server added after the others: the refusals in their order, and else the table with it and its number
 abbrev pub added_server : Bool → Backends → ServerSpec → Backends × Result ServerId ParkFault
 added_server lacking park spec =
     if lacks_pool park.pools (stated_pools spec.pools) then (park, Err faults.NoSuchPool)
@@ -59,7 +59,7 @@ added_server lacking park spec =
     else (if lacking then (park, Err faults.NoMemory)
     else (record park { next = park.next + 1; servers = park.servers ++ new_server park.next park.pools spec ∷ [] }, Ok (record { 0 = park.next }))))))
 
--- the first refusal of such a server, want of memory left out
+-- the first refusal of such a server, lack of memory left out
 abbrev pub server_fault : Backends → ServerSpec → Option ParkFault
 server_fault park spec =
     if lacks_pool park.pools (stated_pools spec.pools) then Some faults.NoSuchPool
@@ -109,7 +109,7 @@ with_server change id park = record park { servers = change_server id change par
 abbrev pub with_pool : (Pool → Pool) → PoolId → Backends → Backends
 with_pool change pool park = record park { pools = change_at change pool.0 park.pools }
 
--- whether an edit was refused for want of memory
+-- whether an edit was refused for lack of memory
 abbrev pub lacks : {A : Type 0} → Result A ParkFault → Bool
 lacks (Err faults.NoMemory) = true
 lacks _ = false

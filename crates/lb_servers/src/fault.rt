@@ -21,7 +21,7 @@ pub enum ParkFault {
     /// 256 servers are there, or 64 pools.
     #[error("there are too many")]
     TooMany,
-    /// Memory is wanting.
+    /// Memory is lacking.
     #[error("memory is wanting")]
     NoMemory,
     /// The number 2^64-1 was given.

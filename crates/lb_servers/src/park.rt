@@ -50,7 +50,7 @@ impl Model for Park {
 }
 
 impl Park {
-    /// A table without servers, with the default pool. The one error is want of memory.
+    /// A table without servers, with the default pool. The one error is lack of memory.
     pub fn new(alloc: Global) -> Result<Park, AllocError>
         ensures { IfOk result (λ park. park ≡ no_backends) }
     {
@@ -100,7 +100,7 @@ impl Park {
         let _ = self.servers.len();
     }
 
-    /// The servers in the order of `law_of_list`, each with how many queries it has outstanding. The one error is want of memory.
+    /// The servers in the order of `law_of_list`, each with how many queries it has outstanding. The one error is lack of memory.
     pub fn list(&self, alloc: Global) -> Result<Vec<Loaded>, AllocError>
         ensures { IfOk result (λ list. list.items ≡ self.now.servers) }
     {
@@ -128,7 +128,7 @@ impl Park {
         self.pools.len()
     }
 
-    /// The pools in the order of `law_of_list`: by number, which is their place. The one error is want of memory.
+    /// The pools in the order of `law_of_list`: by number, which is their place. The one error is lack of memory.
     pub fn pool_list(&self, alloc: Global) -> Result<Vec<Pool>, AllocError>
         ensures { IfOk result (λ list. list.items ≡ self.now.pools) }
     {
@@ -165,7 +165,7 @@ impl Park {
         Some(pool.policy)
     }
 
-    /// Adds a pool behind the others, with the policy leastOutstanding. The refusals, in their order: `NameTaken`, as the
+    /// Adds a pool after the others, with the policy leastOutstanding. The refusals, in their order: `NameTaken`, as the
     /// name of the default pool always is; `TooMany` at 64 pools; `NoMemory`. A refusal changes nothing.
     pub fn add_pool(&mut self, name: PoolName) -> Result<PoolId, ParkFault>
         ensures { (self.new, result) ≡ added_pool (lacks result) self.old name }
@@ -223,7 +223,7 @@ impl Park {
         }
     }
 
-    /// The first refusal of this server that applies, want of memory left out.
+    /// The first refusal of this server that applies, lack of memory left out.
     fn server_fault(&self, spec: &ServerSpec) -> Option<ParkFault>
         ensures fault { result ≡ server_fault self.now spec.now }
         ensures servers { IfNone result (length self.now.servers < 256) }

@@ -188,7 +188,7 @@ pub(crate) fn cache_at(pools: &[Pool], at: usize) -> Option<CacheId>
     pool.cache
 }
 
-/// Puts a new pool behind the others. Memory is wanting only where there is no room left for one more.
+/// Puts a new pool after the others. Memory is lacking only where there is no room left for one more.
 pub(crate) fn push(pools: &mut Vec<Pool>, name: PoolName) -> Result<(), ParkFault>
     ensures pushed { OnOk result (pools.new.items ≡ pools.old.items ++ new_pool name ∷ []) }
     ensures lacks { IfErr result (λ fault. fault ≡ NoMemory) }

@@ -51,7 +51,7 @@ impl Ranks {
         ranks
     }
 
-    /// Puts the server at a place behind those of its order, where all before it are ranked.
+    /// Puts the server at a place after those of its order, where all before it are ranked.
     fn put(&mut self, servers: &[Loaded], at: usize)
         requires at { at < length servers.now }
         requires few { length servers.now ≤ 256 }
@@ -94,7 +94,7 @@ fn is_up_at(servers: &[Loaded], at: u8, pool: PoolId) -> bool
     }
 }
 
-/// Whether the server at a place comes behind those of an order.
+/// Whether the server at a place comes after those of an order.
 fn is_behind(servers: &[Loaded], at: u8, order: u16) -> bool
     ensures { result ≡ behind order (slice_get servers.now at) }
 {
@@ -104,7 +104,7 @@ fn is_behind(servers: &[Loaded], at: u8, order: u16) -> bool
     }
 }
 
-/// Where the first server stands that comes behind those of an order.
+/// Where the first server stands that comes after those of an order.
 fn first_behind(servers: &[Loaded], ranks: &[u8], order: u16) -> Option<usize>
     ensures first { result ≡ position (λ at. behind order (slice_get servers.now at)) ranks.now }
     ensures within { IfSome result (λ place. place < length ranks.now) }
@@ -112,7 +112,7 @@ fn first_behind(servers: &[Loaded], ranks: &[u8], order: u16) -> Option<usize>
     ranks.iter().position(|at| is_behind(servers, *at, order))
 }
 
-/// Where a younger server of an order goes: behind those of its order, before those of a greater one.
+/// Where a younger server of an order goes: after those of its order, before those of a greater one.
 fn place_by_order(servers: &[Loaded], ranks: &[u8], order: u16) -> usize
     ensures place { result ≡ unwrap_or (position (λ at. behind order (slice_get servers.now at)) ranks.now) (length ranks.now) }
     ensures within { result ≤ length ranks.now }

@@ -65,7 +65,7 @@ impl PoolIds {
         }
     }
 
-    /// Puts a pool behind the others, unless it is among them.
+    /// Puts a pool after the others, unless it is among them.
     pub(crate) fn join(&mut self, pool: PoolId)
         requires { length self.old < 8 }
         ensures { self.new ≡ joined self.old pool }
@@ -302,7 +302,7 @@ pub(crate) fn remove(servers: &mut Vec<Loaded>, at: usize)
     servers.remove(at);
 }
 
-/// Puts a server behind the others. Memory is wanting only where there is no room left for one more.
+/// Puts a server after the others. Memory is lacking only where there is no room left for one more.
 pub(crate) fn push(servers: &mut Vec<Loaded>, server: Loaded) -> Result<(), ParkFault>
     ensures pushed { OnOk result (servers.new.items ≡ servers.old.items ++ server ∷ []) }
     ensures lacks { IfErr result (λ fault. fault ≡ NoMemory) }

@@ -56,7 +56,7 @@ impl PoolNames {
         self.items.as_slice()
     }
 
-    /// Equal names. The one error is want of memory.
+    /// Equal names. The one error is lack of memory.
     pub fn copy(&self, alloc: Global) -> Result<PoolNames, AllocError>
         ensures { IfOk result (λ copy. copy ≡ self.now) }
     {
@@ -135,7 +135,7 @@ impl ServerSpec {
         }
     }
 
-    /// An equal value. The one error is want of memory.
+    /// An equal value. The one error is lack of memory.
     pub fn copy(&self, alloc: Global) -> Result<ServerSpec, AllocError>
         ensures { IfOk result (λ copy. copy ≡ self.now) }
     {

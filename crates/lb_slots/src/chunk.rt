@@ -137,7 +137,7 @@ impl<T: Drop> Chunk<T> {
         self.cells[at] = Cell::Full(value);
     }
 
-    /// Puts a value behind the others. Where memory is wanting it comes back.
+    /// Puts a value after the others. Where memory is lacking it comes back.
     pub(crate) fn add(&mut self, value: T) -> Result<(), (AllocError, T)>
         ensures added { IfOk result (λ _. self.new ≡ self.old ++ Full value ∷ []) }
         ensures back { IfErr result (λ back. back.1 ≡ value) }

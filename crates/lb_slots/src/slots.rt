@@ -89,7 +89,7 @@ fn room<T: Drop>(chunks: &mut Vec<Chunk<T>>, alloc: Global) -> Result<(), AllocE
     Ok(())
 }
 
-/// Puts a value behind the others, and gives its slot. Where memory is wanting it comes back.
+/// Puts a value after the others, and gives its slot. Where memory is lacking it comes back.
 fn push<T: Drop>(
     chunks: &mut Vec<Chunk<T>>,
     alloc: Global,
@@ -133,7 +133,7 @@ impl<T: Drop> Slots<T> {
     }
 
     /// Puts a value into a slot that has none, and gives the slot. No chunk is added while a slot
-    /// is empty. Where memory is wanting the value comes back.
+    /// is empty. Where memory is lacking the value comes back.
     pub fn put(&mut self, value: T) -> Result<usize, (AllocError, T)>
         ensures free { IfOk result (λ slot. get self.old slot ≡ None) }
         ensures bound { IfOk result (λ slot. slot + 2 < 2 ^ 64) }

@@ -1,6 +1,6 @@
 -- The routes after an event follow from the routes before it, the event, its reading and its answer.
 use Rattle.std.proofs.Common.{◌≡◌, ℕ, zero, suc, ◌+◌, ◌^◌, ◌==◌, ◌||◌, Bool, true, false, not, List, [], ◌∷◌, ◌++◌, length, map, nat_le, Option, None, Some, Result, Ok, Err, refl, sym, ◌∙◌, ap}
-use Rattle.std.specs.Prelude.{if◌then◌else◌, is_some, option_map, slice_get}
+use Rattle.std.specs.Prelude.{if◌then◌else◌, is_some, option_and_then, option_map, slice_get}
 use Rattle.lb_wire.specs.Belongs.{belongs}
 use Rattle.lb_wire.specs.declared.ids.CacheId.{CacheId}
 use Rattle.lb_wire.specs.declared.ids.PoolId.{PoolId}
@@ -61,15 +61,13 @@ use Rattle.lb_servers.specs.declared.spec.ServerSpec.{ServerSpec}
 use Rattle.lb_servers.specs.Spec.{lacks_pool, new_server, stated_pools}
 use Rattle.lb_wire.specs.declared.ids.RuleId.{RuleId}
 use Rattle.lb_chain.specs.declared.action.Action.{Action}
-use Rattle.lb_chain.specs.declared.action.Action.TheVariants as actions
+use Rattle.lb_chain.specs.Action.{pool_in, with_pool}
 use Rattle.lb_chain.specs.declared.walked.Verdict.{Verdict}
 use Rattle.lb_chain.specs.declared.walked.Verdict.TheVariants as verdicts
 use Rattle.lb_servers.specs.declared.pool.Pool.{Pool}
 use Rattle.lb_servers.specs.declared.pool.PoolName.{PoolName}
 use Rattle.lb_servers.specs.declared.pool.Policy.{Policy}
 use Rattle.lb_servers.specs.Pool.{change_at, is_named, new_pool, same_name, turned}
-use Rattle.lb_step.specs.declared.command.StatedAction.{StatedAction}
-use Rattle.lb_step.specs.declared.command.StatedAction.TheVariants as stated
 use Rattle.lb_step.specs.declared.command.StatedRule.{StatedRule}
 use Rattle.lb_step.specs.Edit.{action_by}
 use Rattle.lb_step.specs.Forward.{PickForwards, sent}
@@ -207,19 +205,15 @@ where_named name (p ∷ pools) = rw (where_named name pools) refl
 pub named_alike : (name : PoolName) (pools : List Pool) → route_named (map route_of pools) name ≡ pool_named pools name
 named_alike name pools = rw (where_named name pools, length-map pools route_of) refl
 
-action_alike : (pools : List Pool) (action : StatedAction) → action_by (route_named (map route_of pools)) action ≡ action_by (pool_named pools) action
-action_alike pools stated.Allow = refl
-action_alike pools stated.Drop = refl
-action_alike pools (stated.Rcode rcode) = refl
-action_alike pools (stated.Pool name) = ap (λ (id : Option PoolId). option_map actions.Pool id) (named_alike name pools)
-action_alike pools stated.Tc = refl
-action_alike pools (stated.Spoof addrs) = refl
-action_alike pools stated.None = refl
-action_alike pools stated.NoRecurse = refl
-action_alike pools stated.SkipCache = refl
+pool_alike : (pools : List Pool) (name : Option PoolName) → option_and_then (route_named (map route_of pools)) name ≡ option_and_then (pool_named pools) name
+pool_alike pools None = refl
+pool_alike pools (Some name) = named_alike name pools
+
+action_alike : (pools : List Pool) (action : Action PoolName) → action_by (route_named (map route_of pools)) action ≡ action_by (pool_named pools) action
+action_alike pools action = ap (λ (pool : Option PoolId). with_pool pool action) (pool_alike pools (pool_in action))
 
 rule_alike : (pools : List Pool) (rule : StatedRule) → rule_by (route_named (map route_of pools)) rule ≡ rule_by (pool_named pools) rule
-rule_alike pools rule = ap (λ (a : Option Action). option_map (λ action. record { term = rule.term; action = action }) a) (action_alike pools rule.action)
+rule_alike pools rule = ap (λ (a : Option (Action PoolId)). option_map (λ action. record { term = rule.term; action = action }) a) (action_alike pools rule.action)
 
 -- an edit of the chain
 rules_follow : {A : Type 0} (note : A → Note) (p : Plain) (now : ℕ) (command : Command) (x y : Rules × Result A ChainFault) → IsSeen p → Follows (chain_of p) x y →

@@ -1,13 +1,13 @@
 -- What a command does to the plain state, and its answer.
-use Rattle.std.specs.Prelude.{◌≡◌, ℕ, Bool, false, List, length, Option, Some, None, option_map, Result, Ok, Err}
+use Rattle.std.specs.Prelude.{◌≡◌, ℕ, Bool, false, List, length, Option, Some, None, option_and_then, option_map, Result, Ok, Err}
 use Rattle.lb_wire.specs.declared.ids.CacheId.{CacheId}
 use Rattle.lb_wire.specs.declared.ids.PoolId.{PoolId}
 use Rattle.lb_wire.specs.declared.ids.ServerId.{ServerId}
 use Rattle.lb_chain.specs.declared.action.Action.{Action}
-use Rattle.lb_chain.specs.declared.action.Action.TheVariants as actions
 use Rattle.lb_chain.specs.declared.fault.ChainFault.{ChainFault}
 use Rattle.lb_chain.specs.declared.numbered.Numbered.{Numbered}
 use Rattle.lb_chain.specs.declared.rule.Rule.{Rule}
+use Rattle.lb_chain.specs.Action.{pool_in, with_pool}
 use Rattle.lb_chain.specs.Edits.{Rules, added, removed, moved}
 use Rattle.lb_servers.specs.declared.fault.ParkFault.{ParkFault}
 use Rattle.lb_servers.specs.declared.fault.ParkFault.TheVariants as park_faults
@@ -15,8 +15,6 @@ use Rattle.lb_servers.specs.declared.pool.PoolName.{PoolName}
 use Rattle.lb_servers.specs.Park.{Backends, added_pool, changed_pool}
 use Rattle.lb_servers.specs.Pool.{cache_at, pool_named, with_policy}
 use Rattle.lb_servers.specs.Server.{server_named}
-use Rattle.lb_step.specs.declared.command.StatedAction.{StatedAction}
-use Rattle.lb_step.specs.declared.command.StatedAction.TheVariants as stated
 use Rattle.lb_step.specs.declared.command.StatedRule.{StatedRule}
 use Rattle.lb_step.specs.declared.command.Command.{Command}
 use Rattle.lb_cache.specs.declared.cached.Covered.{Covered}
@@ -35,16 +33,8 @@ place_or_end None rules = length rules
 place_or_end (Some place) rules = place
 
 -- an action, its pool by the number that its name has; None where the pool is not there
-abbrev pub action_by : (PoolName → Option PoolId) → StatedAction → Option Action
-action_by number stated.Allow = Some actions.Allow
-action_by number stated.Drop = Some actions.Drop
-action_by number (stated.Rcode rcode) = Some (actions.Rcode rcode)
-action_by number (stated.Pool name) = option_map actions.Pool (number name)
-action_by number stated.Tc = Some actions.Tc
-action_by number (stated.Spoof addrs) = Some (actions.Spoof addrs)
-action_by number stated.None = Some actions.None
-action_by number stated.NoRecurse = Some actions.NoRecurse
-action_by number stated.SkipCache = Some actions.SkipCache
+abbrev pub action_by : (PoolName → Option PoolId) → Action PoolName → Option (Action PoolId)
+action_by number action = with_pool (option_and_then number (pool_in action)) action
 
 abbrev pub rule_by : (PoolName → Option PoolId) → StatedRule → Option Rule
 rule_by number rule = option_map (λ action. record { term = rule.term; action = action }) (action_by number rule.action)

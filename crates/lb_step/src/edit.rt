@@ -17,12 +17,12 @@ use crate::answer::{Answer, EditFault, Note};
 use crate::boxed::BoxedCommand;
 use crate::cache_spec::CacheSpec;
 use crate::check::CheckSpec;
-use crate::command::{Command, StatedAction, StatedRule};
+use crate::command::{Command, StatedRule};
 use crate::upstream::Upstream;
 use lb_cache::Covered;
 use lb_chain::{Action, Chain, ChainFault, Rule, seen_twice};
 use lb_servers::{Ident, Mode, ParkFault, Policy, PoolName, ServerSpec};
-use lb_wire::RuleId;
+use lb_wire::{PoolId, RuleId};
 use std::alloc::Global;
 
 /// Carries out the command of an event, or refuses it. The command is large, so it leaves its own
@@ -113,25 +113,19 @@ fn rule_of(upstream: &Upstream, rule: StatedRule) -> Option<Rule>
     ensures { result ≡ rule_by (pool_named upstream.now.pools) rule }
 {
     let StatedRule { term, action } = rule;
-    let action = action_of(upstream, action)?;
+    let action = action_of(upstream, &action)?;
     Some(Rule { term, action })
 }
 
 /// The action that a command states, its pool by number; None where the pool is not there.
-fn action_of(upstream: &Upstream, action: StatedAction) -> Option<Action>
-    ensures { result ≡ action_by (pool_named upstream.now.pools) action }
+fn action_of(upstream: &Upstream, action: &Action<PoolName>) -> Option<Action<PoolId>>
+    ensures { result ≡ action_by (pool_named upstream.now.pools) action.now }
 {
-    match action {
-        StatedAction::Allow => Some(Action::Allow),
-        StatedAction::Drop => Some(Action::Drop),
-        StatedAction::Rcode(rcode) => Some(Action::Rcode(rcode)),
-        StatedAction::Pool(name) => Some(Action::Pool(upstream.pool_named(&name)?)),
-        StatedAction::Tc => Some(Action::Tc),
-        StatedAction::Spoof(addrs) => Some(Action::Spoof(addrs)),
-        StatedAction::None => Some(Action::None),
-        StatedAction::NoRecurse => Some(Action::NoRecurse),
-        StatedAction::SkipCache => Some(Action::SkipCache),
-    }
+    let pool = match action.pool() {
+        Some(name) => upstream.pool_named(name),
+        None => None,
+    };
+    action.with_pool(pool)
 }
 
 /// The place that a rule is added at: where none is stated, after the others.

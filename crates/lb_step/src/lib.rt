@@ -34,7 +34,7 @@ pub use answer::{Answer, DropReason, EditFault, IgnoreReason, LocalReason, Note,
 pub use balancer::Balancer;
 pub use boxed::BoxedCommand;
 pub use check::{Check, CheckSpec};
-pub use command::{Command, StatedAction, StatedRule};
+pub use command::{Command, StatedRule};
 pub use count::Count;
 pub use counts::Counts;
 pub use counts_by_number::{CacheCounts, CountsByNumber, ServerCounts};

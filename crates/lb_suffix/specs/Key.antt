@@ -22,7 +22,7 @@ pub record IsKey (key : List ℕ) : Type 0 where
   pub is_name : IsName (lower_name name)
   pub is : key ≡ key_of name
 
--- the first key that stands behind all those that begin with this one: no label has 64 octets
+-- the first key that stands after all those that begin with this one: no label has 64 octets
 abbrev pub end_of : List ℕ → List ℕ
 end_of key = key ++ 64 ∷ []
 

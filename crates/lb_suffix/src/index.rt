@@ -42,7 +42,7 @@ impl SuffixIndex {
         }
     }
 
-    /// Files a rank under a name, where it is not filed there already. The one error is want of memory; it leaves the
+    /// Files a rank under a name, where it is not filed there already. The one error is lack of memory; it leaves the
     /// index as it was.
     pub fn file(&mut self, name: &Name, rank: u64) -> Result<(), AllocError>
         ensures ok { OnOk result (IsFiledWith self.old (pair_of name.now rank) self.new) }

@@ -10,7 +10,7 @@ ghost use Rattle.lb_suffix.specs.Key.{end_of, key_of as key_of_name, reversed_oc
 use lb_name::{LABEL_END, MAX_NAME, Name, labels_go_on, lowers_on_wire, splits_back};
 use std::marker::Model;
 
-/// How many octets a key has room for: those of a name, and the octet that stands behind every label's length.
+/// How many octets a key has room for: those of a name, and the octet that stands after every label's length.
 const ROOM: usize = MAX_NAME + 1;
 
 /// The key of a name, in the room of a name. A contract sees it as the list of its octets.
@@ -41,7 +41,7 @@ impl NameKey {
         key
     }
 
-    /// The octets of the first key that stands behind all those that begin with this one.
+    /// The octets of the first key that stands after all those that begin with this one.
     pub fn as_end(&self) -> &[u8]
         ensures { result.now ≡ end_of self.now }
     {

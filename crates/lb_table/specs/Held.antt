@@ -27,7 +27,7 @@ abbrev pub without_first : {X : Type 0} → (X → Bool) → List X → List X
 without_first p [] = []
 without_first p (x ∷ xs) = cond (p x) xs (x ∷ without_first p xs)
 
--- a line with a query more, behind the one in a slot, or in front where that is 0
+-- a line with a query more, after the one in a slot, or in front where that is 0
 abbrev pub after_slot : ℕ → ℕ × Waiting → List (ℕ × Waiting) → List (ℕ × Waiting)
 after_slot prev x [] = []
 after_slot prev x (y ∷ ys) = cond (is_slot prev y.0) (y ∷ x ∷ ys) (y ∷ after_slot prev x ys)

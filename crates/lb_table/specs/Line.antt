@@ -10,7 +10,7 @@ use Rattle.lb_table.specs.Entry.{deadline_of}
 use Rattle.lb_table.specs.Held.{behind, queries, slot_of, slots}
 use Rattle.lb_table.specs.Table.{ByDeadline, place_by_deadline}
 
--- the line with a query more, behind those of its deadline
+-- the line with a query more, after those of its deadline
 abbrev pub stood : List (ℕ × Waiting) → ℕ → Waiting → List (ℕ × Waiting)
 stood line slot w = insert line (place_by_deadline (deadline_of w.entry) (queries line)) (slot, w)
 

@@ -86,7 +86,7 @@ impl Index {
         self.counts.get(server)
     }
 
-    /// A query comes to a place at which none waits. The one error is want of memory.
+    /// A query comes to a place at which none waits. The one error is lack of memory.
     pub(crate) fn add(&mut self, place: &Place, slot: usize) -> Result<(), AllocError>
         requires few { count_of self.old.counts place.now.server.0 + 1 < 2 ^ 64 }
         ensures added { OnOk result (TellsOfOneMore self.old place.now slot self.new) }

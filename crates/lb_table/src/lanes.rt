@@ -142,7 +142,7 @@ impl Lanes {
             .get(place.id)
     }
 
-    /// Gives a place a slot. The one error is want of memory.
+    /// Gives a place a slot. The one error is lack of memory.
     pub(crate) fn put(&mut self, place: &Place, slot: usize) -> Result<(), AllocError>
         ensures put { OnOk result ((p : Place) → slot_at self.new p ≡ cond (same_place place.now p) (Some slot) (slot_at self.old p)) }
         ensures kept { OnErr result ((p : Place) → slot_at self.new p ≡ slot_at self.old p) }

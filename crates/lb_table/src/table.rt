@@ -63,7 +63,7 @@ impl Table {
         let _ = self.line.len();
     }
 
-    /// The queries that wait, in the order of `law_of_list`. The one error is want of memory.
+    /// The queries that wait, in the order of `law_of_list`. The one error is lack of memory.
     pub fn list(&self, alloc: Global) -> Result<Vec<Waiting>, AllocError>
         ensures { IfOk result (λ list. list.items ≡ self.now) }
     {

@@ -64,7 +64,7 @@ impl Tallies {
         }
     }
 
-    /// Counts one more under a number. It takes memory for the first count of a number alone. The one error is want of memory: then nothing
+    /// Counts one more under a number. It takes memory for the first count of a number alone. The one error is lack of memory: then nothing
     /// is counted.
     #[inline(always)]
     pub fn raise(&mut self, id: u64) -> Result<(), AllocError>

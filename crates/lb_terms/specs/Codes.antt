@@ -38,7 +38,7 @@ abbrev mutual
   heads_in end heads = heads
   heads_in (more member members) heads = heads_of member (heads_in members heads)
 
--- a head takes its members from the selectors behind it
+-- a head takes its members from the selectors after it
 abbrev pub with_head : Head → List Selector → List Selector
 with_head every terms = All ∷ terms
 with_head (names_of names) terms = Suffix names ∷ terms

@@ -18,7 +18,7 @@ fn copied_all(alloc: Global, terms: &[Term]) -> Result<Vec<Term>, AllocError>
     Ok(copies)
 }
 
-/// An equal term. The one error is want of memory.
+/// An equal term. The one error is lack of memory.
 #[cycle(copied)]
 pub(crate) fn copied(alloc: Global, term: &Term) -> Result<Term, AllocError>
     ensures { IfOk result (λ copy. selector_of copy ≡ selector_of term.now) }

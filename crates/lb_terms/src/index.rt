@@ -25,7 +25,7 @@ fn index_boxed(member: &mut Box<Term>) -> Result<(), AllocError>
     index_sets(member)
 }
 
-/// Has each set of the term found by an index, where it is large enough. The one error is want of memory; some sets have
+/// Has each set of the term found by an index, where it is large enough. The one error is lack of memory; some sets have
 /// an index then.
 #[cycle(index_sets)]
 pub(crate) fn index_sets(term: &mut Term) -> Result<(), AllocError>

@@ -64,7 +64,7 @@ pub fn limiter_count(term: &CheckedTerm) -> usize
     count(term.as_term())
 }
 
-/// A limiter that has counted nothing for each rate of the term, from the left. The one error is want of memory.
+/// A limiter that has counted nothing for each rate of the term, from the left. The one error is lack of memory.
 pub fn new_limiters(alloc: Global, term: &CheckedTerm) -> Result<Vec<Limiter>, AllocError>
     ensures limiters { IfOk result (λ limiters. limiters.items ≡ new_limiters term.now) }
     ensures count { IfOk result (λ limiters. length limiters.items ≡ limiters_of term.now) }

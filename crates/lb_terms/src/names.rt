@@ -88,7 +88,7 @@ impl Names {
         }
     }
 
-    /// Puts a name behind the others, and gives up an index that stands. The one error is want of memory; the names are what
+    /// Puts a name after the others, and gives up an index that stands. The one error is lack of memory; the names are what
     /// they were then.
     pub fn push(&mut self, name: &Name) -> Result<(), AllocError>
         ensures ok { OnOk result (self.new ≡ self.old ++ name.now ∷ []) }
@@ -125,7 +125,7 @@ impl Names {
     }
 
     /// Has the names found by an index from now on, where they are more than 64. Nothing that is seen changes. The one error
-    /// is want of memory.
+    /// is lack of memory.
     pub fn index(&mut self) -> Result<(), AllocError>
         ensures { self.new ≡ self.old }
     {
@@ -135,7 +135,7 @@ impl Names {
         Ok(())
     }
 
-    /// An equal list, with no index. The one error is want of memory.
+    /// An equal list, with no index. The one error is lack of memory.
     pub fn copy(&self, alloc: Global) -> Result<Names, AllocError>
         ensures { IfOk result (λ copy. copy ≡ self.now) }
     {

@@ -97,7 +97,7 @@ impl CheckedTerm {
         &self.term
     }
 
-    /// An equal term. The one error is want of memory.
+    /// An equal term. The one error is lack of memory.
     pub fn copy(&self, alloc: Global) -> Result<CheckedTerm, AllocError>
         ensures { IfOk result (λ copy. copy ≡ self.now) }
     {
@@ -108,7 +108,7 @@ impl CheckedTerm {
 
     /// Has each set of names or masks in the term found by an index from now on, where that is faster than a walk: more than 64
     /// names, or more than 16 masks for each length that they have. A term that is one set is left as it is: a rule of it is
-    /// found by its set, and not tested for it. Nothing that is seen changes. The one error is want of memory.
+    /// found by its set, and not tested for it. Nothing that is seen changes. The one error is lack of memory.
     pub fn index_sets(&mut self) -> Result<(), AllocError>
         ensures { self.new ≡ self.old }
     {

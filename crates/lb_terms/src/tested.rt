@@ -32,7 +32,7 @@ impl Passes {
         }
     }
 
-    /// Puts the number of a limiter behind the others.
+    /// Puts the number of a limiter after the others.
     pub(crate) fn push(&mut self, number: u8)
         requires { length self.old < 16 }
         ensures { self.new ≡ self.old ++ number ∷ [] }

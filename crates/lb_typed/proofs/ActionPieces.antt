@@ -3,7 +3,7 @@ use Rattle.std.proofs.Common.{◌≡◌, ℕ, List, ◌∷◌, ◌++◌, codes}
 use Rattle.lb_wire.specs.declared.addr.Addr.{Addr}
 use Rattle.lb_wire.specs.declared.rcode.Rcode.{Rcode}
 use Rattle.lb_servers.specs.declared.pool.PoolName.{PoolName}
-use Rattle.lb_step.specs.declared.command.StatedAction.TheVariants as actions
+use Rattle.lb_chain.specs.declared.action.Action.TheVariants as actions
 use Rattle.lb_command.specs.Grammar.{action, comma_list, says, word}
 use Rattle.lb_command.specs.Values.{addr_of, pool_of, rcode_of}
 use Rattle.lb_typed.specs.Words.{IsTypedCode, Types}

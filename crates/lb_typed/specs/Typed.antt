@@ -12,8 +12,9 @@ use Rattle.lb_cache.specs.declared.cached.Covered.{Covered}
 use Rattle.lb_cache.specs.declared.cached.Covered.TheVariants as covereds
 use Rattle.lb_step.specs.declared.command.Command.{Command}
 use Rattle.lb_step.specs.declared.command.Command.TheVariants.{CacheAttach, Expunge, RuleAdd, ServerAdd}
-use Rattle.lb_step.specs.declared.command.StatedAction.{StatedAction}
-use Rattle.lb_step.specs.declared.command.StatedAction.TheVariants as actions
+use Rattle.lb_chain.specs.declared.action.Action.{Action}
+use Rattle.lb_chain.specs.declared.action.Action.TheVariants as actions
+use Rattle.lb_servers.specs.declared.pool.PoolName.{PoolName}
 use Rattle.lb_step.specs.declared.event.Event.{Event}
 use Rattle.lb_step.specs.declared.event.Event.TheVariants.{Edit, Query, Reply}
 use Rattle.lb_command.specs.Events.{told_origin}
@@ -72,7 +73,7 @@ abbrev mutual
   HaveTypedNames (more member members) = HasTypedNames member × HaveTypedNames members
 
 -- the response code of an action can be typed
-abbrev pub IsTypedAction : StatedAction → Type 0
+abbrev pub IsTypedAction : Action PoolName → Type 0
 IsTypedAction (actions.Rcode rcode) = IsTypedCode rcode
 IsTypedAction _ = Unit {0}
 

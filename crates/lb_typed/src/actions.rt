@@ -9,7 +9,8 @@ ghost use Rattle.lb_typed.specs.Typed.{IsTypedAction};
 use crate::addrs::addr_word;
 use crate::terms::{bracketed, push_word};
 use crate::words::{pool_word, rcode_word};
-use lb_core::StatedAction;
+use lb_chain::Action;
+use lb_servers::PoolName;
 use lb_wire::Addr;
 use std::alloc::{AllocError, Global};
 
@@ -29,21 +30,21 @@ fn addrs_text(alloc: Global, addrs: &[Addr]) -> Result<String, AllocError>
 }
 
 /// An action. One that answers with an RCODE that cannot be typed has `?` in its place.
-pub fn action_text(alloc: Global, what: &StatedAction) -> Result<String, AllocError>
+pub fn action_text(alloc: Global, what: &Action<PoolName>) -> Result<String, AllocError>
     ensures { IfOk result (λ text. IsTypedAction what.now → Spells (action what.now) (string_bytes text)) }
 {
     match what {
-        StatedAction::Allow => String::from_str(alloc, "allow"),
-        StatedAction::Drop => String::from_str(alloc, "drop"),
-        StatedAction::Rcode(rcode) => bracketed(alloc, "rcode", rcode_word(*rcode)),
-        StatedAction::Pool(name) => bracketed(alloc, "pool", pool_word(name)),
-        StatedAction::Tc => String::from_str(alloc, "tc"),
-        StatedAction::Spoof(addrs) => {
+        Action::Allow => String::from_str(alloc, "allow"),
+        Action::Drop => String::from_str(alloc, "drop"),
+        Action::Rcode(rcode) => bracketed(alloc, "rcode", rcode_word(*rcode)),
+        Action::Pool(name) => bracketed(alloc, "pool", pool_word(name)),
+        Action::Tc => String::from_str(alloc, "tc"),
+        Action::Spoof(addrs) => {
             let inner = addrs_text(alloc, addrs.as_slice())?;
             bracketed(alloc, "spoof", inner.as_str())
         }
-        StatedAction::None => String::from_str(alloc, "none"),
-        StatedAction::NoRecurse => String::from_str(alloc, "norecurse"),
-        StatedAction::SkipCache => String::from_str(alloc, "skipcache"),
+        Action::None => String::from_str(alloc, "none"),
+        Action::NoRecurse => String::from_str(alloc, "norecurse"),
+        Action::SkipCache => String::from_str(alloc, "skipcache"),
     }
 }

@@ -20,7 +20,8 @@ use crate::words::{
     pool_word, spaced, type_word,
 };
 use lb_cache::{Covered, MaxEntries, MaxTtl, Shards, Skips};
-use lb_core::{CheckSpec, Command, StatedAction, StatedRule, Timeout};
+use lb_chain::Action;
+use lb_core::{CheckSpec, Command, StatedRule, Timeout};
 use lb_name::Name;
 use lb_servers::{Ident, Mode, Policy, PoolName, ServerSpec};
 use lb_terms::MAX_SET;
@@ -259,10 +260,10 @@ pub(crate) fn command_text(alloc: Global, what: &Command) -> Result<String, Allo
 }
 
 /// Addresses of an answer are at most eight.
-fn law_of_action(what: &StatedAction)
+fn law_of_action(what: &Action<PoolName>)
     ensures { AllowedAction what.now }
 {
-    if let StatedAction::Spoof(addrs) = what {
+    if let Action::Spoof(addrs) = what {
         let _ = addrs.as_slice();
     }
 }

@@ -87,7 +87,7 @@ older_long r secs =
 abbrev pub older_octets : ℕ → List Record → List ℕ
 older_octets secs records = flat_map record_octets (map (aged_record secs) records)
 
--- so many of the records are older, the others stand behind them
+-- so many of the records are older, the others stand after them
 pub record SoFar (old now : List ℕ) (at secs k place : ℕ) (records : List Record) (rest : List ℕ) : Type 0 where
   pub done : List Record
   pub todo : List Record
@@ -203,7 +203,7 @@ ttl_room read r secs n ttl same type_is other ttl_is lives =
     let value : secs ≤ ttl_value r.ttl = lives (other_type r n type_there other) in
     omega (arith, value, ttl_low r.ttl, ttl_there)
 
--- the records that a message has behind its question, by the header and the question that stand there
+-- the records that a message has after its question, by the header and the question that stand there
 pub age_held : (go : LabelsGoOn) (bytes : List ℕ) (h : Header) (q : Question) (place n : ℕ) (m : Message) → Opens bytes h q place → Lays bytes m → n ≡ count_of h → Holds n (drop place bytes) m.records m.rest
 age_held go bytes h q place n m opens lays is =
     let held = opened go bytes h q place m opens lays in

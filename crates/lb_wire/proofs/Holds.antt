@@ -74,7 +74,7 @@ each_more : (P : Record → Type 0) (xs : List Record) (x : Record) → AllByRec
 each_more P [] x each here = (here, tt)
 each_more P (y ∷ ys) x each here = (each.0, each_more P ys x each.1 here)
 
--- two lists one behind the other
+-- two lists one after the other
 each_both : (P : Record → Type 0) (xs ys : List Record) → AllByRecursion P xs → AllByRecursion P ys → AllByRecursion P (xs ++ ys)
 each_both P [] ys each others = others
 each_both P (x ∷ xs) ys each others = (each.0, each_both P xs ys each.1 others)
@@ -91,7 +91,7 @@ Holds-more count octets there rest records r held is here = record {
   parts = held.parts ∙ ap (λ (xs : List ℕ). flat_map record_octets records ++ xs) (here ∙ ap (λ (xs : List ℕ). xs ++ rest) (sym (append-nil (record_octets r)))) ∙ sym (append_assoc (flat_map record_octets records) (flat_map record_octets (r ∷ [])) rest) ∙ ap (λ (xs : List ℕ). xs ++ rest) (sym (flat_map-append record_octets records (r ∷ [])));
 }
 
--- records behind records are held together
+-- records after records are held together
 pub Holds-both : (m n : ℕ) (octets there rest : List ℕ) (records others : List Record) → Holds m octets records there → Holds n there others rest → Holds (m + n) octets (records ++ others) rest
 Holds-both m n octets there rest records others held behind = record {
   each = each_both IsRecord records others held.each behind.each;
@@ -103,7 +103,7 @@ Holds-both m n octets there rest records others held behind = record {
 abbrev pub LeavesOf : ℕ → ℕ → List ℕ → List ℕ → Type 0
 LeavesOf total left whole there = (records : List Record) (rest : List ℕ) → Holds total whole records rest → (others : List Record) × Holds left there others rest
 
--- what is held of one record more, behind the one that stands there
+-- what is held of one record more, after the one that stands there
 left_by : (go : LabelsGoOn) (left : ℕ) (there after : List ℕ) (r : Record) → IsRecord r → there ≡ record_octets r ++ after → (others : List Record) (rest : List ℕ) → Holds (suc left) there others rest → (more : List Record) × Holds left after more rest
 left_by go left there after r is here [] rest held = absurd (omega (arith, held.number))
 left_by go left there after r is here (s ∷ others) rest held =

@@ -35,11 +35,11 @@ pub lays_header : (bytes : List ℕ) (m : Message) (h : Header) → Lays bytes m
 lays_header bytes m h lays fits front =
     (one_header h m.header (drop 12 bytes) (question_octets m.name m.qtype m.qclass ++ (flat_map record_octets m.records ++ m.rest)) fits lays.header (sym front ∙ lays.parts)).0
 
--- behind the header stands the message's question
+-- after the header stands the message's question
 pub lays_question : (bytes : List ℕ) (m : Message) → Lays bytes m → drop 12 bytes ≡ question_octets m.name m.qtype m.qclass ++ (flat_map record_octets m.records ++ m.rest)
 lays_question bytes m lays = ap (λ (xs : List ℕ). drop 12 xs) lays.parts
 
--- the question that stands there is the message's, and behind it stand its records
+-- the question that stands there is the message's, and after it stand its records
 lays_records : (go : LabelsGoOn) (bytes : List ℕ) (m : Message) (q : Question) (place : ℕ) → Lays bytes m → Asks (drop 12 bytes) q (drop place bytes) → Holds (count_of m.header) (drop place bytes) m.records m.rest
 lays_records go bytes m q place lays asks =
     let same = one_question go q.name m.name q.qtype m.qtype q.qclass m.qclass (drop place bytes) (flat_map record_octets m.records ++ m.rest) asks.name lays.name asks.qtype lays.qtype asks.qclass lays.qclass (sym asks.parts ∙ lays_question bytes m lays) in
@@ -70,7 +70,7 @@ each_drop P zero xs each = each
 each_drop P (suc n) [] each = tt
 each_drop P (suc n) (x ∷ xs) each = each_drop P n xs each.1
 
--- records are the first of them, and behind these the others
+-- records are the first of them, and after these the others
 pub Holds-first : (m n : ℕ) (octets rest : List ℕ) (records : List Record) → Holds (m + n) octets records rest → Holds m octets (take m records) (flat_map record_octets (drop m records) ++ rest)
 Holds-first m n octets rest records held = record {
   each = each_take IsRecord m records held.each;
@@ -103,7 +103,7 @@ no_answers h octets n is none records rest held =
     let same : h.answers ≡ n = sym is in
     none (take h.answers records) (flat_map record_octets (drop h.answers records) ++ rest) (record { each = first.each; number = first.number ∙ same; parts = first.parts })
 
--- where answer records stand and no others behind them, the records are not held
+-- where answer records stand and no others after them, the records are not held
 pub no_others : (go : LabelsGoOn) (h : Header) (octets there : List ℕ) (n k : ℕ) (first : List Record) → n ≡ h.answers → k ≡ h.authorities + h.additionals → Holds n octets first there → ((records : List Record) (rest : List ℕ) → Holds k there records rest → ⊥) → (records : List Record) (rest : List ℕ) → Holds (count_of h) octets records rest → ⊥
 no_others go h octets there n k first is others held_first none records rest held =
     let front : Holds h.answers octets first there = record { each = held_first.each; number = held_first.number ∙ is; parts = held_first.parts } in

@@ -30,7 +30,7 @@ some_long : (records : List Record) (opt : Opt) → first_opt (opts records) ≡
 some_long [] opt is = cc is
 some_long (r ∷ records) opt is = first_long r records
 
--- behind the question of a query with an OPT is room for one
+-- after the question of a query with an OPT is room for one
 pub opt_room : (bytes : List ℕ) (m : Message) (opt : Opt) → Lays bytes m → first_opt (opts m.records) ≡ Some opt → 12 + length (question_octets m.name m.qtype m.qclass) + 11 ≤ length bytes
 opt_room bytes m opt lays is =
     let q = question_octets m.name m.qtype m.qclass in
@@ -46,7 +46,7 @@ cut_there bytes m end lays ends =
     let size : length front ≡ end = omega (arith, ends) in
     ap (λ (xs : List ℕ). take end xs) (lays.parts ∙ sym (append_assoc (header_octets m.header) (question_octets m.name m.qtype m.qclass) rest)) ∙ take_at front rest end size
 
--- the question, and what was put behind it
+-- the question, and what was put after it
 pub made_there : (bytes piece : List ℕ) (m : Message) (end : ℕ) → Lays bytes m → end ≡ 12 + length (question_octets m.name m.qtype m.qclass) → drop 12 (take end bytes ++ piece) ≡ question_octets m.name m.qtype m.qclass ++ piece
 made_there bytes piece m end lays ends = ap (λ (xs : List ℕ). drop 12 (xs ++ piece)) (cut_there bytes m end lays ends)
 
@@ -64,7 +64,7 @@ opt_fits old piece m view opt lays is has made =
     let size : length piece ≡ 11 = ap (λ (xs : List ℕ). length xs) made in
     omega (arith, room, end, size)
 
--- the question and its OPT behind a header are the made answer
+-- the question and its OPT after a header are the made answer
 pub made_opt : (old cut new piece : List ℕ) (m : Message) (view : QueryView) (flags : Flags) (opt : Opt) (h : Header) → Lays old m → view ≡ view_of m → view.opt ≡ Some opt → piece ≡ record_octets (opt_record opt) → cut ≡ take view.question_end old ++ piece → h ≡ made_header view.id flags 1 0 1 → new ≡ header_octets h ++ drop 12 cut → new ≡ made_of view flags.0
 made_opt old cut new piece m view flags opt h lays is has made cut_is headed new_is =
     let head = header_octets (made_header view.id flags 1 0 1) in

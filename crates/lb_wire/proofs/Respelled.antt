@@ -30,7 +30,7 @@ same_long a b same =
 abbrev pub behind_name : Message → List ℕ
 behind_name m = (two_octets m.qtype.0 ++ two_octets m.qclass.0) ++ (flat_map record_octets m.records ++ m.rest)
 
--- a message, its question name between what stands before and behind it
+-- a message, its question name between what stands before and after it
 pub named : (m : Message) → message_octets m ≡ header_octets m.header ++ (wire_of m.name ++ behind_name m)
 named m = ap (λ (xs : List ℕ). header_octets m.header ++ xs) (append_assoc (wire_of m.name) (two_octets m.qtype.0 ++ two_octets m.qclass.0) (flat_map record_octets m.records ++ m.rest))
 

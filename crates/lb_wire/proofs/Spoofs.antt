@@ -46,7 +46,7 @@ octets_more front now records r more new so here all =
     ∙ ap (λ (xs : List ℕ). front ++ xs) (sym (flat_map-append record_octets records (r ∷ [])))
     ∙ ap (λ (rs : List Record). front ++ flat_map record_octets rs) (sym all)
 
--- the question, the records and the OPT behind a header are the spoofed answer
+-- the question, the records and the OPT after a header are the spoofed answer
 pub spoofed_there : (bytes cut records with_opt new : List ℕ) (m : Message) (view : QueryView) (addrs : List Addr) (h : Header) (flags : Flags) (answers additionals : ℕ) → Lays bytes m → view ≡ view_of m → cut ≡ take view.question_end bytes → records ≡ cut ++ flat_map record_octets (spoof_records view.qtype.0 addrs) → with_opt ≡ records ++ opt_octets view.opt → answers ≡ length (spoof_records view.qtype.0 addrs) → additionals ≡ opt_number view.opt → flags.0 ≡ answer_flags view.flags.0 0 0 → h ≡ made_header view.id flags 1 answers additionals → new ≡ header_octets h ++ drop 12 with_opt → new ≡ spoofed_of view addrs
 spoofed_there bytes cut records with_opt new m view addrs h flags answers additionals lays is cut_is records_is opt_is answers_is additionals_is flags_is h_is new_is =
     let rs = spoof_records view.qtype.0 addrs in

@@ -30,6 +30,6 @@ NoneIsOutlived = (secs : ℕ) (records : List Record) → least_ttl records ≡ 
 abbrev pub aged : ℕ → Message → Message
 aged secs m = record m { records = map (aged_record secs) m.records }
 
--- the records that stood at a place are so many seconds older; all before and behind them is as it was
+-- the records that stood at a place are so many seconds older; all before and after them is as it was
 abbrev pub Aged : List ℕ → ℕ → ℕ → List Record → List ℕ → List ℕ → Type 0
 Aged old at secs records rest new = new ≡ take at old ++ (flat_map record_octets (map (aged_record secs) records) ++ rest)

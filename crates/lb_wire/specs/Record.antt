@@ -65,7 +65,7 @@ pub record IsRecord (r : Record) : Type 0 where
 abbrev pub IsReadAt : List ℕ → ℕ → Spot → Type 0
 IsReadAt bytes at spot = (r : Record) × IsRecord r × (drop at bytes ≡ record_octets r ++ drop spot.end bytes) × (spot.rtype.0 ≡ r.rtype) × (spot.ttl ≡ r.ttl) × (spot.ttl_at ≡ at + length (owner_octets r.owner) + 4)
 
--- so many records stand at the front of the octets, and the rest behind them
+-- so many records stand at the front of the octets, and the rest after them
 pub record Holds (count : ℕ) (octets : List ℕ) (records : List Record) (rest : List ℕ) : Type 0 where
   pub each : AllByRecursion IsRecord records
   pub number : length records ≡ count

@@ -44,7 +44,7 @@ abbrev pub Surveys : List ℕ → Option Survey → Type 0
 Surveys bytes (Some survey) = (m : Message) × Lays bytes m × (survey ≡ survey_of m)
 Surveys bytes None = (m : Message) → Lays bytes m → ⊥
 
--- the octets with another spelling of the question name, of the same length, in place of the one behind the header
+-- the octets with another spelling of the question name, of the same length, in place of the one after the header
 abbrev pub respelled : List (List ℕ) → List ℕ → List ℕ
 respelled name bytes = take 12 bytes ++ (wire_of name ++ drop (12 + length (wire_of name)) bytes)
 

@@ -18,7 +18,7 @@ tally_of records = record { opt = first_opt (opts records); twice = is_two (opts
 abbrev pub tally_of_one : ℕ → ℕ → Tally
 tally_of_one rtype ttl = if rtype == opt_type then record { opt = Some (record { dnssec_ok = ttl / dnssec_ok % 2 == 1 }); twice = false; least = None } else record { opt = None; twice = false; least = Some (ttl_value ttl) }
 
--- the same of records and others behind them
+-- the same of records and others after them
 abbrev pub both_of : Tally → Tally → Tally
 both_of a b = record {
   opt = if is_some a.opt then a.opt else b.opt;

@@ -53,7 +53,7 @@ pub fn formerr_in_place(bytes: &mut Vec<u8>)
     );
 }
 
-/// Makes the answer with these flags. The OPT is written behind the question, over octets that are there: a query that
+/// Makes the answer with these flags. The OPT is written after the question, over octets that are there: a query that
 /// had one is long enough for it.
 fn make_in_place(bytes: &mut Vec<u8>, view: &QueryView, flags: Flags)
     requires { (m : Message) × Lays bytes.old.items m × IsQuery m × (view.now ≡ view_of m) }
@@ -73,7 +73,7 @@ fn make_in_place(bytes: &mut Vec<u8>, view: &QueryView, flags: Flags)
     }
 }
 
-/// Puts a piece in place of as many octets at a place, and cuts the bytes behind it.
+/// Puts a piece in place of as many octets at a place, and cuts the bytes after it.
 fn put_and_cut(bytes: &mut Vec<u8>, at: usize, piece: &[u8])
     requires { at + length piece.now ≤ vec_len bytes.old }
     ensures octets { bytes.new.items ≡ take at bytes.old.items ++ piece.now }

@@ -11,7 +11,7 @@ pub enum Kept {
     No,
     /// The cache is full of live replies.
     NoRoom,
-    /// Memory was wanting.
+    /// Memory was lacking.
     NoMemory,
 }
 

@@ -28,7 +28,7 @@ pub struct Key {
 }
 
 impl Key {
-    /// An equal key. The one error is want of memory.
+    /// An equal key. The one error is lack of memory.
     pub fn copy(&self, alloc: Global) -> Result<Key, AllocError>
         ensures { IfOk result (λ copy. copy ≡ self.now) }
     {
@@ -47,7 +47,7 @@ const NAME_AT: usize = 10;
 
 /// The key of a query, from which the view was read; RD alone may have been cleared since. If the data
 /// of the query's OPT is a list of options (RFC 6891 section 6.1.2), those of the listed codes are left
-/// out and RDLENGTH is lowered by their octets. The one error is want of memory.
+/// out and RDLENGTH is lowered by their octets. The one error is lack of memory.
 #[inline(always)]
 pub fn key_of(
     alloc: Global,

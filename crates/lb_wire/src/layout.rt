@@ -1,4 +1,4 @@
-//! The layout of a message behind its question.
+//! The layout of a message after its question.
 
 ghost use Rattle.std.specs.Prelude.{ℕ, ◌≤◌, List, length, IfSome, IfNone, drop};
 ghost use Rattle.lb_wire.specs.Record.{Record, Holds};

@@ -52,7 +52,7 @@ impl Octets {
         self.items.as_slice()
     }
 
-    /// An equal value. The one error is want of memory.
+    /// An equal value. The one error is lack of memory.
     pub fn copy(&self, alloc: Global) -> Result<Octets, AllocError>
         ensures { IfOk result (λ copy. copy ≡ self.now) }
     {

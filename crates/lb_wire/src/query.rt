@@ -77,7 +77,7 @@ pub fn read_query(bytes: &[u8]) -> Result<QueryView, QueryFault>
     read_parts(bytes, header)
 }
 
-/// Reads what stands behind the header of a query.
+/// Reads what stands after the header of a query.
 #[inline(always)]
 fn read_parts(bytes: &[u8], header: Header) -> Result<QueryView, QueryFault>
     requires fits { IsHeader header }

@@ -14,7 +14,7 @@ use lb_name::labels_go_on;
 /// 4.1.3).
 const FIXED_LEN: usize = 10;
 
-/// The places of TTL and RDLENGTH behind the owner.
+/// The places of TTL and RDLENGTH after the owner.
 const TTL_AT: usize = 4;
 
 const RDLENGTH_AT: usize = 8;

@@ -50,7 +50,7 @@ pub struct ReplyView {
     pub rcode: Rcode,
     /// QDCOUNT.
     pub questions: u16,
-    /// The question: there exactly where QDCOUNT is not 0 and one stands behind the header.
+    /// The question: there exactly where QDCOUNT is not 0 and one stands after the header.
     pub question: Option<Question>,
 }
 
@@ -120,8 +120,8 @@ pub fn restore_id(bytes: &mut [u8], id: u16)
     bytes[1] = low;
 }
 
-/// Puts another spelling of the question name in place of the one behind the header, which is the same without regard
-/// to case. No more is asked for: what stands behind the question may be cut off or miscounted, and stays as it is.
+/// Puts another spelling of the question name in place of the one after the header, which is the same without regard
+/// to case. No more is asked for: what stands after the question may be cut off or miscounted, and stays as it is.
 pub fn respell(bytes: &mut [u8], name: &Name)
     requires { (q : Question) × (rest : List ℕ) × Asks (drop 12 bytes.old) q rest × IsSame q.name name.now }
     ensures parts { (q : Question) (rest : List ℕ) → Asks (drop 12 bytes.old) q rest → IsSame q.name name.now → bytes.new ≡ take 12 bytes.old ++ (question_octets name.now q.qtype q.qclass ++ rest) }

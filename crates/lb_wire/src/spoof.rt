@@ -27,7 +27,7 @@ const MAX_SPOOFED: usize = 506;
 const ADDRESS_TTL: u32 = 60;
 
 /// The answer to a query with these 1 to 8 addresses, as far as they fit the type asked for: the question, and one
-/// record for each in their order. The view was read from the bytes. The one error is want of memory.
+/// record for each in their order. The view was read from the bytes. The one error is lack of memory.
 pub fn spoofed(
     alloc: Global,
     bytes: &[u8],
@@ -101,7 +101,7 @@ fn push_address(answer: &mut Vec<u8>, addr: &Addr) -> Result<(), AllocError>
     }
 }
 
-/// What stands before the address in its record: the owner, a pointer to the question name behind the header, and
+/// What stands before the address in its record: the owner, a pointer to the question name after the header, and
 /// TYPE, CLASS, TTL and RDLENGTH.
 fn address_front(rtype: RecordType, len: u8) -> [u8; 12]
     ensures { result ≡ owner_octets asked_owner ++ (two_octets rtype.0 ++ (two_octets in_class ++ (four_octets address_ttl ++ two_octets len))) }

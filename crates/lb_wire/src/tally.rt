@@ -56,7 +56,7 @@ impl Tally {
         }
     }
 
-    /// Of these records and the others behind them.
+    /// Of these records and the others after them.
     pub(crate) fn and(self, others: Tally) -> Tally
         ensures { result ≡ both_of self others }
     {

@@ -2,9 +2,9 @@
 
 use crate::texts::pool_of;
 use lb_chain::{Action, Rule};
-use lb_core::StatedAction;
-use lb_servers::Pool;
+use lb_servers::{Pool, PoolName};
 use lb_typed::{action_text, term_text};
+use lb_wire::PoolId;
 use std::alloc::{AllocError, Global};
 
 /// How many members of a set a short text has.
@@ -46,16 +46,10 @@ pub(crate) fn rule_text(
 }
 
 /// An action as a command states it. None if its pool is newer than these pools.
-pub(crate) fn stated(action: &Action, pools: &[Pool]) -> Option<StatedAction> {
-    Some(match action {
-        Action::Allow => StatedAction::Allow,
-        Action::Drop => StatedAction::Drop,
-        Action::Rcode(rcode) => StatedAction::Rcode(*rcode),
-        Action::Pool(pool) => StatedAction::Pool(pool_of(pools, *pool)?.copy()),
-        Action::Tc => StatedAction::Tc,
-        Action::Spoof(addrs) => StatedAction::Spoof(*addrs),
-        Action::None => StatedAction::None,
-        Action::NoRecurse => StatedAction::NoRecurse,
-        Action::SkipCache => StatedAction::SkipCache,
-    })
+pub(crate) fn stated(action: &Action<PoolId>, pools: &[Pool]) -> Option<Action<PoolName>> {
+    let name = match action.pool() {
+        Some(id) => Some(pool_of(pools, *id)?.copy()),
+        None => None,
+    };
+    action.with_pool(name)
 }

@@ -1,7 +1,7 @@
 use Rattle.std.proofs.Common.{◌≡◌, ◌++◌, ◌∷◌, [], ◌<◌, None, Some, List, ℕ, Contains, length, get_or, nat_eq, ap, subst, sym, ◌∙◌, rules}
 use Rattle.std.specs.List.{position, IsDistinct}
 use Rattle.lb_masks.specs.Kinds.{numbers, IsNoted}
-use Rattle.lb_masks.specs.declared.kinds.Kind.{Kind}
+use Rattle.lb_masks.specs.declared.kinds.MaskKind.{MaskKind}
 use Rattle.lb_masks.specs.Marks.{HasMark}
 use Rattle.lb_masks.proofs.InUse.{once_more}
 use Rattle.lb_masks.proofs.Marked.{noted_new, noted_there}
@@ -12,35 +12,35 @@ pub returns-in-Some-clause-ok : goal.returns-in-Some-clause-ok
 returns-in-Some-clause-ok c =
     let kinds = c.args.kinds.now.items in
     let place = c.in-Some.place in
-    let old : Kind = c.index.result.now in
+    let old : MaskKind = c.index.result.now in
     let here : old ≡ get_or kinds place old = search rules in
     let lt : place < length kinds = search rules in
     let is : position (is_number c.args.number) kinds ≡ Some place = search rules in
-    let number : old.number ≡ c.args.number = ap (λ (k : Kind). k.number) here ∙ found_number kinds c.args.number place old is in
+    let number : old.number ≡ c.args.number = ap (λ (k : MaskKind). k.number) here ∙ found_number kinds c.args.number place old is in
     let has : Contains kinds old = (place, lt, sym here) in
-    noted_same (numbers kinds) _ c.args.number (numbers_set kinds place c.with.result old (c.with.ensures.number ∙ ap (λ (k : Kind). k.number) here))
+    noted_same (numbers kinds) _ c.args.number (numbers_set kinds place c.with.result old (c.with.ensures.number ∙ ap (λ (k : MaskKind). k.number) here))
     (subst (λ (n : ℕ). Contains (numbers kinds) n) number (number_has kinds old has))
 
 pub returns-in-Some-clause-marked : goal.returns-in-Some-clause-marked
 returns-in-Some-clause-marked c =
     let kinds = c.args.kinds.now.items in
     let place = c.in-Some.place in
-    let old : Kind = c.index.result.now in
+    let old : MaskKind = c.index.result.now in
     let here : old ≡ get_or kinds place old = search rules in
     let lt : place < length kinds = search rules in
     let is : position (is_number c.args.number) kinds ≡ Some place = search rules in
     let number : (get_or kinds place old).number ≡ c.args.number = found_number kinds c.args.number place old is in
-    let same = c.with.ensures.number ∙ ap (λ (k : Kind). k.number) here in
+    let same = c.with.ensures.number ∙ ap (λ (k : MaskKind). k.number) here in
     noted_there kinds place c.args.number c.args.mark old c.with.result lt same (same ∙ number) c.with.ensures.own
-    (λ m has. c.with.ensures.kept m (subst (λ (k : Kind). HasMark k.marks m) (sym here) has))
+    (λ m has. c.with.ensures.kept m (subst (λ (k : MaskKind). HasMark k.marks m) (sym here) has))
 
 pub returns-in-Some-clause-once : goal.returns-in-Some-clause-once
 returns-in-Some-clause-once c = λ once.
     let kinds = c.args.kinds.now.items in
     let place = c.in-Some.place in
-    let old : Kind = c.index.result.now in
+    let old : MaskKind = c.index.result.now in
     let here : old ≡ get_or kinds place old = search rules in
-    subst (λ (ks : List ℕ). IsDistinct nat_eq ks) (sym (numbers_set kinds place c.with.result old (c.with.ensures.number ∙ ap (λ (k : Kind). k.number) here))) once
+    subst (λ (ks : List ℕ). IsDistinct nat_eq ks) (sym (numbers_set kinds place c.with.result old (c.with.ensures.number ∙ ap (λ (k : MaskKind). k.number) here))) once
 
 pub returns-in_ok-push-in-None-clause-ok : goal.returns-in_ok-push-in-None-clause-ok
 returns-in_ok-push-in-None-clause-ok c =
@@ -62,4 +62,4 @@ returns-in_ok-push-in-None-clause-marked c =
     let kinds = c.args.kinds.now.items in
     let more = c.push.new.self.items in
     let is : more ≡ kinds ++ c.with-in-None.result ∷ [] = c.in_ok-push-in-None.ensures.items in
-    subst (λ (ks : List Kind). IsNoted kinds c.args.number c.args.mark ks) (sym is) (noted_new kinds c.args.number c.args.mark c.with-in-None.result (c.with-in-None.ensures.number ∙ c.new.ensures) c.with-in-None.ensures.own)
+    subst (λ (ks : List MaskKind). IsNoted kinds c.args.number c.args.mark ks) (sym is) (noted_new kinds c.args.number c.args.mark c.with-in-None.result (c.with-in-None.ensures.number ∙ c.new.ensures) c.with-in-None.ensures.own)

@@ -19,7 +19,7 @@ invariant_of-self-2 c =
     let to : c.args.place < length rules = omega arith in
     (kept_put_again c.self.inside.last_rule c.self.inside.moment c.self.inside.limiters rules c.move_rule.new.rules.items c.in-Some.at c.args.place (slice_get rules c.in-Some.at) c.self.invariant.0 lt to refl c.in_ok-move_rule.ensures.ok, c.of-self-inside.ensures ∙ ap places_of c.as_slice-2.ensures.value, c.move_rule.ensures.offers)
 
--- where memory was wanting, the rules are as they were
+-- where memory was lacking, the rules are as they were
 pub invariant_of-self : goal.invariant_of-self
 invariant_of-self c =
     let same = sym c.in_err-move_rule.ensures.err in

@@ -5,7 +5,7 @@ use Rattle.lb_ranks.specs.Filed.{HasBesides, filed_at}
 use Rattle.lb_masks.specs.Index.{Pair, IsFiledWith, pair_of, shown}
 use Rattle.lb_masks.specs.Key.{key_of, kind_at}
 use Rattle.lb_masks.specs.Kinds.{mark_of, numbers, AreInUse, AreMarked, HasKind, IsNoted, KeepsMarks}
-use Rattle.lb_masks.specs.declared.kinds.Kind.{Kind}
+use Rattle.lb_masks.specs.declared.kinds.MaskKind.{MaskKind}
 use Rattle.lb_masks.proofs.InUse.{used_again, used_besides}
 use Rattle.lb_masks.proofs.Marked.{marked_again, marked_besides}
 use Rattle.lb_masks.proofs.Pairs.{Keyed, filed_pairs, keyed_besides}
@@ -14,7 +14,7 @@ use Rattle.lb_masks.proofs.index.MaskIndex.file.Goals as goal
 pub invariant_of-self : goal.invariant_of-self
 invariant_of-self c =
     let items = c.self.inside.ranks in
-    subst (λ (ks : List Kind). Keyed items × AreInUse (numbers ks) items × AreMarked ks items) (sym c.in_err-note.ensures.err) c.self.invariant
+    subst (λ (ks : List MaskKind). Keyed items × AreInUse (numbers ks) items × AreMarked ks items) (sym c.in_err-note.ensures.err) c.self.invariant
 
 pub invariant_of-self-in-Ok : goal.invariant_of-self-in-Ok
 invariant_of-self-in-Ok c =

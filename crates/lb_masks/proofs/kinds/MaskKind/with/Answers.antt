@@ -1,6 +1,6 @@
 use Rattle.std.proofs.Common.{◌≡◌, ◌/◌, ◌%◌, ◌<◌, length, sym, rules}
 use Rattle.lb_masks.proofs.Bitmaps.{with_kept, with_own}
-use Rattle.lb_masks.proofs.kinds.Kind.with.Goals as goal
+use Rattle.lb_masks.proofs.kinds.MaskKind.with.Goals as goal
 
 pub returns-clause-own : goal.returns-clause-own
 returns-clause-own c =
