@@ -27,7 +27,7 @@ use Rattle.lb_step.specs.declared.answer.EditFault.TheVariants as faults
 use Rattle.lb_step.specs.Plain.{Plain, chain_of, with_chain, upstreams_of, with_upstreams}
 use Rattle.lb_step.specs.Upstream.{Upstreams, added_checked, attached_cache, backends_of, detached_cache, expunged_cache, on_backends, put_into, removed_checked, totals_of}
 
--- the place that a rule is added at: where none is stated, after the others
+-- the place that a rule is added at: if none is stated, after the others
 abbrev pub place_or_end : Option ℕ → List Numbered → ℕ
 place_or_end None rules = length rules
 place_or_end (Some place) rules = place

@@ -128,7 +128,7 @@ fn action_of(upstream: &Upstream, action: &Action<PoolName>) -> Option<Action<Po
     action.with_pool(pool)
 }
 
-/// The place that a rule is added at: where none is stated, after the others.
+/// The place that a rule is added at: if none is stated, after the others.
 fn place_or_end(place: Option<usize>, chain: &Chain) -> usize
     ensures { result ≡ place_or_end place chain.now.rules }
 {

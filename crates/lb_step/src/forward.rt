@@ -20,7 +20,7 @@ use lb_table::{EnterFault, Entry, Place, Waiting};
 use lb_wire::{
     CacheId, Key, Lane, Octets, QueryView, Rcode, ServerId, answer_in_place, clear_rd, restore_id,
 };
-use std::alloc::{AllocError, Global};
+use std::alloc::Global;
 
 /// Answers a query by a server of a pool; it asked this of a cache. Where memory is refused for its entry, nothing changes and the
 /// query's bytes come back with what was refused.
@@ -47,10 +47,11 @@ pub(crate) fn forward(
         server,
         timeout: upstream.timeout(),
     };
-    let waiting = match target.waiting(alloc, asked, bytes.as_slice(), view, ask) {
-        Ok(waiting) => waiting,
+    let kept = match Vec::from_slice(alloc, bytes.as_slice()) {
+        Ok(kept) => Octets::from_vec(kept),
         Err(error) => return Err((Lacking::from(error), bytes)),
     };
+    let waiting = target.waiting(asked, kept, view, ask);
     match upstream.send(routed.pool, asked.kind, asked.word, waiting) {
         Ok((lane, id)) => Ok(Answer::Forward(
             server,
@@ -75,25 +76,23 @@ struct Target {
 }
 
 impl Target {
-    /// What is kept of a query until its reply. Its place has no lane and no ID yet. The one error is
-    /// lack of memory.
+    /// What is kept of a query until its reply, its octets as they came in among it. Its place has
+    /// no lane and no ID yet.
     fn waiting(
         &self,
-        alloc: Global,
         asked: &Asked,
-        bytes: &[u8],
+        kept: Octets,
         view: &QueryView,
         ask: Option<(CacheId, Key)>,
-    ) -> Result<Waiting, AllocError>
-        requires { length bytes.now ≤ max_message }
-        ensures place { IfOk result (λ waiting. waiting.place.server ≡ self.now.server) }
-        ensures entry { IfOk result (λ waiting. (ups : Upstreams) → ups.timeout ≡ self.now.timeout → waiting.entry ≡ entry_of_spec ups asked.now bytes.now view.now ask) }
+    ) -> Waiting
+        ensures place { result.place.server ≡ self.now.server }
+        ensures entry { (ups : Upstreams) → ups.timeout ≡ self.now.timeout → result.entry ≡ entry_of_spec ups asked.now kept view.now ask }
     {
         let unplaced = Lane {
             kind: asked.kind,
             number: 0,
         };
-        Ok(Waiting {
+        Waiting {
             place: Place {
                 server: self.server,
                 lane: unplaced,
@@ -101,7 +100,7 @@ impl Target {
             },
             entry: Entry {
                 origin: asked.origin,
-                asked: Octets::from_vec(Vec::from_slice(alloc, bytes)?),
+                asked: kept,
                 name: view.name.copy(),
                 qtype: view.qtype,
                 qclass: view.qclass,
@@ -109,7 +108,7 @@ impl Target {
                 timeout: self.timeout,
                 cache: ask,
             },
-        })
+        }
     }
 }
 
