@@ -39,6 +39,10 @@ use tokio::time::Sleep;
 /// How many seconds a body may take to come.
 const BODY_SECONDS: u64 = 10;
 
+/// How much room a message has at least, in octets, for an answer that the cache gives is written in
+/// its query's room. It is as much as a message over UDP may have (RFC 1035 section 4.2.1).
+const MESSAGE_ROOM: usize = 512;
+
 /// The service of one connection.
 #[derive(Drop)]
 pub(crate) struct Front<R, T: Taker, O: Outside, W: Waker> {
@@ -172,8 +176,9 @@ impl<R: Wait + Clock + Copy + Drop, T: Taker, O: Outside, W: Waker, F> Answering
         if bytes.len() > MAX_MESSAGE {
             return Ok(Err(DohFault::TooLong));
         }
-        let octets = Octets::from_vec(Vec::from_slice(self.alloc, bytes)?);
-        Ok(read_body(DohBody::Whole(octets)))
+        let mut octets = Vec::with_capacity(self.alloc, bytes.len().max(MESSAGE_ROOM))?;
+        octets.extend_from_slice(bytes)?;
+        Ok(read_body(DohBody::Whole(Octets::from_vec(octets))))
     }
 
     /// Asks the desk. The request stands among those that wait before its message goes there.
@@ -245,29 +250,28 @@ where
         ensures registered { OnPending result (Covers cx.new (λ _. ⊥)) }
         ensures kept { Keeps cx.old cx.new }
     {
-        let Some(mut reading) = self.reading.take() else {
+        let Some(reading) = &mut self.reading else {
             return Poll::Ready(Err(Cut::Body));
         };
         match reading.poll(cx) {
             Poll::Ready(body) => {
+                self.reading = None;
                 let read = self.message_of(body);
                 self.poll_read(read, cx)
             }
-            Poll::Pending => self.wait_for_body(reading, late, cx),
+            Poll::Pending => self.wait_for_body(late, cx),
         }
     }
 
     /// Waits for the rest of a body that was polled, unless it takes too long.
     fn wait_for_body(
         &mut self,
-        reading: F,
         mut late: Option<Sleep>,
         cx: &mut Context<'_>,
     ) -> Poll<Ended>
-        requires can_poll { F.can_poll reading }
         requires registered { Covers cx.old (λ _. ⊥) }
         ensures value { IfReady result (λ x. x ≡ Err cuts.Body) }
-        ensures waits { OnPending result ((self.new.client ≡ self.old.client) × (self.new.reading ≡ Some reading) × IsBody self.new.stage) }
+        ensures waits { OnPending result ((self.new.client ≡ self.old.client) × (self.new.reading ≡ self.old.reading) × IsBody self.new.stage) }
         ensures registered { OnPending result (Covers cx.new (λ _. ⊥)) }
         ensures kept { Keeps cx.old cx.new }
     {
@@ -277,7 +281,6 @@ where
         if is_over(&mut late, cx) {
             return Poll::Ready(Err(Cut::Body));
         }
-        self.reading = Some(reading);
         self.stage = Stage::Body(late);
         Poll::Pending
     }

@@ -121,12 +121,31 @@ impl<R: Wait + Clock + Copy + Drop, T: Taker, O: Outside, W: Waker> Make for Mak
     }
 }
 
+/// A future in a block of its own. What holds it moves the block's address, and not the future.
+#[derive(Drop)]
+pub(crate) struct BoxedFuture<F> {
+    future: Box<F>,
+}
+
+impl<F: Future<Output = ()>> Future for BoxedFuture<F> {
+    type Output = ();
+
+    ghost can_poll = { λ b. F.can_poll b.future };
+
+    ghost needs = { λ b. F.needs b.future };
+
+    fn poll(&mut self, cx: &mut Context<'_>) -> Poll<()> {
+        self.future.poll(cx)
+    }
+}
+
 /// Takes in the clients of the listeners until it is told to end. Each has one of the places while
 /// its connection stands. A client that finds no place, or no memory for its connection, is closed
 /// at once; the others stay.
 #[derive(Drop)]
 pub(crate) struct Accepting<'a, R: Clock, M: Make> {
     pub(crate) rt: &'a R,
+    pub(crate) alloc: Global,
     pub(crate) timers: Handle,
     pub(crate) listeners: Vec<(u8, TcpListener)>,
     pub(crate) maker: M,
@@ -136,7 +155,7 @@ pub(crate) struct Accepting<'a, R: Clock, M: Make> {
     /// What tells it to end: that this is sent, or that its sender is dropped.
     pub(crate) end: oneshot::Receiver<()>,
     /// The connections that stand.
-    pub(crate) tasks: &'a TaskSet<M::Served>,
+    pub(crate) tasks: &'a TaskSet<BoxedFuture<M::Served>>,
 }
 
 /// How many seconds the listeners are left alone after one of them could not take a client in.
@@ -182,8 +201,10 @@ impl<R: Clock, M: Make> Accepting<'_, R, M> {
     fn serve(&self, place: u8, socket: TcpStream, end: SocketAddr) {
         match self.take_in(place, socket, end) {
             Some(served) => {
-                // What comes back found no memory, and is closed.
-                if self.tasks.spawn(served).is_ok() {
+                // What finds no memory is closed.
+                if let Ok(future) = Box::new(self.alloc, served)
+                    && self.tasks.spawn(BoxedFuture { future }).is_ok()
+                {
                     self.maker.entered();
                 }
             }

@@ -1,12 +1,13 @@
 //! Responses as hyper sends them.
 
-ghost use Rattle.std.specs.Prelude.{IfErr, IfOk, None, Some};
+ghost use Rattle.std.specs.Prelude.{IfErr, IfOk, None, Some, codes, decimal, string_bytes, ◌++◌, ◌≡◌};
 ghost use Rattle.lb_front.specs.Response.{IsBuilt, IsUnbuilt};
 
 use crate::cut::Cut;
 use bytes::Bytes;
 use http::{HeaderValue, Response, StatusCode, header};
 use http_body_util::Full;
+use itoa::Buffer;
 use lb_doh::DohResponse;
 use std::alloc::{AllocError, Global};
 
@@ -30,6 +31,21 @@ pub(crate) fn built(alloc: Global, response: DohResponse) -> Result<HttpResponse
     }
 }
 
+/// How many octets `max-age=` has with a number of seconds, which has ten digits at most.
+const MAX_AGE: usize = 18;
+
+/// For how many seconds a response may be kept, as Cache-Control says it (RFC 9111 section
+/// 5.2.2.1). Its room is taken at once. The one error is lack of memory.
+fn max_age_text(alloc: Global, seconds: u32) -> Result<String, AllocError>
+    ensures { IfOk result (λ text. string_bytes text ≡ codes "max-age=" ++ decimal seconds) }
+{
+    let mut digits = Buffer::new();
+    let mut text = String::with_capacity(alloc, MAX_AGE)?;
+    text.push_str("max-age=")?;
+    text.push_str(digits.format(seconds))?;
+    Ok(text)
+}
+
 /// A response with a message, which may be kept so many seconds (RFC 8484 section 5.1).
 fn with_message(
     alloc: Global,
@@ -40,7 +56,7 @@ fn with_message(
     ensures response { IfOk result (IsBuilt (record { status = status; max_age = max_age; body = Some message.items })) }
     ensures cut { IfErr result IsUnbuilt }
 {
-    let kept = format!(in alloc; "max-age={max_age}")?;
+    let kept = max_age_text(alloc, max_age)?;
     let body = match Bytes::from_vec(message) {
         Ok(body) => body,
         Err(refused) => return Err(Cut::from(AllocError::from(refused))),

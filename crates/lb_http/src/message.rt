@@ -56,7 +56,8 @@ fn read_short(alloc: Global, value: &[u8]) -> Result<Vec<u8>, DohFault>
     read_within(alloc, value, &mut plain, &mut room)
 }
 
-/// The same of a value of any length.
+/// The same of a value of any length. Its room is large, so it stands in a function of its own.
+#[inline(never)]
 fn read_long(alloc: Global, value: &[u8]) -> Result<Vec<u8>, DohFault>
     ensures { ReadsValue (decode value.now) result }
 {
