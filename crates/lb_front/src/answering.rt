@@ -264,11 +264,7 @@ where
     }
 
     /// Waits for the rest of a body that was polled, unless it takes too long.
-    fn wait_for_body(
-        &mut self,
-        mut late: Option<Sleep>,
-        cx: &mut Context<'_>,
-    ) -> Poll<Ended>
+    fn wait_for_body(&mut self, mut late: Option<Sleep>, cx: &mut Context<'_>) -> Poll<Ended>
         requires registered { Covers cx.old (λ _. ⊥) }
         ensures value { IfReady result (λ x. x ≡ Err cuts.Body) }
         ensures waits { OnPending result ((self.new.client ≡ self.old.client) × (self.new.reading ≡ self.old.reading) × IsBody self.new.stage) }

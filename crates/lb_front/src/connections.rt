@@ -1,6 +1,6 @@
 //! The connections of the listeners.
 
-ghost use Rattle.std.specs.Prelude.{IfSome};
+ghost use Rattle.std.specs.Prelude.{IfOk, IfSome, ◌≡◌};
 ghost use Rattle.futures.specs.Task.{Keeps};
 
 use crate::answering::Front;
@@ -19,7 +19,7 @@ use hyper::server::conn::http1;
 use hyper::server::conn::http1::Connection;
 use lb_lines::{Outside, Taker, Waker};
 use lb_sends::{Clients, Closing, Refusal, Sends};
-use std::alloc::Global;
+use std::alloc::{AllocError, Global};
 use std::net::SocketAddr;
 use std::sync::{Arc, Wait};
 use std::time::Clock;
@@ -127,6 +127,17 @@ pub(crate) struct BoxedFuture<F> {
     future: Box<F>,
 }
 
+impl<F> BoxedFuture<F> {
+    /// The future in its block. The one error is lack of memory.
+    fn new(alloc: Global, future: F) -> Result<BoxedFuture<F>, AllocError>
+        ensures { IfOk result (λ b. b.future ≡ future) }
+    {
+        Ok(BoxedFuture {
+            future: Box::new(alloc, future)?,
+        })
+    }
+}
+
 impl<F: Future<Output = ()>> Future for BoxedFuture<F> {
     type Output = ();
 
@@ -156,6 +167,26 @@ pub(crate) struct Accepting<'a, R: Clock, M: Make> {
     pub(crate) end: oneshot::Receiver<()>,
     /// The connections that stand.
     pub(crate) tasks: &'a TaskSet<BoxedFuture<M::Served>>,
+}
+
+/// Why a connection is not served.
+#[derive(Debug, Drop)]
+enum Unserved {
+    /// Memory was lacking for its future.
+    NoMemory,
+    /// The tasks take no further one: memory was lacking, or they end.
+    NotTaken,
+}
+
+impl From<AllocError> for Unserved {
+    ghost use Rattle.std.specs.Prelude.{◌≡◌};
+    ghost use Rattle.lb_front.specs.declared.connections.Unserved.TheVariants as unserved;
+
+    ghost from_gives = { λ _ fault. fault ≡ unserved.NoMemory };
+
+    fn from(_refused: AllocError) -> Unserved {
+        Unserved::NoMemory
+    }
 }
 
 /// How many seconds the listeners are left alone after one of them could not take a client in.
@@ -197,14 +228,23 @@ impl<R: Clock, M: Make> Accepting<'_, R, M> {
         Some(self.maker.make(socket, Client::at(place, end), permit))
     }
 
+    /// Has a connection served from now on.
+    fn serve_from_now(&self, served: M::Served) -> Result<(), Unserved>
+        requires { M.Served.can_poll served }
+    {
+        let future = BoxedFuture::new(self.alloc, served)?;
+        match self.tasks.spawn(future) {
+            Ok(()) => Ok(()),
+            Err(_) => Err(Unserved::NotTaken),
+        }
+    }
+
     /// Serves a client from now on, if there is a place for it.
     fn serve(&self, place: u8, socket: TcpStream, end: SocketAddr) {
         match self.take_in(place, socket, end) {
             Some(served) => {
-                // What finds no memory is closed.
-                if let Ok(future) = Box::new(self.alloc, served)
-                    && self.tasks.spawn(BoxedFuture { future }).is_ok()
-                {
+                // One that is not served is closed.
+                if self.serve_from_now(served).is_ok() {
                     self.maker.entered();
                 }
             }
