@@ -15,7 +15,7 @@ pub(crate) enum Cut {
     #[error("{0}")]
     Response(http::Error),
     /// Memory was lacking.
-    #[error("memory is wanting")]
+    #[error("memory is lacking")]
     NoMemory,
     /// Its body did not come, or not in time.
     #[error("the body did not come")]
@@ -65,7 +65,7 @@ pub enum FrontFault {
     #[error("{0}")]
     System(io::Error),
     /// Memory was lacking.
-    #[error("memory is wanting")]
+    #[error("memory is lacking")]
     NoMemory,
     /// Its event handler was not given back.
     #[error("the event handler is held")]

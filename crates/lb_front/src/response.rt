@@ -1,11 +1,13 @@
 //! Responses as hyper sends them.
 
-ghost use Rattle.std.specs.Prelude.{IfErr, IfOk, None, Some, codes, decimal, string_bytes, ◌++◌, ◌≡◌};
+ghost use Rattle.std.specs.Prelude.{IfErr, IfOk, None, OnOk, Some, codes, decimal, string_bytes, ◌++◌, ◌≡◌};
+ghost use Rattle.http.specs.Response.{body_of, head_of};
+ghost use Rattle.http_header.specs.HeaderMap.{append};
 ghost use Rattle.lb_front.specs.Response.{IsBuilt, IsUnbuilt};
 
 use crate::cut::Cut;
 use bytes::Bytes;
-use http::{HeaderValue, Response, StatusCode, header};
+use http::{HeaderName, HeaderValue, Response, StatusCode, header};
 use http_body_util::Full;
 use itoa::Buffer;
 use lb_doh::DohResponse;
@@ -46,6 +48,18 @@ fn max_age_text(alloc: Global, seconds: u32) -> Result<String, AllocError>
     Ok(text)
 }
 
+/// Adds a header line to a response, as its last.
+fn with_line(response: &mut HttpResponse, name: HeaderName, value: HeaderValue) -> Result<(), Cut>
+    ensures head { OnOk result (head_of response.new ≡ record (head_of response.old) { headers = append (head_of response.old).headers name value }) }
+    ensures body { OnOk result (body_of response.new ≡ body_of response.old) }
+    ensures cut { IfErr result IsUnbuilt }
+{
+    match response.headers_mut().append(name, value) {
+        Ok(_) => Ok(()),
+        Err(error) => Err(Cut::from(http::Error::from(error))),
+    }
+}
+
 /// A response with a message, which may be kept so many seconds (RFC 8484 section 5.1).
 fn with_message(
     alloc: Global,
@@ -56,17 +70,18 @@ fn with_message(
     ensures response { IfOk result (IsBuilt (record { status = status; max_age = max_age; body = Some message.items })) }
     ensures cut { IfErr result IsUnbuilt }
 {
-    let kept = max_age_text(alloc, max_age)?;
     let body = match Bytes::from_vec(message) {
         Ok(body) => body,
         Err(refused) => return Err(Cut::from(AllocError::from(refused))),
     };
+    let mut response = Response::new(alloc, Full::new(body));
+    *response.status_mut() = StatusCode::from_u16(status).map_err(http::Error::from)?;
     let media = HeaderValue::from_static("application/dns-message");
-    let response = Response::builder(alloc)
-        .status(status)
-        .header(header::CONTENT_TYPE, media)
-        .header(header::CACHE_CONTROL, kept);
-    Ok(response.body(Full::new(body))?)
+    with_line(&mut response, header::CONTENT_TYPE, media)?;
+    let text = max_age_text(alloc, max_age)?;
+    let kept = HeaderValue::from_string(text).map_err(http::Error::from)?;
+    with_line(&mut response, header::CACHE_CONTROL, kept)?;
+    Ok(response)
 }
 
 /// A response without a body. hyper says that its length is 0.

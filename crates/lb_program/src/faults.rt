@@ -16,7 +16,7 @@ use std::alloc::AllocError;
 use std::io;
 use std::io::{ErrorKind, Write};
 
-/// Room for the line that tells what ended a run of lines early: at most 5 bytes, 20 digits, 5 bytes, 20 digits, 2 bytes, a digit, a space, a
+/// Room for the line that reports what ended a run of lines early: at most 5 bytes, 20 digits, 5 bytes, 20 digits, 2 bytes, a digit, a space, a
 /// name of at most 11 and the line feed.
 const MAX_TEXT: usize = 128;
 

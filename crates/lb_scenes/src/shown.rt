@@ -81,7 +81,7 @@ impl Shown {
 }
 
 impl Wire {
-    /// Tells what the connection with a number did since.
+    /// Reports what the connection with a number did since.
     fn tell(&mut self, wires: &Wires, number: u64, told: &mut Told) {
         let taken = wires.taken(number);
         let writes = wires.writes(number);
@@ -105,7 +105,7 @@ impl Wire {
     }
 }
 
-/// Tells the datagrams after so many; how many there are.
+/// Reports the datagrams after so many; how many there are.
 fn tell_packets(packets: &[Datagram], shown: usize, told: &mut Told) -> usize {
     for packet in packets.get(shown..).unwrap_or(&[]) {
         tell_socket(packet.socket, told);
@@ -130,7 +130,7 @@ fn tell_socket(socket: Socket, told: &mut Told) {
     }
 }
 
-/// Tells what was handed to requests after so many; how many there are.
+/// Reports what was handed to requests after so many; how many there are.
 fn tell_posts(handed: &[(Origin, Octets)], shown: usize, told: &mut Told) -> usize {
     for (origin, bytes) in handed.get(shown..).unwrap_or(&[]) {
         told.number("posted ", origin.slot);
@@ -142,7 +142,7 @@ fn tell_posts(handed: &[(Origin, Octets)], shown: usize, told: &mut Told) -> usi
 }
 
 impl<R: Wait> Stage<'_, R> {
-    /// Tells what the sockets of datagrams took since it was told last.
+    /// Reports what the sockets of datagrams took since the last report.
     pub(crate) fn show_packets(&mut self) {
         let packets = self.shared.packets.lock(self.rt);
         let taken = packets.taken.as_slice();
@@ -162,7 +162,7 @@ impl<R: Wait> Stage<'_, R> {
         self.shown.streams(&wires, &mut self.told)
     }
 
-    /// Tells what was handed to requests since it was told last.
+    /// Reports what was handed to requests since the last report.
     pub(crate) fn show_posts(&mut self) {
         let requests = self.shared.requests.lock(self.rt);
         self.shown.posts = tell_posts(requests.handed(), self.shown.posts, &mut self.told);

@@ -47,7 +47,7 @@ abbrev pub told : ℕ → List (Event × Answer) → Told
 told answered pairs = record { answered = answered; pairs = pairs }
 
 -- a line is told a fault for lack of memory, and nothing was done
-pub record Wants (said : Said) (old new : Told) : Type 0 where
+pub record Lacks (said : Said) (old new : Told) : Type 0 where
   pub fault : CommandFault
   pub kind : fault.kind ≡ kinds.NoMemory
   pub is : IsLine said (fault_text fault)
@@ -80,7 +80,7 @@ pub record Carries (command : Command) (old new : Told) : Type 0 where
 
 -- what came of a line with this command
 abbrev pub Took : Command → Said → Told → Told → Type 0
-Took command said old new = Answers command said old new ⊎ (Refuses said old new ⊎ Wants said old new)
+Took command said old new = Answers command said old new ⊎ (Refuses said old new ⊎ Lacks said old new)
 
 -- what is said to a line that is no command: it is answered as a word of the console, if it begins with one, or else by its fault;
 -- or it is told a lack of memory
@@ -93,8 +93,8 @@ IsHeard line fault Stop = ⊥
 
 -- what came of a line by what it is read as
 abbrev pub BySaid : List ℕ → Result Command CommandFault → Said → Told → Told → Type 0
-BySaid line (Ok command) said old new = Took command said old new ⊎ Wants said old new
-BySaid line (Err fault) said old new = ((console_word line ≡ None) × IsLine said (fault_text fault) × (new ≡ old)) ⊎ Wants said old new
+BySaid line (Ok command) said old new = Took command said old new ⊎ Lacks said old new
+BySaid line (Err fault) said old new = ((console_word line ≡ None) × IsLine said (fault_text fault) × (new ≡ old)) ⊎ Lacks said old new
 
 -- what came of a line: it ends serving, or is answered by what it is read as; a word of the console is no command, and nothing is
 -- done for it

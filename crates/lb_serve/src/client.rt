@@ -216,7 +216,7 @@ impl Client {
     }
 }
 
-/// The command in a line that was carried out or refused, and its answer. The one error is want of
+/// The command in a line that was carried out or refused, and its answer. The one error is lack of
 /// memory.
 fn edit_of(
     alloc: Global,

@@ -126,11 +126,11 @@ impl<T: Hears, O: Outside> Operator<T, O> {
             Ok(Heard::Lines(text)) => Ok(Said::Lines(text)),
             Ok(Heard::Fault(own)) => Ok(Said::Lines(fault_line(self.alloc, own)?)),
             Ok(Heard::Quit) => Ok(Said::Quit),
-            Err(refused) => self.wanting(line, refused),
+            Err(refused) => self.lacking(line, refused),
         }
     }
 
-    /// Tells the fault of a line of over 300,000 bytes.
+    /// Reports the fault of a line of over 300,000 bytes.
     pub(crate) fn too_long(&self) -> Result<Said, Fault>
         ensures { IfOk result (λ said. IsLine said (fault_text (record { place = max_line; kind = kinds.Extra }))) }
     {
@@ -147,7 +147,7 @@ impl<T: Hears, O: Outside> Operator<T, O> {
         };
         let command = match BoxedCommand::new(self.alloc, command) {
             Ok(command) => command,
-            Err(refused) => return self.wanting(line, refused),
+            Err(refused) => return self.lacking(line, refused),
         };
         let announced = self.announce(rt, command.get());
         match self.taker.edit(now, command) {
@@ -163,9 +163,9 @@ impl<T: Hears, O: Outside> Operator<T, O> {
         }
     }
 
-    /// Tells the fault of a line for whose command no memory is to be had: its place is the line's
+    /// Reports the fault of a line for whose command memory is lacking: its place is the line's
     /// end.
-    fn wanting(&self, line: &str, refused: AllocError) -> Result<Said, Fault>
+    fn lacking(&self, line: &str, refused: AllocError) -> Result<Said, Fault>
         ensures { IfOk result (λ said. (fault : CommandFault) × (fault.kind ≡ kinds.NoMemory) × IsLine said (fault_text fault)) }
     {
         let fault = CommandFault {
@@ -230,7 +230,7 @@ pub(crate) fn roster_of(alloc: Global, servers: &[ServerPlace]) -> Result<Roster
     Ok(roster)
 }
 
-/// The line that tells the fault of a line.
+/// The line that reports the fault of a line.
 fn fault_line(alloc: Global, fault: CommandFault) -> Result<String, AllocError>
     ensures { IfOk result (λ text. string_bytes text ≡ fault_text fault) }
 {
