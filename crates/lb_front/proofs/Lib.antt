@@ -1,3 +1,2 @@
-mod Builders
 mod Crosses
 mod Stages

@@ -1,5 +1,5 @@
 -- What the head of a request says, and what there is to do then.
-use Rattle.std.specs.Prelude.{◌≡◌, ◌≤◌, ◌<◌, ℕ, ◌++◌, List, [], codes, Option, None, Some, MatchOption, Result, Ok, Err, unwrap_or}
+use Rattle.std.specs.Prelude.{◌≡◌, ◌≤◌, ◌<◌, ℕ, List, [], codes, MatchOption, Result, Ok, Err, unwrap_or}
 use Rattle.http.specs.Request.{head_of}
 use Rattle.http.specs.declared.request.Request.{Request}
 use Rattle.http_header.specs.FieldValue.{FieldValue, IsVisibleAscii}

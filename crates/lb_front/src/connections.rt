@@ -1,6 +1,6 @@
 //! The connections of the listeners.
 
-ghost use Rattle.std.specs.Prelude.{IfOk, IfSome, ◌≡◌};
+ghost use Rattle.std.specs.Prelude.{IfOk};
 ghost use Rattle.futures.specs.Task.{Keeps};
 
 use crate::answering::Front;
@@ -31,9 +31,15 @@ use tokio::time::{Handle, Sleep};
 pub trait Make: Drop {
     type Served: Future<Output = ()>;
 
-    /// The future of a connection of a client, which has one of the places.
-    fn make(&self, socket: TcpStream, client: Client, place: OwnedSemaphorePermit) -> Self::Served
-        ensures { Self.Served.can_poll result };
+    /// The future of a connection of a client, which has one of the places. The one error is lack
+    /// of memory.
+    fn make(
+        &self,
+        socket: TcpStream,
+        client: Client,
+        place: OwnedSemaphorePermit,
+    ) -> Result<Self::Served, AllocError>
+        ensures { IfOk result Self.Served.can_poll };
 
     /// Notes that a connection of this making is served from now on.
     fn entered(&self);
@@ -45,7 +51,8 @@ pub trait Make: Drop {
 /// A connection that is served, and its place. Whatever ends it is counted at most.
 #[derive(Drop)]
 pub struct Served<F> {
-    pub connection: F,
+    /// In a block of its own, as what runs a future makes room for it several times a turn.
+    pub connection: Box<F>,
     pub place: OwnedSemaphorePermit,
     /// Where it is counted that the client left, if it is counted.
     pub sends: Option<Arc<Sends>>,
@@ -54,7 +61,7 @@ pub struct Served<F> {
 impl<F: Future<Output = hyper::Result<()>>> Future for Served<F> {
     type Output = ();
 
-    ghost can_poll = { λ s. F.can_poll s.connection };
+    ghost can_poll = { λ s. F.can_poll s.connection.value };
 
     fn poll(&mut self, cx: &mut Context<'_>) -> Poll<()> {
         match self.connection.poll(cx) {
@@ -96,7 +103,12 @@ impl<R: Wait + Clock + Copy + Drop, T: Taker, O: Outside, W: Waker> Make for Mak
         Connection<Paced<R, TcpStream>, Front<R, T, O, W>, Full<Bytes>, TokioTimer<R>>,
     >;
 
-    fn make(&self, socket: TcpStream, client: Client, place: OwnedSemaphorePermit) -> Self::Served {
+    fn make(
+        &self,
+        socket: TcpStream,
+        client: Client,
+        place: OwnedSemaphorePermit,
+    ) -> Result<Self::Served, AllocError> {
         let front = Front {
             rt: self.rt,
             alloc: self.alloc,
@@ -105,11 +117,11 @@ impl<R: Wait + Clock + Copy + Drop, T: Taker, O: Outside, W: Waker> Make for Mak
         };
         let sends = Arc::try_clone(&self.sends).ok();
         let socket = Paced::new(self.rt, self.shared.timers.clone().ok(), socket, sends);
-        Served {
-            connection: self.http.serve_connection(socket, front),
+        Ok(Served {
+            connection: Box::new(self.alloc, self.http.serve_connection(socket, front))?,
             place,
             sends: Arc::try_clone(&self.sends).ok(),
-        }
+        })
     }
 
     fn entered(&self) {
@@ -121,42 +133,12 @@ impl<R: Wait + Clock + Copy + Drop, T: Taker, O: Outside, W: Waker> Make for Mak
     }
 }
 
-/// A future in a block of its own. What holds it moves the block's address, and not the future.
-#[derive(Drop)]
-pub(crate) struct BoxedFuture<F> {
-    future: Box<F>,
-}
-
-impl<F> BoxedFuture<F> {
-    /// The future in its block. The one error is lack of memory.
-    fn new(alloc: Global, future: F) -> Result<BoxedFuture<F>, AllocError>
-        ensures { IfOk result (λ b. b.future ≡ future) }
-    {
-        Ok(BoxedFuture {
-            future: Box::new(alloc, future)?,
-        })
-    }
-}
-
-impl<F: Future<Output = ()>> Future for BoxedFuture<F> {
-    type Output = ();
-
-    ghost can_poll = { λ b. F.can_poll b.future };
-
-    ghost needs = { λ b. F.needs b.future };
-
-    fn poll(&mut self, cx: &mut Context<'_>) -> Poll<()> {
-        self.future.poll(cx)
-    }
-}
-
 /// Takes in the clients of the listeners until it is told to end. Each has one of the places while
 /// its connection stands. A client that finds no place, or no memory for its connection, is closed
 /// at once; the others stay.
 #[derive(Drop)]
 pub(crate) struct Accepting<'a, R: Clock, M: Make> {
     pub(crate) rt: &'a R,
-    pub(crate) alloc: Global,
     pub(crate) timers: Handle,
     pub(crate) listeners: Vec<(u8, TcpListener)>,
     pub(crate) maker: M,
@@ -166,7 +148,7 @@ pub(crate) struct Accepting<'a, R: Clock, M: Make> {
     /// What tells it to end: that this is sent, or that its sender is dropped.
     pub(crate) end: oneshot::Receiver<()>,
     /// The connections that stand.
-    pub(crate) tasks: &'a TaskSet<BoxedFuture<M::Served>>,
+    pub(crate) tasks: &'a TaskSet<M::Served>,
 }
 
 /// Why a connection is not served.
@@ -219,36 +201,36 @@ fn next_client(listeners: &mut Vec<(u8, TcpListener)>, cx: &mut Context<'_>) -> 
 }
 
 impl<R: Clock, M: Make> Accepting<'_, R, M> {
-    /// The future of a connection, where there is a place for it.
-    fn take_in(&self, place: u8, socket: TcpStream, end: SocketAddr) -> Option<M::Served>
-        ensures { IfSome result M.Served.can_poll }
-    {
+    /// One of the places, if one is left.
+    fn place(&self) -> Option<OwnedSemaphorePermit> {
         let places = Arc::try_clone(&self.places).ok()?;
-        let permit = Semaphore::try_acquire_owned(places).ok()?;
-        Some(self.maker.make(socket, Client::at(place, end), permit))
+        Semaphore::try_acquire_owned(places).ok()
     }
 
-    /// Has a connection served from now on.
-    fn serve_from_now(&self, served: M::Served) -> Result<(), Unserved>
-        requires { M.Served.can_poll served }
-    {
-        let future = BoxedFuture::new(self.alloc, served)?;
-        match self.tasks.spawn(future) {
+    /// Serves a client that has one of the places from now on.
+    fn serve_in(
+        &self,
+        place: OwnedSemaphorePermit,
+        socket: TcpStream,
+        client: Client,
+    ) -> Result<(), Unserved> {
+        let served = self.maker.make(socket, client, place)?;
+        match self.tasks.spawn(served) {
             Ok(()) => Ok(()),
             Err(_) => Err(Unserved::NotTaken),
         }
     }
 
     /// Serves a client from now on, if there is a place for it.
-    fn serve(&self, place: u8, socket: TcpStream, end: SocketAddr) {
-        match self.take_in(place, socket, end) {
-            Some(served) => {
-                // One that is not served is closed.
-                if self.serve_from_now(served).is_ok() {
-                    self.maker.entered();
-                }
-            }
-            None => self.maker.turned_away(),
+    fn serve(&self, listener: u8, socket: TcpStream, end: SocketAddr) {
+        let Some(place) = self.place() else {
+            self.maker.turned_away();
+            return;
+        };
+        let client = Client::at(listener, end);
+        // One that is not served is closed.
+        if self.serve_in(place, socket, client).is_ok() {
+            self.maker.entered();
         }
     }
 

@@ -212,7 +212,6 @@ pub fn serve_connections<R: Wait + Clock + Net + RandomSource + AllocGlobal, M: 
     let tasks = runtime.task_set(rt)?;
     let accepting = Accepting {
         rt,
-        alloc,
         timers,
         late: None,
         listeners,

@@ -10,7 +10,7 @@ use hyper::server::conn::http1::{Builder, Connection};
 use lb_front::{
     Client, END_MILLISECONDS, FrontFault, Make, Paced, Served, serve_connections, settings,
 };
-use std::alloc::{AllocGlobal, Global};
+use std::alloc::{AllocError, AllocGlobal, Global};
 use std::net::Net;
 use std::random::RandomSource;
 use std::sync::{Arc, Wait};
@@ -112,17 +112,17 @@ impl<R: Clock + Copy + Drop, P: Page> Make for Maker<R, P> {
         socket: TcpStream,
         _client: Client,
         place: OwnedSemaphorePermit,
-    ) -> Self::Served {
+    ) -> Result<Self::Served, AllocError> {
         let service = Metrics {
             alloc: self.alloc,
             page: Arc::try_clone(&self.page).ok(),
         };
         let socket = Paced::new(self.rt, self.timers.clone().ok(), socket, None);
-        Served {
-            connection: self.http.serve_connection(socket, service),
+        Ok(Served {
+            connection: Box::new(self.alloc, self.http.serve_connection(socket, service))?,
             place,
             sends: None,
-        }
+        })
     }
 
     fn entered(&self) {}
