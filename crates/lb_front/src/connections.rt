@@ -52,10 +52,30 @@ pub trait Make: Drop {
 #[derive(Drop)]
 pub struct Served<F> {
     /// In a block of its own, as what runs a future makes room for it several times a turn.
-    pub connection: Box<F>,
-    pub place: OwnedSemaphorePermit,
+    connection: Box<F>,
+    place: OwnedSemaphorePermit,
     /// Where it is counted that the client left, if it is counted.
-    pub sends: Option<Arc<Sends>>,
+    sends: Option<Arc<Sends>>,
+}
+
+impl<F: Future> Served<F> {
+    /// A connection that has this place, and where it is counted that its client left, if it is
+    /// counted. The one error is lack of memory.
+    pub fn new(
+        alloc: Global,
+        connection: F,
+        place: OwnedSemaphorePermit,
+        sends: Option<Arc<Sends>>,
+    ) -> Result<Served<F>, AllocError>
+        requires { F.can_poll connection }
+        ensures { IfOk result (λ served. F.can_poll served.connection.value) }
+    {
+        Ok(Served {
+            connection: Box::new(alloc, connection)?,
+            place,
+            sends,
+        })
+    }
 }
 
 impl<F: Future<Output = hyper::Result<()>>> Future for Served<F> {
@@ -117,11 +137,9 @@ impl<R: Wait + Clock + Copy + Drop, T: Taker, O: Outside, W: Waker> Make for Mak
         };
         let sends = Arc::try_clone(&self.sends).ok();
         let socket = Paced::new(self.rt, self.shared.timers.clone().ok(), socket, sends);
-        Ok(Served {
-            connection: Box::new(self.alloc, self.http.serve_connection(socket, front))?,
-            place,
-            sends: Arc::try_clone(&self.sends).ok(),
-        })
+        let sends = Arc::try_clone(&self.sends).ok();
+        let connection = self.http.serve_connection(socket, front);
+        Served::new(self.alloc, connection, place, sends)
     }
 
     fn entered(&self) {

@@ -118,11 +118,8 @@ impl<R: Clock + Copy + Drop, P: Page> Make for Maker<R, P> {
             page: Arc::try_clone(&self.page).ok(),
         };
         let socket = Paced::new(self.rt, self.timers.clone().ok(), socket, None);
-        Ok(Served {
-            connection: Box::new(self.alloc, self.http.serve_connection(socket, service))?,
-            place,
-            sends: None,
-        })
+        let connection = self.http.serve_connection(socket, service);
+        Served::new(self.alloc, connection, place, None)
     }
 
     fn entered(&self) {}
