@@ -1,7 +1,7 @@
 //! The program `lb`: it does what its words ask for.
 #![tactic(auto)]
 
-use lb_start::{behind_first, start};
+use lb_program_start::{behind_first, start};
 use std::env::Env;
 use std::process::ExitCode;
 use std::{env, io};

@@ -1,6 +1,6 @@
 //! How long streams take to be fed and written, and what waiting ones hold.
 
-use lb_frames::{Framer, Outgoing};
+use lb_loops_frames::{Framer, Outgoing};
 use std::alloc::{AllocError, Global};
 use std::io;
 use std::time::Instant;

@@ -5,7 +5,7 @@ use Rattle.std.specs.Ordering.{eq_by_cmp}
 use Rattle.std.specs.FinMap.Entries.{find, find-put, is_sorted-put, put, same_entries}
 use Rattle.std.proofs.lemmas.Bool.{cases_Bool, eqb-true}
 use Rattle.std.proofs.lemmas.Option.{IfSome_then}
-use Rattle.lb_slots.specs.Slots.{get}
+use Rattle.lb_index_slots.specs.Slots.{get}
 use Rattle.lb_wire.specs.declared.key.Key.{Key}
 use Rattle.lb_cache.specs.declared.reply.CachedReply.{CachedReply}
 use Rattle.lb_cache.specs.Keys.{is_within}

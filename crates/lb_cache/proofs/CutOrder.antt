@@ -5,8 +5,8 @@ use Rattle.std.specs.List.Sorted.{IsStrictlySortedBy}
 use Rattle.std.specs.Cmp.{IsTotalOrder}
 use Rattle.std.specs.declared.cmp.Ordering.TheVariants.{Less, Equal}
 use Rattle.std.proofs.lemmas.Cmp.{on_total, then_total, nat_list_cmp_total, nat_cmp_total, tied_itself}
-use Rattle.lb_ranks.specs.declared.filed.Filed.{Filed}
-use Rattle.lb_ranks.specs.Filed.{filed_cmp, AreInOrder, IsCutOut}
+use Rattle.lb_index_ranks.specs.declared.filed.Filed.{Filed}
+use Rattle.lb_index_ranks.specs.Filed.{filed_cmp, AreInOrder, IsCutOut}
 use Rattle.lb_cache.proofs.Members.{cons_cases, none_there, order_head, order_tail}
 
 filed_total : IsTotalOrder filed_cmp

@@ -11,7 +11,7 @@ use Rattle.std.proofs.lemmas.List.Concat.{flat_map-append}
 use Rattle.lb_name.specs.Laws.{GoesOn, LabelsGoOn, NoLabel}
 use Rattle.lb_name.specs.Name.{label_octets, labels_octets, labels_of, lower_name, IsLabel, IsName, IsSame, IsUnder}
 use Rattle.lb_wire.specs.declared.record_type.RecordType.{RecordType}
-use Rattle.lb_ranks.specs.Filed.{filed_at}
+use Rattle.lb_index_ranks.specs.Filed.{filed_at}
 use Rattle.lb_suffix.specs.Key.{key_of}
 use Rattle.lb_cache.specs.Keys.{behind, filed_as, head_of, is_filed_within, is_within, type_octets}
 use Rattle.lb_cache.specs.Question.{asks_name, asks_under, begins_question, question_of_key, same_name}

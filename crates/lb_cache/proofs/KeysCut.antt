@@ -9,8 +9,8 @@ use Rattle.std.proofs.lemmas.List.Elements.{Contains-append_cases, Contains-appe
 use Rattle.lb_wire.specs.declared.key.Key.{Key}
 use Rattle.lb_wire.specs.declared.transport.Kind.{Kind}
 use Rattle.lb_wire.specs.declared.transport.Kind.TheVariants.{Datagram, Stream}
-use Rattle.lb_ranks.specs.declared.filed.Filed.{Filed}
-use Rattle.lb_ranks.specs.Filed.{filed_at, filed_cmp, is_before, AreInOrder, IsCutOut}
+use Rattle.lb_index_ranks.specs.declared.filed.Filed.{Filed}
+use Rattle.lb_index_ranks.specs.Filed.{filed_at, filed_cmp, is_before, AreInOrder, IsCutOut}
 use Rattle.lb_cache.proofs.CutOrder.{differ, each_back, each_front, each_has, left_order}
 use Rattle.lb_cache.proofs.Members.{cons_cases, cons_here, cons_there, none_there, order_head, order_tail}
 use Rattle.lb_cache.specs.Keys.{behind, entries_of, entry_of, filed_as, in_order, is_filed_within, is_within, AreKeys}

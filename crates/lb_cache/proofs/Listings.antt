@@ -12,8 +12,8 @@ use Rattle.std.proofs.lemmas.Map.Lookups.{exact_bytes}
 use Rattle.lb_wire.specs.declared.key.Key.{Key}
 use Rattle.lb_wire.specs.declared.transport.Kind.{Kind}
 use Rattle.lb_wire.specs.declared.transport.Kind.TheVariants.{Datagram, Stream}
-use Rattle.lb_ranks.specs.declared.filed.Filed.{Filed}
-use Rattle.lb_ranks.specs.Filed.{filed_at, filed_cmp, is_before, AreInOrder, HasBesides, IsFrom}
+use Rattle.lb_index_ranks.specs.declared.filed.Filed.{Filed}
+use Rattle.lb_index_ranks.specs.Filed.{filed_at, filed_cmp, is_before, AreInOrder, HasBesides, IsFrom}
 use Rattle.lb_cache.proofs.Members.{cons_cases, cons_here, cons_there, none_there, order_head, order_tail}
 use Rattle.lb_cache.specs.Keys.{slots_of}
 use Rattle.lb_cache.specs.Listing.{listed, listed_in}

@@ -3,8 +3,8 @@ use Rattle.std.proofs.Common.{◌≡◌, ◌⊎◌, ℕ, zero, suc, ◌<◌, Lis
 use Rattle.std.specs.List.{AllByRecursion}
 use Rattle.std.specs.declared.cmp.Ordering.TheVariants.{Less}
 use Rattle.std.proofs.lemmas.Map.Keys.{sorted_head, sorted_tail}
-use Rattle.lb_ranks.specs.declared.filed.Filed.{Filed}
-use Rattle.lb_ranks.specs.Filed.{filed_cmp, AreInOrder}
+use Rattle.lb_index_ranks.specs.declared.filed.Filed.{Filed}
+use Rattle.lb_index_ranks.specs.Filed.{filed_cmp, AreInOrder}
 
 cons_by : {X : Type 0} (x : X) (xs : List X) (y : X) (k : ℕ) → k < length (x ∷ xs) → get_or (x ∷ xs) k y ≡ y → (x ≡ y) ⊎ Contains xs y
 cons_by x xs y zero lt is = inl is

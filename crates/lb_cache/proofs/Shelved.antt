@@ -6,7 +6,7 @@ use Rattle.std.specs.declared.cmp.Ordering.{Ordering}
 use Rattle.std.specs.declared.cmp.Ordering.TheVariants.{Less, Equal, Greater}
 use Rattle.std.specs.FinMap.Entries.{find, find-put, find-where_key, is_sorted-put, is_sorted-where_key, put}
 use Rattle.std.proofs.lemmas.Bool.{cases_Bool, eqb-true, eq-eqb}
-use Rattle.lb_slots.specs.Slots.{Updates, get}
+use Rattle.lb_index_slots.specs.Slots.{Updates, get}
 use Rattle.lb_wire.specs.declared.key.Key.{Key}
 use Rattle.lb_cache.specs.declared.reply.CachedReply.{CachedReply}
 use Rattle.lb_cache.specs.Keys.{without_key}

@@ -7,7 +7,7 @@ use Rattle.std.specs.FinMap.Entries.{below_all, find, find-put, is_sorted, is_so
 use Rattle.std.proofs.lemmas.Bool.{cases_Bool, cond-false, cond-true, eqb-true}
 use Rattle.std.proofs.lemmas.List.Elements.{All-cons, All-nil, filter-append}
 use Rattle.std.proofs.lemmas.List.Kept.{AllPairs-cons}
-use Rattle.lb_slots.specs.Slots.{Updates, get}
+use Rattle.lb_index_slots.specs.Slots.{Updates, get}
 use Rattle.lb_wire.specs.declared.key.Key.{Key}
 use Rattle.lb_cache.specs.declared.reply.CachedReply.{CachedReply}
 use Rattle.lb_cache.specs.Cache.{Ascends, kept_for, looked, placed}

@@ -5,8 +5,8 @@ use Rattle.std.specs.Ordering.{eq_by_cmp}
 use Rattle.lb_wire.specs.declared.key.Key.{Key}
 use Rattle.lb_wire.specs.declared.transport.Kind.{Kind}
 use Rattle.lb_wire.specs.declared.transport.Kind.TheVariants.{Datagram, Stream}
-use Rattle.lb_ranks.specs.declared.filed.Filed.{Filed}
-use Rattle.lb_ranks.specs.Filed.{filed_at, is_before}
+use Rattle.lb_index_ranks.specs.declared.filed.Filed.{Filed}
+use Rattle.lb_index_ranks.specs.Filed.{filed_at, is_before}
 use Rattle.lb_suffix.specs.Key.{key_of}
 use Rattle.lb_cache.specs.Question.{question_of_key}
 use Rattle.lb_cache.specs.Reply.{cmp_key}

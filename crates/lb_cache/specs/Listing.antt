@@ -3,7 +3,7 @@ use Rattle.std.specs.Prelude.{ℕ, List, map, ◌++◌}
 use Rattle.lb_wire.specs.declared.key.Key.{Key}
 use Rattle.lb_wire.specs.declared.transport.Kind.{Kind}
 use Rattle.lb_wire.specs.declared.transport.Kind.TheVariants.{Datagram, Stream}
-use Rattle.lb_ranks.specs.declared.filed.Filed.{Filed}
+use Rattle.lb_index_ranks.specs.declared.filed.Filed.{Filed}
 use Rattle.lb_cache.specs.Keys.{key_with}
 
 -- a filed pair as a key of this transport with its slot

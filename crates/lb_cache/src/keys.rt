@@ -4,12 +4,12 @@ ghost use Rattle.std.specs.Prelude.{◌≡◌, ℕ, T, ◌+◌, true, false, [],
 ghost use Rattle.std.specs.FinMap.Entries.{find, is_sorted, put};
 ghost use Rattle.std.specs.List.{Contains};
 ghost use Rattle.lb_wire.specs.declared.key.Key.{Key};
-ghost use Rattle.lb_ranks.specs.declared.filed.Filed.{Filed};
+ghost use Rattle.lb_index_ranks.specs.declared.filed.Filed.{Filed};
 ghost use Rattle.lb_cache.specs.Keys.{is_filed_within, is_within, key_with, without_key};
 ghost use Rattle.lb_cache.specs.Reply.{cmp_key};
 
 use crate::filing::{Head, Span};
-use lb_ranks::Ranks;
+use lb_index_ranks::Ranks;
 use lb_wire::Kind;
 use std::alloc::{AllocError, Global};
 use std::marker::Model;

@@ -4,9 +4,9 @@ ghost use Rattle.std.specs.Prelude.{◌≡◌, [], ◌++◌, None, IfOk, OnErr, 
 ghost use Rattle.std.specs.FinMap.Entries.{find, put};
 ghost use Rattle.lb_cache.specs.Keys.{key_with, slots_of};
 ghost use Rattle.lb_cache.specs.Reply.{cmp_key};
-ghost use Rattle.lb_ranks.specs.Filed.{filed_at, AreInOrder, HasBesides};
+ghost use Rattle.lb_index_ranks.specs.Filed.{filed_at, AreInOrder, HasBesides};
 
-use lb_ranks::Ranks;
+use lb_index_ranks::Ranks;
 use lb_wire::Kind;
 use std::alloc::{AllocError, Global};
 use std::marker::Model;

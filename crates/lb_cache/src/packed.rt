@@ -33,7 +33,7 @@ impl Model for Packed {
     ghost invariant = { λ p. IsPacked p.octets.items p.key_len };
 }
 
-/// These octets and those behind them in one block, which is as long as they are. The one error is lack of memory.
+/// These octets and those after them in one block, which is as long as they are. The one error is lack of memory.
 fn joined(alloc: Global, first: &[u8], second: &[u8]) -> Result<Vec<u8>, AllocError>
     requires first { length first.now ≤ max_message }
     requires second { length second.now ≤ max_message }

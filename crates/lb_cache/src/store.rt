@@ -2,7 +2,7 @@
 
 ghost use Rattle.std.specs.Prelude.{◌≡◌, ◌≢◌, ◌+◌, ◌<◌, ◌≤◌, ◌^◌, ℕ, [], None, Some, IfNone, IfOk, IfSome, IsSome, OnErr, OnOk, cond, false, length, option_map, true};
 ghost use Rattle.std.specs.FinMap.Entries.{find, put};
-ghost use Rattle.lb_slots.specs.Slots.{Updates, get};
+ghost use Rattle.lb_index_slots.specs.Slots.{Updates, get};
 ghost use Rattle.lb_cache.specs.Ends.{has, is_end_mark, marks_in};
 ghost use Rattle.lb_cache.specs.Keys.{is_within, slots_of, without_key};
 ghost use Rattle.lb_cache.specs.Reply.{cmp_key, end_of, is_dead, lives};
@@ -14,8 +14,8 @@ use crate::filing::Span;
 use crate::keys::Keys;
 use crate::listing::Listing;
 use crate::packed::Packed;
-use lb_ranks::Ranks;
-use lb_slots::Slots;
+use lb_index_ranks::Ranks;
+use lb_index_slots::Slots;
 use lb_wire::{Key, Kind};
 use std::alloc::{AllocError, Global};
 use std::marker::Model;
@@ -195,7 +195,7 @@ fn first_seen(
     None
 }
 
-/// Puts the key of the reply in a slot, if there is one, into the listing. The one error is want of
+/// Puts the key of the reply in a slot, if there is one, into the listing. The one error is lack of
 /// memory.
 fn list_key(
     listing: &mut Listing,
@@ -326,7 +326,7 @@ impl Store {
         Ok(slot)
     }
 
-    /// Puts a reply in the place of the one in a slot, which has its key. The one error is want of
+    /// Puts a reply in the place of the one in a slot, which has its key. The one error is lack of
     /// memory.
     pub(crate) fn renew(&mut self, slot: u64, reply: Packed) -> Result<(), AllocError>
         requires there { find cmp_key reply.key self.old.keys ≡ Some slot }

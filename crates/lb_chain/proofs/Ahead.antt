@@ -3,7 +3,7 @@ use Rattle.std.proofs.Common.{Option, ◌≡◌, ◌⊎◌, ◌↔◌, ◌&&◌,
 use Rattle.std.proofs.lemmas.Bool.{cases_Bool, cases_lt}
 use Rattle.std.proofs.lemmas.Bool.Decides.{nat_tests}
 use Rattle.std.proofs.lemmas.List.{get_or_default}
-use Rattle.lb_ranks.specs.Least.{IsLeastFrom, lesser_of}
+use Rattle.lb_index_ranks.specs.Least.{IsLeastFrom, lesser_of}
 use Rattle.lb_suffix.specs.Index.{Pair as NamePair}
 use Rattle.lb_masks.specs.Index.{Pair as MaskPair}
 use Rattle.lb_wire.specs.declared.addr.Addr.{Addr}

@@ -3,7 +3,7 @@ use Rattle.std.proofs.Common.{Option, ◌≡◌, ◌⊎◌, ◌↔◌, IsTrue, n
 use Rattle.std.proofs.lemmas.Bool.{cases_Bool}
 use Rattle.std.proofs.lemmas.Bool.Decides.{nat_tests}
 use Rattle.lb_name.specs.Name.{lower_name, IsUnder}
-use Rattle.lb_ranks.specs.Least.{IsLeastFrom, lesser_of}
+use Rattle.lb_index_ranks.specs.Least.{IsLeastFrom, lesser_of}
 use Rattle.lb_masks.specs.Mask.{Covers, Prefix}
 use Rattle.lb_suffix.specs.Index.{Pair as NamePair, pair_of as name_pair}
 use Rattle.lb_masks.specs.Index.{Pair as MaskPair, pair_of as mask_pair}

@@ -1,6 +1,6 @@
 -- How far a walk has come over the rules, by ranks.
 use Rattle.std.specs.Prelude.{◌≡◌, ◌⊎◌, ◌↔◌, ℕ, ◌<◌, ◌==◌, Bool, true, false, List, [], ◌∷◌, Contains, Option, None, Some, slice_index, if◌then◌else◌}
-use Rattle.lb_ranks.specs.Least.{IsLeastFrom}
+use Rattle.lb_index_ranks.specs.Least.{IsLeastFrom}
 use Rattle.lb_suffix.specs.Index.{Pair as NamePair}
 use Rattle.lb_masks.specs.Index.{Pair as MaskPair}
 use Rattle.lb_wire.specs.declared.addr.Addr.{Addr}

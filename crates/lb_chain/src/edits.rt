@@ -23,7 +23,7 @@ pub(crate) fn place_of(rules: &[Numbered], id: RuleId) -> Option<usize>
 }
 
 /// Puts a rule with this number at a place, with limiters that have counted nothing and with indexes for the sets within its
-/// term, and offers it. Where memory is lacking the rules stay as they were, and so does what is offered.
+/// term, and offers it. If memory is lacking the rules stay as they were, and so does what is offered.
 pub(crate) fn insert_rule(
     rules: &mut Vec<Numbered>,
     offers: &mut Offers,
@@ -58,7 +58,7 @@ pub(crate) fn insert_rule(
     Ok(())
 }
 
-/// Offers a rule at another place, which counts in the list without it, and at its own no more. Where memory is lacking it is
+/// Offers a rule at another place, which counts in the list without it, and at its own no more. If memory is lacking it is
 /// offered as it was.
 fn move_offer(
     offers: &mut Offers,

@@ -22,7 +22,7 @@ pub enum ChainFault {
     #[error("there are too many rate limiters")]
     TooManyLimiters,
     /// Memory is lacking.
-    #[error("memory is wanting")]
+    #[error("no memory")]
     NoMemory,
     /// The number 2^64-1 was given.
     #[error("there are no more numbers for rules")]

@@ -2,7 +2,7 @@
 
 ghost use Rattle.std.specs.Prelude.{◌≡◌, ◌≤◌, ◌<◌, ◌^◌, ◌-◌, ◌+◌, ◌&&◌, not, ℕ, [], List, IfNone, IfOk, IfSome, Some, OnErr, OnOk, length, slice_get, slice_index, vec_len};
 ghost use Rattle.std.specs.List.{insert, remove};
-ghost use Rattle.lb_ranks.specs.Least.{IsLeastFrom};
+ghost use Rattle.lb_index_ranks.specs.Least.{IsLeastFrom};
 ghost use Rattle.lb_terms.specs.Selector.{Selector};
 ghost use Rattle.lb_chain.specs.FirstAsked.{AreRising};
 ghost use Rattle.lb_chain.specs.Offers.{AreOffers, IsNextOffered, terms_of};
@@ -14,8 +14,8 @@ ghost use Rattle.lb_wire.specs.declared.query.QueryView.{QueryView as ViewValue}
 use crate::filing::{file, unfile};
 use crate::loose::Loose;
 use crate::numbered::Numbered;
+use lb_index_ranks::lesser;
 use lb_masks::MaskIndex;
-use lb_ranks::lesser;
 use lb_suffix::SuffixIndex;
 use lb_terms::{CheckedTerm, mask_test_decides, suffix_test_decides};
 use lb_wire::{Addr, QueryView};

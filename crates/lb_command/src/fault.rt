@@ -40,7 +40,7 @@ pub enum FaultKind {
     #[error("a limit is passed")]
     BadTerm,
     /// Memory is lacking.
-    #[error("memory is wanting")]
+    #[error("no memory")]
     NoMemory,
 }
 

@@ -126,14 +126,14 @@ pub(crate) fn step(balancer: &mut Balancer, event: Event) -> Answer {
 /// The answer to a line; if memory was lacking, to the same line told again.
 pub(crate) fn tell(alloc: Global, balancer: &mut Balancer, line: &str) -> Result<Answer, Fail> {
     let answer = step(balancer, event(alloc, line)?);
-    if is_wanting(&answer) {
+    if lacks_memory(&answer) {
         return Ok(step(balancer, event(alloc, line)?));
     }
     Ok(answer)
 }
 
 /// Whether memory was lacking for a query or an edit.
-pub(crate) fn is_wanting(answer: &Answer) -> bool {
+pub(crate) fn lacks_memory(answer: &Answer) -> bool {
     match answer {
         Answer::NoMemory(_) => true,
         Answer::Refused(EditFault::Rules(fault)) => *fault == ChainFault::NoMemory,

@@ -8,7 +8,7 @@
 //! and the next one is forwarded. Other lack of memory ends a test with an error, and no assertion
 //! fails by it.
 
-use crate::lines::{QUERY, REPLY, TOLD, event, events, held, is_wanting, played, step, tell};
+use crate::lines::{QUERY, REPLY, TOLD, event, events, held, lacks_memory, played, step, tell};
 use lb_command::{answer_line, note_text};
 use lb_core::{Answer, Balancer, DropReason, Event, LocalReason, Plain, run};
 use lb_wire::{Addr, Kept, MAX_MESSAGE, Origin, RuleId};
@@ -131,8 +131,8 @@ fn a_run_answers_as_single_steps_do(rt: HostRuntime) -> Result<(), Fail> {
 }
 
 fn expect_equal(run: &[Answer], stepped: &[Answer]) -> Result<(), Fail> {
-    if run.iter().any(is_wanting) {
-        return Err(Fail::from("memory was wanting"));
+    if run.iter().any(lacks_memory) {
+        return Err(Fail::from("memory was lacking"));
     }
     held(0, are_equal(run, stepped))
 }
@@ -368,7 +368,7 @@ const SENT_TO_2: &str =
 
 /// A reply that is kept answers the next query.
 #[test]
-fn wanting_memory_a_reply_is_delivered(rt: HostRuntime) -> Result<(), Fail> {
+fn lacking_memory_a_reply_is_delivered(rt: HostRuntime) -> Result<(), Fail> {
     play(rt.alloc(), KEPT)
 }
 
@@ -392,7 +392,7 @@ const LIMITED: &[Line] = &[
 ];
 
 #[test]
-fn wanting_memory_a_query_counts_nothing(rt: HostRuntime) -> Result<(), Fail> {
+fn lacking_memory_a_query_counts_nothing(rt: HostRuntime) -> Result<(), Fail> {
     play(rt.alloc(), LIMITED)
 }
 
@@ -429,7 +429,7 @@ const EDITED: &[Line] = &[
 ];
 
 #[test]
-fn wanting_memory_an_edit_changes_nothing(rt: HostRuntime) -> Result<(), Fail> {
+fn lacking_memory_an_edit_changes_nothing(rt: HostRuntime) -> Result<(), Fail> {
     play(rt.alloc(), EDITED)
 }
 

@@ -1,4 +1,4 @@
-//! What a desk's log tells, and what its callers keep of it.
+//! What a desk's log holds, and what its callers keep of it.
 
 use lb_core::{Answer, Event};
 

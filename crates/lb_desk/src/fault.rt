@@ -13,7 +13,7 @@ pub enum DeskFault {
     #[error("no further call can be counted")]
     CountFull,
     /// Memory is lacking for the log or for the receipt.
-    #[error("memory is wanting")]
+    #[error("no memory")]
     NoMemory,
 }
 

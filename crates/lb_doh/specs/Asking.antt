@@ -4,10 +4,10 @@ use Rattle.lb_wire.specs.declared.addr.Origin.{Origin}
 use Rattle.lb_step.specs.declared.answer.Answer.{Answer}
 use Rattle.lb_step.specs.declared.answer.Answer.TheVariants.{Forward}
 use Rattle.lb_step.specs.declared.event.Event.{Event}
-use Rattle.lb_http.specs.Response.{bare}
-use Rattle.lb_http.specs.declared.response.DohResponse.{DohResponse}
-use Rattle.lb_lines.specs.Counts.{Fails, Grows}
-use Rattle.lb_lines.specs.Stamps.{Stamp}
+use Rattle.lb_doh_message.specs.Response.{bare}
+use Rattle.lb_doh_message.specs.declared.response.DohResponse.{DohResponse}
+use Rattle.lb_loops_io.specs.Counts.{Fails, Grows}
+use Rattle.lb_loops_io.specs.Stamps.{Stamp}
 use Rattle.lb_outbox.specs.Outbox.{Sending}
 use Rattle.lb_outbox.specs.declared.job.Job.{Job}
 use Rattle.lb_outbox.specs.declared.job.Job.TheVariants.{ToServer}

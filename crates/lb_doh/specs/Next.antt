@@ -6,9 +6,9 @@ use Rattle.lb_step.specs.declared.answer.Answer.{Answer}
 use Rattle.lb_step.specs.declared.answer.Answer.TheVariants.{Dropped, Local, Forward, Deliver, Expired, Quiet, Ignored, Edited, Refused, NoMemory}
 use Rattle.lb_step.specs.declared.event.Event.{Event}
 use Rattle.lb_step.specs.declared.event.Event.TheVariants.{Query}
-use Rattle.lb_http.specs.Response.{Responds, bare}
-use Rattle.lb_http.specs.declared.response.DohResponse.{DohResponse}
-use Rattle.lb_lines.specs.Stamps.{Stamp}
+use Rattle.lb_doh_message.specs.Response.{Responds, bare}
+use Rattle.lb_doh_message.specs.declared.response.DohResponse.{DohResponse}
+use Rattle.lb_loops_io.specs.Stamps.{Stamp}
 use Rattle.lb_outbox.specs.declared.job.Job.TheVariants.{ToServer}
 use Rattle.lb_doh.specs.declared.next.Next.{Next}
 use Rattle.lb_doh.specs.declared.next.Next.TheVariants.{Respond, Send}

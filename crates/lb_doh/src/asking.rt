@@ -5,8 +5,8 @@ ghost use Rattle.lb_doh.specs.Asking.{Asks, Puts};
 
 use crate::next::{Next, next_of, query_of};
 use lb_core::{Answer, Event};
-use lb_http::{DohResponse, unavailable};
-use lb_lines::{Outside, Taker, Waker};
+use lb_doh_message::{DohResponse, unavailable};
+use lb_loops_io::{Outside, Taker, Waker};
 use lb_outbox::{Job, Sender};
 use lb_wire::{Octets, Origin};
 use std::marker::Model;

@@ -10,7 +10,7 @@ pub enum EnterFault {
     #[error("no number is left")]
     NoNumber,
     /// Memory is lacking.
-    #[error("memory is wanting")]
+    #[error("no memory")]
     NoMemory,
 }
 

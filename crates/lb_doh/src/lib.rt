@@ -13,7 +13,7 @@ mod waiting;
 pub use asking::Asker;
 pub use fault::EnterFault;
 pub use laws::posts_cross_threads;
-pub use lb_http::{
+pub use lb_doh_message::{
     DohBody, DohFault, DohHead, DohResponse, carrying, one_outcome, read_body, read_head,
     read_request, refused, response_of, unavailable,
 };

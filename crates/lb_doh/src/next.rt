@@ -4,7 +4,7 @@ ghost use Rattle.std.specs.Prelude.{◌≡◌};
 ghost use Rattle.lb_doh.specs.Next.{Follows, asked};
 
 use lb_core::{Answer, Event};
-use lb_http::{DohResponse, response_of, unavailable};
+use lb_doh_message::{DohResponse, response_of, unavailable};
 use lb_outbox::Job;
 use lb_wire::{Kind, Octets, Origin};
 

@@ -5,7 +5,7 @@ ghost use Rattle.std.specs.Prelude.{◌≡◌, []};
 use crate::waiting::Waiting;
 use futures::channel::oneshot;
 use http_server::Log;
-use lb_lines::{Posts, Why};
+use lb_loops_io::{Posts, Why};
 use lb_wire::{Octets, Origin};
 use std::alloc::Global;
 use std::sync::{Arc, Mutex, Wait};
@@ -47,7 +47,7 @@ impl<'a, R: Wait> HttpPosts<'a, R> {
 impl<R: Wait> Posts for HttpPosts<'_, R> {
     ghost handed = { λ p. p.told.items };
 
-    /// Whatever comes of it, the request does not wait any more: where memory is lacking for a copy of the answer, its connection ends.
+    /// Whatever comes of it, the request does not wait any more: if memory is lacking for a copy of the answer, its connection ends.
     fn hand(&mut self, origin: Origin, bytes: &Octets) -> Result<(), Why> {
         let Some(bringer) = self.taken(origin.slot) else {
             return Err(Why::Gone);

@@ -1,7 +1,7 @@
 //! Requests, by values worked out by hand from RFC 8484 and RFC 4648.
 
 use crate::rows::held;
-use lb_http::{DohBody, DohFault, read_request};
+use lb_doh_message::{DohBody, DohFault, read_request};
 use lb_wire::{MAX_MESSAGE, Octets};
 use std::alloc::{AllocError, Global};
 use std::test::Fail;

@@ -2,7 +2,7 @@
 
 use crate::rows::held;
 use lb_core::{Answer, DropReason, LocalReason};
-use lb_http::{DohFault, DohResponse, refused, response_of, unavailable};
+use lb_doh_message::{DohFault, DohResponse, refused, response_of, unavailable};
 use lb_wire::{Addr, Kept, MAX_MESSAGE, Octets, Origin, RuleId};
 use std::alloc::{AllocError, Global};
 use std::test::Fail;

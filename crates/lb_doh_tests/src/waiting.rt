@@ -5,7 +5,7 @@ use futures::channel::oneshot::Canceled;
 use futures::executor::block_on;
 use futures::future::poll_immediate;
 use lb_doh::{Brought, DohBody, HttpPosts, Requests, Ticket, Waiting, carrying, read_request};
-use lb_lines::{Posts, Why};
+use lb_loops_io::{Posts, Why};
 use lb_wire::{Addr, MAX_MESSAGE, Octets, Origin};
 use std::alloc::{AllocError, AllocGlobal, Global};
 use std::io;

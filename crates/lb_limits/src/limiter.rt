@@ -21,7 +21,7 @@ pub struct Limiter {
     qps: u16,
     v4: u8,
     v6: u8,
-    // In milliseconds: the latest that it was told.
+    // In milliseconds: the latest that it was given.
     moment: u64,
     // In the order of addresses. What no longer counts may still stand there; the view leaves it out.
     buckets: Vec<Boxed>,
@@ -127,7 +127,7 @@ impl Limiter {
     }
 
     /// A law: the passes that it holds are by source, IPv4 first and then by octets, and then by moment; each counts at the
-    /// latest moment that it was told; and no address has more of them than the rate. It does nothing.
+    /// latest moment that it was given; and no address has more of them than the rate. It does nothing.
     pub fn law_of_list(&self)
         ensures { ArePasses self.now }
     {

@@ -1,10 +1,10 @@
 -- Ends of an outbox that go on.
 use Rattle.std.proofs.Common.{◌≡◌, ◌⊎◌, inl, inr, List, [], ◌∷◌, Option, None, Some, Result, Ok, Err, OnOk, OnErr, sym, ap, subst, arith}
-use Rattle.lb_clock.specs.World.{SentAgain, World as Clock}
-use Rattle.lb_lines.specs.declared.report.Line.{Line}
-use Rattle.lb_lines.specs.declared.roster.Listed.{Listed}
-use Rattle.lb_streams.specs.Turn.{Turned}
-use Rattle.lb_streams.specs.World.{World}
+use Rattle.lb_loops_clock.specs.World.{SentAgain, World as Clock}
+use Rattle.lb_loops_io.specs.declared.report.Line.{Line}
+use Rattle.lb_loops_io.specs.declared.roster.Listed.{Listed}
+use Rattle.lb_loops_tcp.specs.Turn.{Turned}
+use Rattle.lb_loops_tcp.specs.World.{World}
 use Rattle.lb_loops.specs.Running.{ClockGoesOn, ReceivesOn, clock_stays, receives_none}
 use Rattle.lb_outbox.specs.declared.job.Job.{Job}
 

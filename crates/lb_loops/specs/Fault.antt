@@ -1,7 +1,7 @@
 -- Why loops end by themselves.
 use Rattle.std.specs.Prelude.{ℕ, Bool, true, false, Option, Some, None, Result, Ok, Err}
-use Rattle.lb_lines.specs.declared.report.DeviceFault.{DeviceFault}
-use Rattle.lb_lines.specs.declared.report.DeviceFault.TheVariants as devices
+use Rattle.lb_loops_io.specs.declared.report.DeviceFault.{DeviceFault}
+use Rattle.lb_loops_io.specs.declared.report.DeviceFault.TheVariants as devices
 use Rattle.lb_loops.specs.declared.fault.LoopFault.{LoopFault}
 use Rattle.lb_loops.specs.declared.fault.LoopFault.TheVariants as faults
 

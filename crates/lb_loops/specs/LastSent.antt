@@ -2,10 +2,10 @@
 use Rattle.std.specs.Prelude.{ℕ, Bool, true, false, not, nat_lt, ◌==◌, ◌&&◌, ◌-◌}
 use Rattle.lb_step.specs.declared.answer.Answer.{Answer}
 use Rattle.lb_step.specs.declared.answer.Answer.TheVariants.{Deliver, Expired, Forward}
-use Rattle.lb_lines.specs.declared.report.Line.{Line}
-use Rattle.lb_lines.specs.declared.report.Line.TheVariants as lines
-use Rattle.lb_lines.specs.declared.report.Outcome.{Outcome}
-use Rattle.lb_lines.specs.declared.report.Outcome.TheVariants.{Answered}
+use Rattle.lb_loops_io.specs.declared.report.Line.{Line}
+use Rattle.lb_loops_io.specs.declared.report.Line.TheVariants as lines
+use Rattle.lb_loops_io.specs.declared.report.Outcome.{Outcome}
+use Rattle.lb_loops_io.specs.declared.report.Outcome.TheVariants.{Answered}
 use Rattle.lb_outbox.specs.declared.job.Job.{Job}
 use Rattle.lb_outbox.specs.declared.job.Job.TheVariants.{ToServer}
 

@@ -1,9 +1,9 @@
 -- What loops that run do to their event handlers and to their ends of the outbox.
 use Rattle.std.proofs.Common.{◌≡◌, ◌≤◌, ℕ, List, [], ◌∷◌, ◌++◌, ap, sym, ◌∙◌, append_assoc, arith}
 use Rattle.std.proofs.lemmas.List.{append-nil}
-use Rattle.lb_clock.specs.World.{World as Clock}
-use Rattle.lb_datagrams.specs.Turn.{World as Datagrams}
-use Rattle.lb_streams.specs.World.{World as Streams}
+use Rattle.lb_loops_clock.specs.World.{World as Clock}
+use Rattle.lb_loops_udp.specs.Turn.{World as Datagrams}
+use Rattle.lb_loops_tcp.specs.World.{World as Streams}
 use Rattle.lb_outbox.specs.Outbox.{Receiving, Sending}
 use Rattle.lb_outbox.specs.declared.job.Job.{Job}
 use Rattle.lb_outbox.specs.declared.rule.Delivery.{Delivery}

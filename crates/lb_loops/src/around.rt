@@ -5,8 +5,8 @@ ghost use Rattle.lb_loops.specs.Fault.{end_behind};
 
 use crate::fault::{LoopFault, ends};
 use crate::last_sent::LastSent;
-use lb_clock::ClockLoop;
-use lb_lines::{Datagrams, Outside, Posts, Report, Roster, Taker, Waker};
+use lb_loops_clock::ClockLoop;
+use lb_loops_io::{Datagrams, Outside, Posts, Report, Roster, Taker, Waker};
 use lb_sends::Sends;
 use std::sync::atomic::{AtomicBool, Ordering};
 use std::sync::{Arc, Mutex, Wait};

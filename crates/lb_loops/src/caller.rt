@@ -4,12 +4,12 @@ ghost use Rattle.std.specs.Prelude.{IfErr, IfOk, OnErr, OnOk, ◌+◌, ◌∷◌
 ghost use Rattle.lb_step.specs.Plain.{Plain};
 ghost use Rattle.lb_step.specs.Step.{Answers};
 ghost use Rattle.lb_desk.specs.Desk.{OnceReturnsAtBoth};
-ghost use Rattle.lb_lines.specs.Counts.{Grows};
+ghost use Rattle.lb_loops_io.specs.Counts.{Grows};
 ghost use Rattle.lb_loops.specs.Caller.{MayKeepReceipt, pairs_of};
 
 use lb_core::{Answer, Balancer, Event, Noted};
 use lb_desk::{Desk, DeskFault, Naming, Seat};
-use lb_lines::Taker;
+use lb_loops_io::Taker;
 use lb_recent::{Before, Ring};
 use lb_sends::Sends;
 use std::sync::{Arc, Wait};

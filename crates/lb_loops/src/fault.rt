@@ -3,7 +3,7 @@
 ghost use Rattle.std.specs.Prelude.{◌≡◌};
 ghost use Rattle.lb_loops.specs.Fault.{end_behind, number_of};
 
-use lb_lines::{DeviceFault, Report, WaitFailed};
+use lb_loops_io::{DeviceFault, Report, WaitFailed};
 use std::alloc::AllocError;
 use thiserror::Error;
 

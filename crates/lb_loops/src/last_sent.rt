@@ -4,7 +4,7 @@ ghost use Rattle.std.specs.Prelude.{filter, length, ◌≡◌};
 ghost use Rattle.lb_loops.specs.LastSent.{is_over, is_sent_on, is_within};
 
 use lb_core::Answer;
-use lb_lines::{KEPT_AFTER_QUERY, Line, Outcome};
+use lb_loops_io::{KEPT_AFTER_QUERY, Line, Outcome};
 use lb_outbox::Job;
 use std::sync::atomic::{AtomicBool, AtomicU64, Ordering};
 

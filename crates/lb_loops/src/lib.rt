@@ -17,18 +17,20 @@ mod threads;
 pub use caller::Caller;
 pub use fault::LoopFault;
 pub use laws::callers_cross_threads;
-pub use lb_clock::{ClockLoop, clock_turn};
-pub use lb_connections::Connections;
-pub use lb_datagrams::{DatagramLoop, datagram_turn};
-pub use lb_frames::{Framer, Incoming, Message, Outgoing, cuts_do_not_matter, frame, one_division};
-pub use lb_lines::{
+pub use lb_loops_clock::{ClockLoop, clock_turn};
+pub use lb_loops_connections::Connections;
+pub use lb_loops_frames::{
+    Framer, Incoming, Message, Outgoing, cuts_do_not_matter, frame, one_division,
+};
+pub use lb_loops_io::{
     Accepted, Answering, Datagram, Datagrams, DeviceFault, End, Endpoint, Gate, Head, Line,
     Outcome, Outside, Peer, Place, Posts, Read, Ready, Received, Report, Reported, Roster,
     RosterFull, Sending, Service, Socket, Source, Streams, Taker, WaitFailed, Waker, Way, Why,
     one_send_a_line,
 };
+pub use lb_loops_probes::Probes;
+pub use lb_loops_tcp::{StreamLoop, stream_turn};
+pub use lb_loops_udp::{DatagramLoop, datagram_turn};
 pub use lb_outbox::{Delivery, Job, Outbox, Receiver, Sender, SenderId, Settled, finish};
-pub use lb_probes::Probes;
-pub use lb_streams::{StreamLoop, stream_turn};
 pub use parts::{ClockParts, DatagramParts, Ended, Parts, StreamParts};
 pub use threads::run_loops;

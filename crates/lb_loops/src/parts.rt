@@ -1,10 +1,10 @@
 //! What loops are made of, and what they leave. Room that a loop needs for as long as it runs is part
 //! of what it is made of, so that a thread takes none before its first turn.
 
-use lb_connections::Connections;
-use lb_lines::{Roster, Service};
+use lb_loops_connections::Connections;
+use lb_loops_io::{Roster, Service};
+use lb_loops_probes::Probes;
 use lb_outbox::{Receiver, Sender};
-use lb_probes::Probes;
 use lb_sends::Sends;
 use std::sync::atomic::AtomicBool;
 use std::sync::{Arc, Mutex};

@@ -4,13 +4,13 @@ ghost use Rattle.lb_loops.specs.Running as running;
 
 use crate::around::Around;
 use crate::fault::LoopFault;
-use lb_clock::{ClockLoop, clock_turn};
-use lb_datagrams::{DatagramLoop, datagram_turn};
-use lb_lines::{
+use lb_loops_clock::{ClockLoop, clock_turn};
+use lb_loops_io::{
     Datagrams, Gate, Head, Line, MAX_EVENTS_OF_TURN, Outside, Posts, Roster, Sending, Streams,
     Taker, Waker, Way, Why,
 };
-use lb_streams::{StreamLoop, stream_turn};
+use lb_loops_tcp::{StreamLoop, stream_turn};
+use lb_loops_udp::{DatagramLoop, datagram_turn};
 use std::sync::Wait;
 
 /// How long a loop waits at most, in milliseconds. So often idle sockets of servers are looked at.

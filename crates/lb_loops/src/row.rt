@@ -8,7 +8,7 @@ use crate::around::Around;
 use crate::fault::LoopFault;
 use crate::parts::DatagramParts;
 use crate::running::run_datagrams;
-use lb_lines::{Datagrams, Gate, Outside, Taker, Waker};
+use lb_loops_io::{Datagrams, Gate, Outside, Taker, Waker};
 use std::alloc::Global;
 use std::sync::Wait;
 use std::thread::{Threads, join};

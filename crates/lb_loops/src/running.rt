@@ -7,11 +7,11 @@ use crate::around::Around;
 use crate::fault::LoopFault;
 use crate::parts::{ClockParts, DatagramParts, StreamParts};
 use crate::rounds::Rounds;
-use lb_clock::ClockLoop;
-use lb_datagrams::DatagramLoop;
-use lb_lines::{Answering, Datagrams, Gate, Outside, Posts, Roster, Streams, Taker, Waker};
+use lb_loops_clock::ClockLoop;
+use lb_loops_io::{Answering, Datagrams, Gate, Outside, Posts, Roster, Streams, Taker, Waker};
+use lb_loops_tcp::StreamLoop;
+use lb_loops_udp::DatagramLoop;
 use lb_outbox::{Receiver, Sender};
-use lb_streams::StreamLoop;
 use std::alloc::Global;
 use std::sync::Wait;
 

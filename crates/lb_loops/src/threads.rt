@@ -10,7 +10,7 @@ use crate::last_sent::LastSent;
 use crate::parts::{ClockParts, DatagramParts, Ended, Parts, StreamParts};
 use crate::row::run_row;
 use crate::running::{run_clock, run_streams};
-use lb_lines::{Datagrams, Gate, Outside, Posts, Streams, Taker, Waker};
+use lb_loops_io::{Datagrams, Gate, Outside, Posts, Streams, Taker, Waker};
 use lb_outbox::{Receiver, Sender};
 use lb_sends::sends_cross_threads;
 use std::alloc::Global;

@@ -1,6 +1,6 @@
 //! Blocks of octets that are used again.
 
-use lb_lines::Rooms;
+use lb_loops_io::Rooms;
 use lb_wire::MAX_MESSAGE;
 use std::process::Abort;
 use std::test::Fail;

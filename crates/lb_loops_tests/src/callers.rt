@@ -157,14 +157,14 @@ fn is_asked<C: Calls>(alloc: Global, calls: &mut C, now: u64) -> bool {
 /// Whether memory sufficed for a call, at once or when it was made once more, and for its answer.
 fn suffices<C: Calls>(calls: &mut C, event: Event) -> bool {
     match calls.call(event) {
-        Ok(answer) => !is_wanting(&answer),
+        Ok(answer) => !lacks_memory(&answer),
         Err((DeskFault::NoMemory, back)) => calls.call(back).is_ok(),
         Err(_) => false,
     }
 }
 
 /// Whether memory was lacking for a query or an edit.
-pub(crate) fn is_wanting(answer: &Answer) -> bool {
+pub(crate) fn lacks_memory(answer: &Answer) -> bool {
     matches!(
         answer,
         Answer::NoMemory(_) | Answer::Refused(EditFault::Rules(ChainFault::NoMemory))

@@ -1,6 +1,6 @@
 //! Calls of desks, from one thread and from several.
 
-use crate::callers::{Caller, is_wanting};
+use crate::callers::{Caller, lacks_memory};
 use crate::rounds::{Round, go_round};
 use lb_core::{Answer, DropReason, Event, Note};
 use lb_desk::{Audit, CloseFault, LogEntry, SeatId};
@@ -80,7 +80,7 @@ fn two_threads_share_a_desk(rt: HostRuntime) -> Result<(), Fail> {
 /// copies.
 fn is_shared(alloc: Global, audit: &Audit) -> Result<bool, AllocError> {
     // With `rt try --test --fail-alloc N` a call that lacked memory is counted and logged besides.
-    let lacked = u64::from(audit.log.iter().any(|entry| is_wanting(&entry.answer)));
+    let lacked = u64::from(audit.log.iter().any(|entry| lacks_memory(&entry.answer)));
     let counts = (audit.count, calls_of(audit, 0), calls_of(audit, 1));
     Ok(counts == (200 + lacked, 100, 100) && are_copied(alloc, audit.log.as_slice())?)
 }
@@ -90,7 +90,7 @@ fn calls_of(audit: &Audit, seat: u8) -> usize {
     audit
         .log
         .iter()
-        .filter(|entry| entry.seat == SeatId(seat) && !is_wanting(&entry.answer))
+        .filter(|entry| entry.seat == SeatId(seat) && !lacks_memory(&entry.answer))
         .count()
 }
 

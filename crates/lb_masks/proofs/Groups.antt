@@ -5,7 +5,7 @@ use Rattle.std.proofs.lemmas.Bool.{false≢true}
 use Rattle.std.proofs.lemmas.List.{get_or-map, length-map, map_more}
 use Rattle.std.proofs.lemmas.List.Elements.{Contains-append_left, Contains-push, Contains-push_cases}
 use Rattle.lb_wire.specs.declared.addr.Addr.{Addr}
-use Rattle.lb_ranks.specs.Least.{IsLeastFrom}
+use Rattle.lb_index_ranks.specs.Least.{IsLeastFrom}
 use Rattle.lb_masks.specs.Mask.{Prefix, Covers}
 use Rattle.lb_masks.specs.Index.{Pair, pair_of, IsFiledCovering, IsFiledWith}
 use Rattle.lb_masks.specs.Group.{IsIndexOf, pairs_of}

@@ -3,9 +3,9 @@ use Rattle.std.proofs.Common.{◌≡◌, ℕ, zero, suc, ◌+◌, ◌<◌, ◌�
 use Rattle.std.proofs.lemmas.List.{drop_more}
 use Rattle.lb_wire.specs.declared.addr.Addr.{Addr}
 use Rattle.lb_masks.specs.Mask.{Prefix, width}
-use Rattle.lb_ranks.specs.declared.filed.Filed.{Filed}
-use Rattle.lb_ranks.specs.Filed.{filed_at, IsFiledAt}
-use Rattle.lb_ranks.specs.Least.{IsLeastFrom, lesser_of}
+use Rattle.lb_index_ranks.specs.declared.filed.Filed.{Filed}
+use Rattle.lb_index_ranks.specs.Filed.{filed_at, IsFiledAt}
+use Rattle.lb_index_ranks.specs.Least.{IsLeastFrom, lesser_of}
 use Rattle.lb_masks.specs.Index.{Pair, pair_of, shown, IsFiledCovering}
 use Rattle.lb_masks.specs.Key.{IsKey, IsKeyOver, IsMask, key_of, kind_at}
 use Rattle.lb_masks.specs.Kinds.{AreMarked, IsMarkOver, IsOfKind, IsOfKinds}

@@ -4,8 +4,8 @@ use Rattle.std.proofs.lemmas.Bool.{cases_Bool, cases_eq}
 use Rattle.std.proofs.lemmas.List.{get_or-set_other, get_or-set_same, length-set}
 use Rattle.lb_wire.specs.declared.addr.Addr.{Addr}
 use Rattle.lb_wire.specs.declared.addr.Addr.TheVariants.{V4, V6}
-use Rattle.lb_ranks.specs.declared.filed.Filed.{Filed}
-use Rattle.lb_ranks.specs.Filed.{filed_at, HasBesides, HasBut}
+use Rattle.lb_index_ranks.specs.declared.filed.Filed.{Filed}
+use Rattle.lb_index_ranks.specs.Filed.{filed_at, HasBesides, HasBut}
 use Rattle.lb_masks.specs.Bits.{octets_of, kept_octet, OneFamily, SameBits}
 use Rattle.lb_masks.specs.Key.{HasOctets, IsMask, key_of, kind_at, mask_of}
 use Rattle.lb_masks.specs.Kinds.{mark_of, numbers, AreMarked, HasKind, HasMarked, IsMarkOver, IsNoted, KeepsMarks}

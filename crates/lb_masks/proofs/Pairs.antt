@@ -2,8 +2,8 @@
 use Rattle.std.proofs.Common.{◌≡◌, ◌⊎◌, ℕ, zero, suc, ◌<◌, List, [], ◌∷◌, length, get_or, map, Contains, inl, inr, refl, sym, ap, subst, ◌∙◌, arith}
 use Rattle.std.specs.List.{AllByRecursion}
 use Rattle.lb_masks.specs.Mask.{Prefix}
-use Rattle.lb_ranks.specs.declared.filed.Filed.{Filed}
-use Rattle.lb_ranks.specs.Filed.{filed_at, HasBesides, HasBut}
+use Rattle.lb_index_ranks.specs.declared.filed.Filed.{Filed}
+use Rattle.lb_index_ranks.specs.Filed.{filed_at, HasBesides, HasBut}
 use Rattle.lb_masks.specs.Index.{Pair, pair_of, shown, IsFiledWith, IsFiledWithout}
 use Rattle.lb_masks.specs.Key.{IsKey, IsMask, key_of, mask_of}
 use Rattle.lb_masks.proofs.Covered.{mask_of-key, own_key}

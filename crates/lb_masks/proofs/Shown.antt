@@ -6,8 +6,8 @@ use Rattle.std.specs.Cmp.{IsTotalOrder}
 use Rattle.std.specs.declared.cmp.Ordering.TheVariants.{Less, Equal}
 use Rattle.std.proofs.lemmas.Cmp.{on_total, tied_itself}
 use Rattle.std.proofs.lemmas.Map.Keys.{sorted_head, sorted_tail}
-use Rattle.lb_ranks.specs.declared.filed.Filed.{Filed}
-use Rattle.lb_ranks.specs.Filed.{filed_at, filed_cmp, AreInOrder}
+use Rattle.lb_index_ranks.specs.declared.filed.Filed.{Filed}
+use Rattle.lb_index_ranks.specs.Filed.{filed_at, filed_cmp, AreInOrder}
 use Rattle.lb_masks.specs.Index.{Pair, kept_at, pair_cmp, shown, ArePairsInOrder, HaveSame}
 use Rattle.lb_masks.specs.Key.{IsKey, key_of, mask_of}
 use Rattle.lb_masks.proofs.Covered.{mask_of-key}

@@ -9,9 +9,9 @@ use Rattle.std.proofs.lemmas.Bool.{cases_Bool}
 use Rattle.std.proofs.lemmas.Cmp.{on_total, then_total, nat_list_cmp_total, nat_cmp_total, tied_itself, ranked}
 use Rattle.std.proofs.lemmas.Map.Keys.{sorted_head, sorted_tail}
 use Rattle.std.proofs.lemmas.List.Elements.{Contains-append_cases, Contains-append_right}
-use Rattle.lb_ranks.specs.declared.filed.Filed.{Filed}
-use Rattle.lb_ranks.specs.Cursor.{next_below}
-use Rattle.lb_ranks.specs.Filed.{filed_at, filed_cmp, is_before, AreInOrder, IsCut, IsFrom}
+use Rattle.lb_index_ranks.specs.declared.filed.Filed.{Filed}
+use Rattle.lb_index_ranks.specs.Cursor.{next_below}
+use Rattle.lb_index_ranks.specs.Filed.{filed_at, filed_cmp, is_before, AreInOrder, IsCut, IsFrom}
 use Rattle.lb_masks.specs.Kinds.{HasKind}
 use Rattle.lb_masks.proofs.Pairs.{cons_cases, cons_here, each_has, none_there}
 

@@ -3,8 +3,8 @@ use Rattle.std.specs.Prelude.{◌≡◌, ◌⊎◌, ◌↔◌, ℕ, ◌≤◌, n
 use Rattle.std.specs.List.{IsDistinct}
 use Rattle.lb_wire.specs.declared.addr.Addr.{Addr}
 use Rattle.lb_masks.specs.Mask.{Prefix, Covers, width}
-use Rattle.lb_ranks.specs.declared.filed.Filed.{Filed}
-use Rattle.lb_ranks.specs.Filed.{filed_at, IsFiledAt}
+use Rattle.lb_index_ranks.specs.declared.filed.Filed.{Filed}
+use Rattle.lb_index_ranks.specs.Filed.{filed_at, IsFiledAt}
 use Rattle.lb_masks.specs.Bits.{octets_of}
 use Rattle.lb_masks.specs.Key.{HasOctets, IsMask, kind_at, key_of}
 use Rattle.lb_masks.specs.Marks.{mark_at, HasMark}

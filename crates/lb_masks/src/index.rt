@@ -1,14 +1,14 @@
 //! The index of masks.
 
 ghost use Rattle.std.specs.Prelude.{◌≡◌, [], OnOk, OnErr};
-ghost use Rattle.lb_ranks.specs.Least.{IsLeastFrom};
+ghost use Rattle.lb_index_ranks.specs.Least.{IsLeastFrom};
 ghost use Rattle.lb_masks.specs.Index.{pair_of, ArePairsInOrder, HaveSame, IsFiledCovering, IsFiledWith, IsFiledWithout};
 ghost use Rattle.lb_masks.specs.Kinds.{IsOfKind, IsOfKinds};
 
 use crate::key::{key_of, key_over, kind_of, mark_of, mark_over};
 use crate::kinds::{MaskKind, forget_unused, note};
 use crate::mask::Mask;
-use lb_ranks::{Ranks, lesser};
+use lb_index_ranks::{Ranks, lesser};
 use lb_wire::Addr;
 use std::alloc::{AllocError, Global};
 use std::marker::Model;
@@ -105,7 +105,7 @@ impl MaskIndex {
 
     /// The least rank at or after a rank that is filed under a mask that covers the address. A mapped IPv4 address is an
     /// IPv6 address here. It makes a look for each length in use of masks of the address's family
-    /// of which one may have its network, as its mark tells, and takes no memory.
+    /// of which one may have its network, as its mark says, and takes no memory.
     pub fn next(&self, addr: &Addr, from: u64) -> Option<u64>
         ensures { IsLeastFrom (IsFiledCovering self.now addr.now) from result }
     {

@@ -5,7 +5,7 @@ ghost use Rattle.std.specs.List.{IsDistinct};
 ghost use Rattle.lb_masks.specs.Kinds.{numbers, HasKind, IsNoted, KeepsMarks};
 ghost use Rattle.lb_masks.specs.Marks.{HasMark};
 
-use lb_ranks::Ranks;
+use lb_index_ranks::Ranks;
 use std::alloc::AllocError;
 
 /// The bits of a word of marks.

@@ -1,8 +1,8 @@
 -- What sockets in memory tell.
 use Rattle.std.specs.Prelude.{ℕ, List, map}
-use Rattle.lb_lines.specs.declared.endpoint.Endpoint.{Endpoint}
-use Rattle.lb_lines.specs.declared.traffic.Datagram.{Datagram}
-use Rattle.lb_lines.specs.declared.traffic.Socket.{Socket}
+use Rattle.lb_loops_io.specs.declared.endpoint.Endpoint.{Endpoint}
+use Rattle.lb_loops_io.specs.declared.traffic.Datagram.{Datagram}
+use Rattle.lb_loops_io.specs.declared.traffic.Socket.{Socket}
 
 -- datagrams, from their sockets and ends with their octets
 abbrev pub told : List ((Socket × Endpoint) × List ℕ) → List Datagram

@@ -4,7 +4,7 @@ ghost use Rattle.std.specs.Prelude.{length, ◌≡◌};
 ghost use Rattle.lb_memory.specs.Datagrams.{told};
 
 use http_server::Log;
-use lb_lines::{Datagram, Datagrams, Endpoint, Received, Rooms, Socket, WaitFailed, Why};
+use lb_loops_io::{Datagram, Datagrams, Endpoint, Received, Rooms, Socket, WaitFailed, Why};
 use lb_wire::Octets;
 use std::alloc::{AllocError, Global};
 use std::collections::VecDeque;

@@ -3,7 +3,7 @@
 ghost use Rattle.std.specs.Prelude.{◌≡◌};
 
 use http_server::Log;
-use lb_lines::Outside;
+use lb_loops_io::Outside;
 use std::sync::{Arc, Mutex, Wait};
 
 /// What a test and a source of moments share.

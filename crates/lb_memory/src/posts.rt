@@ -3,7 +3,7 @@
 ghost use Rattle.std.specs.Prelude.{◌≡◌};
 
 use http_server::Log;
-use lb_lines::{Posts, Why};
+use lb_loops_io::{Posts, Why};
 use lb_wire::{Octets, Origin};
 use std::alloc::{AllocError, Global};
 use std::sync::{Arc, Mutex, Wait};

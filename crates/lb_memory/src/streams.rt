@@ -1,13 +1,13 @@
 //! Sockets of streams in memory.
 
 ghost use Rattle.std.specs.Prelude.{[], IfOk, length, ◌+◌, ◌++◌, ◌∷◌, ◌≡◌};
-ghost use Rattle.lb_lines.specs.Counts.{Fails};
+ghost use Rattle.lb_loops_io.specs.Counts.{Fails};
 ghost use Rattle.lb_memory.specs.Streams.{firsts};
 
 use crate::datagrams::refuse;
 use crate::wires::{Coming, Wires};
 use http_server::Log;
-use lb_lines::{Accepted, Endpoint, Read, Ready, Streams, WaitFailed, Why};
+use lb_loops_io::{Accepted, Endpoint, Read, Ready, Streams, WaitFailed, Why};
 use lb_wire::Octets;
 use std::alloc::{AllocError, Global};
 use std::marker::Model;

@@ -2,7 +2,7 @@
 
 ghost use Rattle.std.specs.Prelude.{◌≤◌};
 
-use lb_lines::{Endpoint, Ready};
+use lb_loops_io::{Endpoint, Ready};
 use lb_wire::Octets;
 use std::alloc::{AllocError, Global};
 use std::collections::VecDeque;

@@ -7,7 +7,7 @@ use futures::channel::oneshot;
 use http_body_util::Full;
 use hyper::rt::TokioTimer;
 use hyper::server::conn::http1::{Builder, Connection};
-use lb_front::{
+use lb_doh_server::{
     Client, END_MILLISECONDS, FrontFault, Make, Paced, Served, serve_connections, settings,
 };
 use std::alloc::{AllocError, AllocGlobal, Global};

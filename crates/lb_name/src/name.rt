@@ -235,7 +235,7 @@ impl Name {
         is_wire_under(self.wire.as_slice(), other.wire.as_slice())
     }
 
-    /// Whether the name is the kept one or stands below it: what `is_under` tells of the same names. It copies neither.
+    /// Whether the name is the kept one or stands below it: as `is_under` says of the same names. It copies neither.
     pub fn is_under_kept(&self, suffix: &KeptName) -> bool
         ensures { IsTrue result ↔ IsUnder self.now suffix.now }
     {

@@ -57,7 +57,7 @@ fn add(
     Ok(park.add_server(spec)?)
 }
 
-/// The number of the refusal of a server of order 1 where memory is lacking.
+/// The number of the refusal of a server of order 1 if memory is lacking.
 fn refusal(alloc: Global, park: &Park, name: &str, pools: &[&str]) -> Result<u8, Fail> {
     let spec = spec(alloc, name, 1, pools)?;
     let copy = spec.copy(alloc)?;
@@ -81,7 +81,7 @@ fn full(alloc: Global) -> Result<Park, Fail> {
 }
 
 #[test]
-fn wanting_memory_is_the_last_refusal(rt: HostRuntime) -> Result<(), Fail> {
+fn lacking_memory_is_the_last_refusal(rt: HostRuntime) -> Result<(), Fail> {
     let mut park = full(rt.alloc())?;
     for (row, (name, pools, number)) in REFUSED.iter().enumerate() {
         held(row, refusal(rt.alloc(), &park, name, pools)? == *number)?;

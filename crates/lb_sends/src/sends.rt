@@ -3,7 +3,7 @@
 use crate::clients::{Clients, raise, read};
 use crate::probed::{Probed, Results};
 use crate::times::{ReplyTimes, Times};
-use lb_lines::{Head, Line, Sending, Why};
+use lb_loops_io::{Head, Line, Sending, Why};
 use lb_wire::ServerId;
 use std::alloc::{AllocError, Global};
 use std::sync::atomic::AtomicU64;

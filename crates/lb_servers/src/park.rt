@@ -329,7 +329,7 @@ impl Park {
         Ok(())
     }
 
-    /// Gives a pool a new cache in place of the one that it has, and tells its number, which is never given again. It takes no
+    /// Gives a pool a new cache in place of the one that it has, and returns its number, which is never given again. It takes no
     /// memory.
     pub fn attach_cache(&mut self, pool: PoolId) -> CacheId
         requires ready { cache_ready_of self.old pool ≡ Ok tt }
@@ -341,7 +341,7 @@ impl Park {
         cache
     }
 
-    /// Takes the cache of a pool away, and tells its number; None where the pool has none, or is not there. It takes no memory.
+    /// Takes the cache of a pool away, and returns its number; None if the pool has none, or is not there. It takes no memory.
     pub fn detach_cache(&mut self, pool: PoolId) -> Option<CacheId>
         ensures { (self.new, result) ≡ detached self.old pool }
     {

@@ -1,11 +1,11 @@
 -- What sockets of datagrams tell, and which listeners there are.
 use Rattle.std.specs.Prelude.{ℕ, Bool, true, false, List, map, Option, Some, Result, slice_get}
-use Rattle.lb_lines.specs.Moves.{Sent}
-use Rattle.lb_lines.specs.declared.endpoint.Endpoint.{Endpoint}
-use Rattle.lb_lines.specs.declared.report.Why.{Why}
-use Rattle.lb_lines.specs.declared.traffic.Datagram.{Datagram}
-use Rattle.lb_lines.specs.declared.traffic.Socket.{Socket}
-use Rattle.lb_lines.specs.declared.traffic.Socket.TheVariants.{Listener, Server}
+use Rattle.lb_loops_io.specs.Moves.{Sent}
+use Rattle.lb_loops_io.specs.declared.endpoint.Endpoint.{Endpoint}
+use Rattle.lb_loops_io.specs.declared.report.Why.{Why}
+use Rattle.lb_loops_io.specs.declared.traffic.Datagram.{Datagram}
+use Rattle.lb_loops_io.specs.declared.traffic.Socket.{Socket}
+use Rattle.lb_loops_io.specs.declared.traffic.Socket.TheVariants.{Listener, Server}
 use Rattle.lb_sockets.specs.declared.sender.Sender.{Sender}
 use Rattle.lb_sockets.specs.declared.servers.Upstream.{Upstream}
 

@@ -1,6 +1,6 @@
 -- What sockets of streams tell.
 use Rattle.std.specs.Prelude.{ℕ, List, [], map}
-use Rattle.lb_lines.specs.Moves.{Traffic}
+use Rattle.lb_loops_io.specs.Moves.{Traffic}
 
 -- the numbers of connections, in order
 abbrev pub firsts : List (ℕ × ℕ) → List ℕ

@@ -1,6 +1,6 @@
 //! Ends of a transport as the system's addresses.
 
-use lb_lines::Endpoint;
+use lb_loops_io::Endpoint;
 use lb_wire::Addr;
 use std::net::{Ipv4Addr, Ipv6Addr, SocketAddr, SocketAddrV4, SocketAddrV6};
 

@@ -10,7 +10,7 @@ use crate::pieces::{Intake, PIECE};
 use crate::queue::Queue;
 use crate::streams::Limits;
 use crate::watch::Watch;
-use lb_lines::{Endpoint, Ready};
+use lb_loops_io::{Endpoint, Ready};
 use lb_sends::Sends;
 use lb_wire::{Addr, Octets};
 use mio::event::Event;

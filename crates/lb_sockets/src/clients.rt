@@ -6,7 +6,7 @@ use crate::fronts::TcpListeners;
 use crate::readiness::first_from;
 use crate::sources::Sources;
 use crate::streams::Limits;
-use lb_lines::{Endpoint, MAX_CLIENTS};
+use lb_loops_io::{Endpoint, MAX_CLIENTS};
 use lb_sends::{Refusal, Sends};
 use lb_wire::Addr;
 use mio::net::TcpStream;

@@ -2,7 +2,7 @@
 
 ghost use Rattle.std.specs.Prelude.{IfOk, length, ◌<◌, ◌≡◌, ◌≤◌};
 
-use lb_lines::MAX_CONNECTIONS;
+use lb_loops_io::MAX_CONNECTIONS;
 use lb_sends::Closing;
 use lb_wire::{Addr, Octets};
 use mio::event::Event;

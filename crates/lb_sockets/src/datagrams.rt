@@ -2,8 +2,8 @@
 
 ghost use Rattle.std.specs.Prelude.{[], IfOk, IfSome, OnErr, OnOk, vec_capacity, ◌++◌, ◌∷◌, ◌≡◌, ◌≤◌};
 ghost use Rattle.std.specs.Arc.{arc_value};
-ghost use Rattle.lb_lines.specs.Counts.{Fails};
-ghost use Rattle.lb_lines.specs.declared.report.Why.TheVariants as whys;
+ghost use Rattle.lb_loops_io.specs.Counts.{Fails};
+ghost use Rattle.lb_loops_io.specs.declared.report.Why.TheVariants as whys;
 ghost use Rattle.lb_sockets.specs.Datagrams.{SentBy, from_listener, from_server, told};
 ghost use Rattle.lb_wire.specs.Octets.{max_message};
 
@@ -15,7 +15,7 @@ use crate::servers::{Servers, Upstream, close_idle, connected};
 use crate::waker::PollWaker;
 use crate::wire::Wire;
 use http_server::Log;
-use lb_lines::{Datagram, Datagrams, Endpoint, Received, Rooms, Socket, WaitFailed, Why};
+use lb_loops_io::{Datagram, Datagrams, Endpoint, Received, Rooms, Socket, WaitFailed, Why};
 use lb_wire::Octets;
 use std::alloc::{AllocError, Global};
 use std::io;

@@ -5,7 +5,7 @@ ghost use Rattle.std.specs.Prelude.{IfOk, is_some, map, ◌≡◌};
 use crate::listening::{BindFault, not_bound};
 use crate::options::listening;
 use crate::watch::Watch;
-use lb_lines::Endpoint;
+use lb_loops_io::Endpoint;
 use mio::Interest;
 use mio::net::TcpListener;
 use std::alloc::Global;

@@ -2,13 +2,13 @@
 
 ghost use Rattle.std.specs.Prelude.{IfOk, IfSome, is_some, map, ◌≡◌};
 ghost use Rattle.std.specs.Arc.{arc_value};
-ghost use Rattle.lb_lines.specs.declared.traffic.Socket.TheVariants as sockets;
+ghost use Rattle.lb_loops_io.specs.declared.traffic.Socket.TheVariants as sockets;
 ghost use Rattle.lb_sockets.specs.Datagrams.{listens_at};
 
 use crate::addresses::socket_addr;
 use crate::options::{Share, bound};
 use crate::wire::Wire;
-use lb_lines::{Endpoint, Socket};
+use lb_loops_io::{Endpoint, Socket};
 use mio::net::UdpSocket;
 use std::alloc::{AllocError, AllocFailed, Global};
 use std::io;

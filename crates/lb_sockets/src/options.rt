@@ -4,7 +4,7 @@ ghost use Rattle.std.specs.Prelude.{IsOk, length, pos, ◌+◌, ◌↔◌, ◌�
 ghost use Rattle.libc.specs.Net.{Kind, SockOption};
 
 use crate::addresses::socket_addr;
-use lb_lines::Endpoint;
+use lb_loops_io::Endpoint;
 use libc::net as c;
 use mio::net::UdpSocket;
 use os::FromRawFd;

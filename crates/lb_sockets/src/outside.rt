@@ -3,7 +3,7 @@
 ghost use Rattle.std.specs.Prelude.{[], IfOk, ◌≡◌};
 
 use http_server::Log;
-use lb_lines::Outside;
+use lb_loops_io::Outside;
 use std::io;
 use std::random::RandomSource;
 use std::time::{Clock, Instant};

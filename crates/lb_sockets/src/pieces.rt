@@ -3,7 +3,7 @@
 ghost use Rattle.std.specs.Prelude.{OnOk, vec_capacity, vec_len, ◌≡◌, ◌≤◌};
 
 use crate::reader::copied;
-use lb_lines::Rooms;
+use lb_loops_io::Rooms;
 use lb_wire::Octets;
 use mio::net::TcpStream;
 use std::alloc::{AllocError, Global};

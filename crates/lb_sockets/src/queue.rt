@@ -3,7 +3,7 @@
 ghost use Rattle.std.specs.Prelude.{◌≤◌};
 ghost use Rattle.std.specs.VecDeque.{deque_capacity};
 
-use lb_lines::MAX_CONNECTIONS;
+use lb_loops_io::MAX_CONNECTIONS;
 use std::alloc::{AllocError, Global};
 use std::collections::VecDeque;
 

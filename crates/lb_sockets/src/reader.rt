@@ -7,7 +7,7 @@ ghost use Rattle.lb_wire.specs.Octets.{max_message};
 use crate::addresses::endpoint_of;
 use crate::wire::Wire;
 use http_server::Log;
-use lb_lines::{Datagram, Endpoint, Rooms, Socket};
+use lb_loops_io::{Datagram, Endpoint, Rooms, Socket};
 use lb_wire::{MAX_MESSAGE, Octets};
 use std::alloc::{AllocError, Global};
 use std::{io, mem};

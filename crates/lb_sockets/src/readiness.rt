@@ -4,7 +4,7 @@ ghost use Rattle.std.specs.Prelude.{IfSome, length, ◌<◌, ◌≡◌};
 
 use crate::waker::PollWaker;
 use crate::watch::Watch;
-use lb_lines::WaitFailed;
+use lb_loops_io::WaitFailed;
 use mio::net::UdpSocket;
 use mio::{Events, Interest};
 use std::alloc::{AllocError, Global};

@@ -6,7 +6,7 @@ ghost use Rattle.lb_sockets.specs.Datagrams.{told};
 use crate::addresses::socket_addr;
 use crate::wire::Wire;
 use http_server::Log;
-use lb_lines::{Endpoint, Socket};
+use lb_loops_io::{Endpoint, Socket};
 use lb_wire::Octets;
 use std::io;
 use std::io::ErrorKind;

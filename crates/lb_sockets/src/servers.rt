@@ -1,13 +1,13 @@
 //! The sockets of servers.
 
 ghost use Rattle.std.specs.Prelude.{IfSome, ◌≡◌};
-ghost use Rattle.lb_lines.specs.declared.traffic.Socket.TheVariants as sockets;
+ghost use Rattle.lb_loops_io.specs.declared.traffic.Socket.TheVariants as sockets;
 
 use crate::addresses::{any_beside, socket_addr};
 use crate::options::{Share, bound};
 use crate::readiness::Readiness;
 use crate::wire::Wire;
-use lb_lines::{Endpoint, KEPT_AFTER_QUERY, Socket};
+use lb_loops_io::{Endpoint, KEPT_AFTER_QUERY, Socket};
 use lb_wire::ServerId;
 use mio::net::UdpSocket;
 use std::alloc::{AllocError, Global};

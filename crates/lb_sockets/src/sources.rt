@@ -3,7 +3,7 @@
 ghost use Rattle.std.specs.Prelude.{◌≡◌};
 ghost use Rattle.lb_sockets.specs.Sources as spec;
 
-use lb_lines::MAX_CLIENTS;
+use lb_loops_io::MAX_CLIENTS;
 use lb_masks::masked;
 use lb_wire::Addr;
 use std::alloc::{AllocError, Global};

@@ -9,7 +9,7 @@ use crate::pieces::Intake;
 use crate::told::Told;
 use crate::waker::PollWaker;
 use crate::watch::Watch;
-use lb_lines::{Accepted, Endpoint, Read, Ready, Streams, WaitFailed, Why};
+use lb_loops_io::{Accepted, Endpoint, Read, Ready, Streams, WaitFailed, Why};
 use lb_sends::Sends;
 use std::alloc::{AllocError, Global};
 use std::io;

@@ -1,11 +1,11 @@
 //! What sockets of streams tell.
 
 ghost use Rattle.std.specs.Prelude.{[], IfOk, length, ◌+◌, ◌++◌, ◌∷◌, ◌≡◌, ◌≤◌};
-ghost use Rattle.lb_lines.specs.Moves.{Faulty, FaultyAt, read_once};
+ghost use Rattle.lb_loops_io.specs.Moves.{Faulty, FaultyAt, read_once};
 ghost use Rattle.lb_sockets.specs.Told.{nothing};
 
 use http_server::Log;
-use lb_lines::Endpoint;
+use lb_loops_io::Endpoint;
 use lb_wire::Octets;
 use std::alloc::{AllocError, Global};
 use std::marker::Model;
@@ -68,7 +68,7 @@ pub(crate) struct Told {
 
 impl Model for Told {
     ghost use Rattle.std.specs.Prelude.{length};
-    ghost use Rattle.lb_lines.specs.Moves.{Traffic};
+    ghost use Rattle.lb_loops_io.specs.Moves.{Traffic};
     ghost use Rattle.lb_sockets.specs.Told.{firsts};
 
     ghost Value = { Traffic };

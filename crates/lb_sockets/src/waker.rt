@@ -1,6 +1,6 @@
 //! Wakes a loop that waits at mio's poll.
 
-use lb_lines;
+use lb_loops_io;
 use mio;
 
 /// Wakes the loop whose sockets it was made of.
@@ -15,7 +15,7 @@ impl PollWaker {
     }
 }
 
-impl lb_lines::Waker for PollWaker {
+impl lb_loops_io::Waker for PollWaker {
     /// A wake that the system refuses is lost: the loop then waits until its time is up.
     fn wake(&self) {
         let _ = self.waker.wake();

@@ -1,7 +1,7 @@
 //! What the system tells of sockets.
 
 use crate::waker::PollWaker;
-use lb_lines::WaitFailed;
+use lb_loops_io::WaitFailed;
 use mio::unix::SourceFd;
 use mio::{Events, Interest, Poll, Token, Waker};
 use std::alloc::Global;

@@ -108,7 +108,7 @@ found_cache id caches cache is =
     let same : cache.id.0 ≡ id.0 = ap (λ (c : AttachedCache). c.id.0) (sym f.gives) ∙ eq_numbers f.x.id.0 id.0 f.passes in
     ap (λ (n : ℕ). record { 0 = n }) same
 
--- what keeps a reply where memory is lacking keeps it where it is not
+-- what keeps a reply if memory is lacking keeps it where it is not
 would_if : (b : Bool) (x y with_x with_y : List KeptReply × Kept) → (x.1 ≡ kept.NoMemory → with_x.1 ≡ kept.Yes) → (y.1 ≡ kept.NoMemory → with_y.1 ≡ kept.Yes) →
     (if b then x else y).1 ≡ kept.NoMemory → (if b then with_x else with_y).1 ≡ kept.Yes
 would_if true x y with_x with_y first second is = first is

@@ -18,10 +18,10 @@ abbrev pub Leaves : {State : Type 0} → State → Answer → State × Answer �
 Leaves new answer done = (new, answer) ≡ done
 
 -- whether a command was refused for lack of memory
-abbrev pub is_wanting : EditFault → Bool
-is_wanting (Rules chain_faults.NoMemory) = true
-is_wanting (Servers park_faults.NoMemory) = true
-is_wanting _ = false
+abbrev pub lacks_memory : EditFault → Bool
+lacks_memory (Rules chain_faults.NoMemory) = true
+lacks_memory (Servers park_faults.NoMemory) = true
+lacks_memory _ = false
 
 -- whether a reply was not kept for lack of memory
 abbrev pub is_unkept : Kept → Bool
@@ -32,7 +32,7 @@ is_unkept _ = false
 abbrev pub marked : Answer → Bool
 marked (NoMemory bytes) = true
 marked (Deliver origin bytes kept) = is_unkept kept
-marked (Refused fault) = is_wanting fault
+marked (Refused fault) = lacks_memory fault
 marked _ = false
 
 -- whether an event was refused, or met lack of memory

@@ -114,7 +114,7 @@ expunged_from ups covered (Some pool) = expunged_of ups covered (cache_at ups.po
 abbrev pub server_by : Upstreams → List ℕ → Option ServerId
 server_by ups name = server_named (backends_of ups).servers name
 
--- what a command leaves and answers, where memory is lacking or not
+-- what a command leaves and answers, if memory is lacking or not
 abbrev pub edit_of : Bool → Plain → Command → Plain × Answer
 edit_of mark plain (RuleAdd place rule) = rule_added mark plain place (rule_by (pool_named plain.pools) rule)
 edit_of mark plain (RuleRemove id) = rules_edited (λ _. notes.RuleRemoved id) plain (removed (chain_of plain) id)

@@ -55,7 +55,7 @@ Decides ups asked bytes view walked answer new = EndDecides ups asked bytes view
 abbrev pub with_passes : Asked → Walked → Plain → Plain
 with_passes asked walked plain = record plain { rules = counted walked.passes asked.origin.source asked.moment plain.rules }
 
--- a query that was walked through the rules: its passes are counted and the walk decides; where memory is lacking nothing
+-- a query that was walked through the rules: its passes are counted and the walk decides; if memory is lacking nothing
 -- is counted and the answer is ServFail
 abbrev pub WalkedSteps : Bool → Plain → Asked → List ℕ → QueryView → Walked → Answer → Plain → Type 0
 WalkedSteps true plain asked bytes view walked answer new = Leaves new answer (plain, NoMemory (failure_of view))
@@ -79,7 +79,7 @@ abbrev pub ReadSteps : Bool → Bool → Plain → Asked → List ℕ → QueryV
 ReadSteps true mark plain asked bytes view answer new = Leaves new answer (plain, Local (refusal_of view (rcode_number rcodes.Refused)) locals.Transfer)
 ReadSteps false mark plain asked bytes view answer new = WalkedSteps mark plain asked bytes view (walked_of plain asked view) answer new
 
--- a query whose bytes read so, where memory is lacking or not
+-- a query whose bytes read so, if memory is lacking or not
 abbrev pub QuerySteps : Bool → Plain → Asked → List ℕ → Result QueryView QueryFault → Answer → Plain → Type 0
 QuerySteps mark plain asked bytes (Err query_faults.Short) answer new = Leaves new answer (plain, Dropped drops.Short)
 QuerySteps mark plain asked bytes (Err query_faults.NotQuery) answer new = Leaves new answer (plain, Dropped drops.NotQuery)

@@ -23,7 +23,7 @@ pub enum Answer {
     Deliver(Origin, Octets, Kept),
     /// The query was given up: the client that asked gets ServFail, in these octets.
     Expired(Origin, Octets),
-    /// Nothing is to be told.
+    /// Nothing is to be reported.
     Quiet,
     /// The reply or the health result is of no use, and changes nothing.
     Ignored(IgnoreReason),

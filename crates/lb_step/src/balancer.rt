@@ -36,7 +36,7 @@ use std::marker::Model;
 #[derive(Debug, Drop)]
 pub struct Balancer {
     alloc: Global,
-    /// The latest moment told, in milliseconds.
+    /// The latest moment given, in milliseconds.
     moment: u64,
     chain: Chain,
     upstream: Upstream,

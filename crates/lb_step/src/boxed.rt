@@ -26,7 +26,7 @@ impl Model for BoxedCommand {
 }
 
 impl BoxedCommand {
-    /// Takes memory for the command. The one error is want of it.
+    /// Takes memory for the command. The one error is lack of it.
     pub fn new(alloc: Global, command: Command) -> Result<BoxedCommand, AllocError>
         ensures { IfOk result (λ boxed. boxed ≡ command) }
     {

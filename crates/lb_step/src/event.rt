@@ -1,4 +1,4 @@
-//! What the balancer is told.
+//! What the balancer is given.
 
 ghost use Rattle.std.specs.Prelude.{◌≡◌, IfOk, IsTrue};
 ghost use Rattle.lb_step.specs.Reading.{moment_of};
@@ -8,7 +8,7 @@ use crate::boxed::BoxedCommand;
 use lb_wire::{Kind, Lane, Octets, Origin, ServerId};
 use std::alloc::{AllocError, Global};
 
-/// One event. Moments are in milliseconds, from any start; the balancer's moment is the latest that it was told.
+/// One event. Moments are in milliseconds, from any start; the balancer's moment is the latest that it was given.
 #[derive(Debug, Drop)]
 pub enum Event {
     /// A query came in.

@@ -34,8 +34,8 @@ pub fn pools_are_found_in_routes()
     ensures { PoolsAreFoundInRoutes }
 {}
 
-/// What is told of a server's health after an event follows from what was told before it, the event,
-/// and its answer: the results given since the server was added. The answer tells that it came up or
+/// What is reported of a server's health after an event follows from what was reported before it, the event,
+/// and its answer: the results given since the server was added. The answer says that it came up or
 /// went down exactly at the last of a row of results.
 pub fn health_follows()
     ensures { HealthFollows }

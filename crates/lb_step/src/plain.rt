@@ -53,7 +53,7 @@ impl Model for Plain {
 }
 
 impl Plain {
-    /// The latest moment told, in milliseconds.
+    /// The latest moment given, in milliseconds.
     pub fn moment(&self) -> u64
         ensures { result ≡ self.now.moment }
     {

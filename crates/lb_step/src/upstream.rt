@@ -347,7 +347,7 @@ impl Upstream {
         }
     }
 
-    /// Takes the cache off a pool, with what it keeps, and tells its number.
+    /// Takes the cache off a pool, with what it keeps, and returns its number.
     pub(crate) fn detach_cache(&mut self, pool: PoolId) -> Option<CacheId>
         ensures { (self.new, result) ≡ detached_cache self.old pool }
     {
@@ -414,7 +414,7 @@ impl Upstream {
         }
     }
 
-    /// A snapshot of a chain and of what stands upstream, at a moment. The one error is want of
+    /// A snapshot of a chain and of what stands upstream, at a moment. The one error is lack of
     /// memory.
     pub(crate) fn snapshot(
         &self,

@@ -10,8 +10,8 @@ use Rattle.std.proofs.lemmas.List.{reverse-append, reverse-reverse}
 use Rattle.std.proofs.lemmas.List.Concat.{flat_map-append}
 use Rattle.lb_name.specs.Laws.{LabelsGoOn, NoLabel, SplitsBack}
 use Rattle.lb_name.specs.Name.{IsLabel, label_octets, labels_octets, lower_name, IsName}
-use Rattle.lb_ranks.specs.declared.filed.Filed.{Filed}
-use Rattle.lb_ranks.specs.Filed.{filed_at, is_before}
+use Rattle.lb_index_ranks.specs.declared.filed.Filed.{Filed}
+use Rattle.lb_index_ranks.specs.Filed.{filed_at, is_before}
 use Rattle.lb_suffix.specs.Index.{IsBelow}
 use Rattle.lb_suffix.specs.Key.{end_of, key_of, name_of, IsKey}
 use Rattle.lb_suffix.proofs.Keys.{Follows, begins, high_end, low_end}

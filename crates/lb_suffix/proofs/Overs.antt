@@ -5,9 +5,9 @@ use Rattle.std.proofs.lemmas.Bool.{cases_Bool}
 use Rattle.std.proofs.lemmas.Bool.Decides.{nat_tests}
 use Rattle.std.proofs.lemmas.List.{take_at, drop_at, length-append, length-take-le, take-append-drop}
 use Rattle.lb_name.specs.Name.{IsLabel, label_octets, labels_octets}
-use Rattle.lb_ranks.specs.declared.filed.Filed.{Filed}
-use Rattle.lb_ranks.specs.Least.{IsLeastFrom, lesser_of}
-use Rattle.lb_ranks.specs.Filed.{IsFiledAt}
+use Rattle.lb_index_ranks.specs.declared.filed.Filed.{Filed}
+use Rattle.lb_index_ranks.specs.Least.{IsLeastFrom, lesser_of}
+use Rattle.lb_index_ranks.specs.Filed.{IsFiledAt}
 use Rattle.lb_suffix.specs.Over.{IsOver}
 
 pub least_assoc : (a b c : Option ℕ) → lesser_of a (lesser_of b c) ≡ lesser_of (lesser_of a b) c

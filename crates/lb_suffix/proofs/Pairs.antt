@@ -4,8 +4,8 @@ use Rattle.std.specs.List.{AllByRecursion}
 use Rattle.std.proofs.lemmas.List.{append-nil, reverse-append, reverse-reverse}
 use Rattle.lb_name.specs.Laws.{SplitsBack}
 use Rattle.lb_name.specs.Name.{IsLabel, label_octets, labels_octets, lower_name, IsName, labels_of}
-use Rattle.lb_ranks.specs.declared.filed.Filed.{Filed}
-use Rattle.lb_ranks.specs.Filed.{filed_at, IsFiledAt, HasBesides, HasBut}
+use Rattle.lb_index_ranks.specs.declared.filed.Filed.{Filed}
+use Rattle.lb_index_ranks.specs.Filed.{filed_at, IsFiledAt, HasBesides, HasBut}
 use Rattle.lb_suffix.specs.Index.{Pair, pair_of, shown, IsFiledAtName, IsFiledOver, IsFiledWith, IsFiledWithout}
 use Rattle.lb_suffix.specs.Key.{key_of, name_of, IsKey}
 use Rattle.lb_suffix.specs.Over.{IsOver}

@@ -12,8 +12,8 @@ use Rattle.std.proofs.lemmas.Map.Keys.{sorted_head, sorted_tail}
 use Rattle.std.proofs.lemmas.List.Elements.{Contains-append_cases, Contains-append_right}
 use Rattle.lb_name.specs.Laws.{LabelsGoOn, SplitsBack}
 use Rattle.lb_name.specs.Name.{lower_name, IsName}
-use Rattle.lb_ranks.specs.declared.filed.Filed.{Filed}
-use Rattle.lb_ranks.specs.Filed.{filed_at, filed_cmp, is_before, AreInOrder, HasBut, IsFrom, TakesFirst}
+use Rattle.lb_index_ranks.specs.declared.filed.Filed.{Filed}
+use Rattle.lb_index_ranks.specs.Filed.{filed_at, filed_cmp, is_before, AreInOrder, HasBut, IsFrom, TakesFirst}
 use Rattle.lb_suffix.specs.Index.{Pair, kept_at, pair_cmp, pair_of, shown, ArePairsInOrder, HaveSame, IsBelow, IsFiledUnder, IsFiledWithout, TakesUnder}
 use Rattle.lb_suffix.specs.Key.{end_of, key_of, name_of, reversed_octets, IsKey}
 use Rattle.lb_suffix.specs.Under.{kept_before, pairs_before}

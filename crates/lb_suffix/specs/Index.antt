@@ -3,8 +3,8 @@ use Rattle.std.specs.Prelude.{◌≡◌, ℕ, List, ◌++◌, Option, None, Some
 use Rattle.std.specs.declared.cmp.Ordering.{Ordering}
 use Rattle.std.specs.List.Sorted.{IsStrictlySortedBy}
 use Rattle.lb_name.specs.Name.{lower_name, IsUnder}
-use Rattle.lb_ranks.specs.declared.filed.Filed.{Filed}
-use Rattle.lb_ranks.specs.Filed.{filed_at, filed_cmp}
+use Rattle.lb_index_ranks.specs.declared.filed.Filed.{Filed}
+use Rattle.lb_index_ranks.specs.Filed.{filed_at, filed_cmp}
 use Rattle.lb_suffix.specs.Key.{name_of, reversed_octets}
 
 -- a rank that is filed under a name in lower case

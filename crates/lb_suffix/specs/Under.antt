@@ -1,7 +1,7 @@
 -- A walk over what is filed at a name and below it.
 use Rattle.std.specs.Prelude.{ℕ, List, [], ◌∷◌, map, if◌then◌else◌}
-use Rattle.lb_ranks.specs.declared.filed.Filed.{Filed}
-use Rattle.lb_ranks.specs.Filed.{filed_at, is_before}
+use Rattle.lb_index_ranks.specs.declared.filed.Filed.{Filed}
+use Rattle.lb_index_ranks.specs.Filed.{filed_at, is_before}
 use Rattle.lb_suffix.specs.Index.{Pair, shown}
 
 -- what is kept up to the first pair whose key does not stand before this one

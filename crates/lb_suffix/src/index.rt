@@ -1,14 +1,14 @@
 //! The index.
 
 ghost use Rattle.std.specs.Prelude.{◌≡◌, ◌^◌, ◌<◌, ◌↔◌, [], Contains, OnOk, OnErr, length};
-ghost use Rattle.lb_ranks.specs.Least.{IsLeastFrom};
+ghost use Rattle.lb_index_ranks.specs.Least.{IsLeastFrom};
 ghost use Rattle.lb_suffix.specs.Index.{pair_of, ArePairsInOrder, HaveSame, IsFiledAtName, IsFiledOver, IsFiledUnder, IsFiledWith, IsFiledWithout, Pair, TakesUnder};
 
 use crate::key::key_of;
 use crate::over::next_over;
 use crate::under::Under;
+use lb_index_ranks::Ranks;
 use lb_name::{Name, splits_back};
-use lb_ranks::Ranks;
 use std::alloc::{AllocError, Global};
 use std::marker::Model;
 

@@ -3,10 +3,10 @@
 ghost use Rattle.std.specs.Prelude.{◌≡◌, List, ℕ, []};
 ghost use Rattle.std.specs.List.{AllByRecursion};
 ghost use Rattle.lb_name.specs.Name.{IsLabel, labels_octets};
-ghost use Rattle.lb_ranks.specs.Least.{IsLeastFrom};
+ghost use Rattle.lb_index_ranks.specs.Least.{IsLeastFrom};
 ghost use Rattle.lb_suffix.specs.Over.{IsOver};
 
-use lb_ranks::{Ranks, lesser};
+use lb_index_ranks::{Ranks, lesser};
 
 /// The least rank at or after a rank that is filed under the labels of the key or under the first of them.
 pub(crate) fn next_over(ranks: &Ranks, key: &[u8], from: u64) -> Option<u64>

@@ -5,7 +5,7 @@ ghost use Rattle.lb_suffix.specs.Under.{pairs_before};
 ghost use Rattle.lb_suffix.specs.Key.{end_of};
 
 use crate::key::NameKey;
-use lb_ranks::Cursor;
+use lb_index_ranks::Cursor;
 use std::marker::Model;
 
 /// A walk over what is filed at a name and below it. A contract sees the pairs that it has not passed as a list. It takes

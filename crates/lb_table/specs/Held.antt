@@ -1,8 +1,8 @@
 -- Queries in order, each in a slot of its own.
 use Rattle.std.specs.Prelude.{◌≡◌, ℕ, ◌+◌, ◌-◌, Bool, true, ◌==◌, cond, List, [], ◌∷◌, map, Option, None, Some, IsSome}
 use Rattle.std.specs.List.{AllByRecursion}
-use Rattle.lb_slots.specs.Slots.{get}
-use Rattle.lb_ring.specs.Ring.{Distinct, Lacks, has, is_slot}
+use Rattle.lb_index_slots.specs.Slots.{get}
+use Rattle.lb_index_ring.specs.Ring.{Distinct, Lacks, has, is_slot}
 use Rattle.lb_table.specs.declared.entry.Waiting.{Waiting}
 
 abbrev pub slot_of : ℕ × Waiting → ℕ

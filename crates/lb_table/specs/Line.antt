@@ -4,7 +4,7 @@ use Rattle.std.specs.List.{insert}
 use Rattle.std.specs.Option.{option_or}
 use Rattle.std.specs.Ordering.{nat_cmp}
 use Rattle.std.specs.BTreeMap.{BTreeMap, get}
-use Rattle.lb_ring.specs.Ring.{Distinct, Lacks}
+use Rattle.lb_index_ring.specs.Ring.{Distinct, Lacks}
 use Rattle.lb_table.specs.declared.entry.Waiting.{Waiting}
 use Rattle.lb_table.specs.Entry.{deadline_of}
 use Rattle.lb_table.specs.Held.{behind, queries, slot_of, slots}

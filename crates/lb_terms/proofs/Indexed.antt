@@ -5,7 +5,7 @@ use Rattle.std.proofs.lemmas.List.{get_or-map, get_or_default, length-map, map_m
 use Rattle.std.proofs.lemmas.List.Elements.{Contains-append_left, Contains-push, Contains-push_cases}
 use Rattle.std.proofs.lemmas.List.Folds.{Any-from_list_any, list_any-from_Any}
 use Rattle.lb_name.specs.Name.{IsUnder, lower_name}
-use Rattle.lb_ranks.specs.Least.{IsLeastFrom}
+use Rattle.lb_index_ranks.specs.Least.{IsLeastFrom}
 use Rattle.lb_suffix.specs.Index.{Pair, pair_of, IsFiledOver, IsFiledWith}
 use Rattle.lb_terms.specs.Sets.{is_under, in_suffixes}
 use Rattle.lb_terms.specs.Names.{IsIndexOf, pairs_of}

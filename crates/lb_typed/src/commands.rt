@@ -283,7 +283,7 @@ pub(crate) fn law_of_command(what: &Command)
 
 /// A command as the line that an operator would type: it is read as this command, if its names and
 /// its response code can be typed and the line is at most as long as one may be. What cannot be
-/// typed is `?` in it. What a command would say anyway is left out. The one error is want of
+/// typed is `?` in it. What a command would say anyway is left out. The one error is lack of
 /// memory.
 pub fn command_line(alloc: Global, what: &Command) -> Result<String, AllocError>
     ensures { IfOk result (λ text. CanBeTyped what.now → length (string_bytes text) ≤ max_line → IsCommand (string_bytes text) what.now) }

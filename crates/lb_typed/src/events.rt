@@ -149,7 +149,7 @@ fn law_of_event(what: &Event)
 
 /// An event as a line of a replay: it is read as this event, but for the listener and the port of a
 /// client, which no line has, if its command can be typed, its lane is one of the eight, and the
-/// line is at most as long as one may be. The line has no line feed. The one error is want of
+/// line is at most as long as one may be. The line has no line feed. The one error is lack of
 /// memory.
 pub fn event_line(alloc: Global, what: &Event) -> Result<String, AllocError>
     ensures { IfOk result (λ text. EventCanBeTyped what.now → length (string_bytes text) ≤ max_line → IsEvent (string_bytes text) (as_told what.now)) }

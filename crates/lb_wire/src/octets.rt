@@ -6,7 +6,7 @@ ghost use Rattle.lb_wire.specs.Octets.{max_message};
 use std::alloc::{AllocError, Global};
 use std::marker::Model;
 
-/// The most octets of a message: its length is told in two octets (RFC 1035 section 4.2.2, RFC 7766 section 8).
+/// The most octets of a message: its length takes two octets (RFC 1035 section 4.2.2, RFC 7766 section 8).
 pub const MAX_MESSAGE: usize = 65_535;
 
 /// The octets of a message, at most 65,535. A contract sees them as a list.

@@ -1,6 +1,6 @@
 use Rattle.std.proofs.Common.{◌≡◌, ap, subst, sym, List, Some, arith, length}
 use Rattle.std.specs.List.{filter}
-use Rattle.lb_slots.specs.Slots.{Updates}
+use Rattle.lb_index_slots.specs.Slots.{Updates}
 use Rattle.lb_wire.specs.declared.kept.Kept.TheVariants.{Yes}
 use Rattle.lb_cache.specs.declared.reply.CachedReply.{CachedReply}
 use Rattle.lb_cache.specs.Cache.{placed, reply_of}

@@ -1,5 +1,5 @@
 use Rattle.std.proofs.Common.{ap, subst, List, Some}
-use Rattle.lb_slots.specs.Slots.{Updates}
+use Rattle.lb_index_slots.specs.Slots.{Updates}
 use Rattle.lb_wire.specs.declared.kept.Kept.TheVariants.{Yes}
 use Rattle.lb_cache.specs.declared.reply.CachedReply.{CachedReply}
 use Rattle.lb_cache.specs.Cache.{reply_of}

@@ -1,6 +1,6 @@
 use Rattle.std.proofs.Common.{◌≡◌, ap, subst, ◌∙◌, List, ℕ}
-use Rattle.lb_ranks.specs.Cursor.{next_below}
-use Rattle.lb_ranks.specs.Filed.{filed_at, IsFrom}
+use Rattle.lb_index_ranks.specs.Cursor.{next_below}
+use Rattle.lb_index_ranks.specs.Filed.{filed_at, IsFrom}
 use Rattle.lb_cache.proofs.KeySides.{first_within, none_in, none_of}
 use Rattle.lb_cache.proofs.keys.first_in.Goals as goal
 

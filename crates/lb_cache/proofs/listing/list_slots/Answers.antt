@@ -1,5 +1,5 @@
 use Rattle.std.proofs.Common.{◌≡◌, ◌∙◌, ◌++◌, List, ap, map, rules, ℕ}
-use Rattle.lb_ranks.specs.declared.filed.Filed.{Filed}
+use Rattle.lb_index_ranks.specs.declared.filed.Filed.{Filed}
 use Rattle.lb_cache.proofs.Listings.{whole_walk}
 use Rattle.lb_cache.proofs.listing.list_slots.Goals as goal
 

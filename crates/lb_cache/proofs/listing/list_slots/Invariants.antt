@@ -1,5 +1,5 @@
 use Rattle.std.proofs.Common.{◌≡◌, ◌++◌, length, map}
-use Rattle.lb_ranks.specs.declared.filed.Filed.{Filed}
+use Rattle.lb_index_ranks.specs.declared.filed.Filed.{Filed}
 use Rattle.lb_cache.proofs.listing.list_slots.Given as goal
 
 abbrev pub invariant-slots : goal.invariant-slots

@@ -1,5 +1,5 @@
 use Rattle.std.proofs.Common.{Option, ℕ, sym, subst}
-use Rattle.lb_ranks.specs.Least.{IsLeastFrom}
+use Rattle.lb_index_ranks.specs.Least.{IsLeastFrom}
 use Rattle.lb_suffix.specs.Index.{IsFiledOver}
 use Rattle.lb_masks.specs.Index.{IsFiledCovering}
 use Rattle.lb_chain.specs.Filing.{IsFiledFor}

@@ -1,6 +1,6 @@
 use Rattle.std.proofs.Common.{◌≡◌, ◌∷◌, ◌+◌, List, ℕ, [], drop, Option, sym, ◌∙◌, ap, subst, option_copied, Some}
-use Rattle.lb_ranks.specs.Least.{IsLeastFrom}
-use Rattle.lb_ranks.specs.Filed.{IsFiledAt}
+use Rattle.lb_index_ranks.specs.Least.{IsLeastFrom}
+use Rattle.lb_index_ranks.specs.Filed.{IsFiledAt}
 use Rattle.lb_suffix.specs.Over.{IsOver}
 use Rattle.lb_suffix.proofs.Labels.{empty_of, first_is}
 use Rattle.lb_suffix.proofs.Overs.{Looked, further, looked_all, looked_more}

@@ -2,7 +2,7 @@ use Rattle.std.proofs.Common.{◌≡◌, true, false, Contains, IfNone, List, Op
 use Rattle.std.specs.FinMap.Entries.{find}
 use Rattle.lb_wire.specs.declared.key.Key.{Key}
 use Rattle.lb_wire.specs.declared.transport.Kind.TheVariants.{Datagram}
-use Rattle.lb_ranks.specs.declared.filed.Filed.{Filed}
+use Rattle.lb_index_ranks.specs.declared.filed.Filed.{Filed}
 use Rattle.lb_cache.specs.Keys.{is_filed_within, is_within}
 use Rattle.lb_cache.specs.Reply.{cmp_key}
 use Rattle.lb_cache.proofs.KeySides.{no_key, none_of, within_key, within_some}

@@ -1,8 +1,8 @@
 use Rattle.std.proofs.Common.{◌≡◌, ◌∙◌, ◌++◌, List, ap, rules, subst, ℕ}
 use Rattle.std.specs.FinMap.Entries.{find}
 use Rattle.lb_wire.specs.declared.transport.Kind.TheVariants.{Datagram, Stream}
-use Rattle.lb_ranks.specs.Filed.{IsFiledAt}
-use Rattle.lb_ranks.specs.Least.{IsLeastFrom}
+use Rattle.lb_index_ranks.specs.Filed.{IsFiledAt}
+use Rattle.lb_index_ranks.specs.Least.{IsLeastFrom}
 use Rattle.lb_cache.specs.Keys.{filed_as, key_with}
 use Rattle.lb_cache.specs.Reply.{cmp_key}
 use Rattle.lb_cache.proofs.KeySides.{found_datagram, found_stream}

@@ -1,5 +1,5 @@
 use Rattle.std.proofs.Common.{◌∙◌, [], List, ap, subst, sym}
-use Rattle.lb_ranks.specs.declared.filed.Filed.{Filed}
+use Rattle.lb_index_ranks.specs.declared.filed.Filed.{Filed}
 use Rattle.lb_cache.specs.Keys.{entries_of, AreKeys}
 use Rattle.lb_cache.proofs.KeySides.{no_keys}
 use Rattle.lb_cache.proofs.keys.Keys.new.Goals as goal

@@ -2,8 +2,8 @@ use Rattle.std.proofs.Common.{◌≡◌, ◌∙◌, ◌++◌, List, ap, rules, s
 use Rattle.std.specs.FinMap.Entries.{find, put}
 use Rattle.std.proofs.lemmas.Result.{on_ok_weaker}
 use Rattle.lb_wire.specs.declared.transport.Kind.TheVariants.{Datagram, Stream}
-use Rattle.lb_ranks.specs.declared.filed.Filed.{Filed}
-use Rattle.lb_ranks.specs.Filed.{filed_at, HasBesides}
+use Rattle.lb_index_ranks.specs.declared.filed.Filed.{Filed}
+use Rattle.lb_index_ranks.specs.Filed.{filed_at, HasBesides}
 use Rattle.lb_cache.specs.Keys.{entries_of, filed_as, key_with, AreKeys}
 use Rattle.lb_cache.specs.Reply.{cmp_key}
 use Rattle.lb_cache.proofs.Entries.{either_way}

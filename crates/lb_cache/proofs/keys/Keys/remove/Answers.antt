@@ -1,7 +1,7 @@
 use Rattle.std.proofs.Common.{◌≡◌, ◌∙◌, ◌++◌, List, ap, rules, subst, ℕ, Some}
 use Rattle.std.specs.FinMap.Entries.{find}
 use Rattle.lb_wire.specs.declared.transport.Kind.TheVariants.{Datagram, Stream}
-use Rattle.lb_ranks.specs.Filed.{filed_at, HasBut}
+use Rattle.lb_index_ranks.specs.Filed.{filed_at, HasBut}
 use Rattle.lb_cache.specs.Keys.{entries_of, filed_as, key_with, without_key}
 use Rattle.lb_cache.specs.Reply.{cmp_key}
 use Rattle.lb_cache.proofs.KeySides.{but_datagram, but_stream}

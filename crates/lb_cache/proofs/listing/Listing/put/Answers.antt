@@ -2,7 +2,7 @@ use Rattle.std.proofs.lemmas.Result.{on_ok_weaker}
 use Rattle.std.proofs.Common.{◌≡◌, ◌∙◌, List, ap, rules, subst, sym, T, None}
 use Rattle.std.specs.FinMap.Entries.{find, is_sorted, put}
 use Rattle.lb_wire.specs.declared.transport.Kind.TheVariants.{Datagram, Stream}
-use Rattle.lb_ranks.specs.declared.filed.Filed.{Filed}
+use Rattle.lb_index_ranks.specs.declared.filed.Filed.{Filed}
 use Rattle.lb_cache.specs.Keys.{key_with}
 use Rattle.lb_cache.specs.Listing.{listed_in}
 use Rattle.lb_cache.specs.Reply.{cmp_key}

@@ -1,5 +1,5 @@
 use Rattle.std.proofs.Common.{◌≡◌, ◌∙◌, ◌++◌, List, ap, map, rules, ℕ}
-use Rattle.lb_ranks.specs.declared.filed.Filed.{Filed}
+use Rattle.lb_index_ranks.specs.declared.filed.Filed.{Filed}
 use Rattle.lb_cache.specs.Keys.{slots_of}
 use Rattle.lb_cache.proofs.Listings.{slots_are}
 use Rattle.lb_cache.proofs.listing.Listing.slot_list.Goals as goal

@@ -1,6 +1,6 @@
 use Rattle.std.proofs.Common.{◌≡◌, Some, slice_get, rules, subst, sym}
 use Rattle.lb_chain.specs.Ahead.{IsLeastBehind, IsOffered}
-use Rattle.lb_ranks.specs.Least.{lesser_of}
+use Rattle.lb_index_ranks.specs.Least.{lesser_of}
 use Rattle.lb_chain.proofs.Ahead.{both_least, here_least}
 use Rattle.lb_chain.proofs.offers.Offers.next_rank.Goals as goal
 

@@ -1,7 +1,7 @@
 use Rattle.std.proofs.Common.{◌≡◌, ◌∙◌, subst, List, ℕ, map, ◌↔◌, ◌⊎◌, Contains, sym}
 use Rattle.lb_masks.specs.Bits.{octets_of}
-use Rattle.lb_ranks.specs.declared.filed.Filed.{Filed}
-use Rattle.lb_ranks.specs.Filed.{HasBesides, filed_at}
+use Rattle.lb_index_ranks.specs.declared.filed.Filed.{Filed}
+use Rattle.lb_index_ranks.specs.Filed.{HasBesides, filed_at}
 use Rattle.lb_masks.specs.Index.{Pair, IsFiledWith, pair_of, shown}
 use Rattle.lb_masks.specs.Key.{key_of, kind_at}
 use Rattle.lb_masks.specs.Kinds.{mark_of, numbers, AreInUse, AreMarked, HasKind, IsNoted, KeepsMarks}

@@ -1,5 +1,5 @@
 use Rattle.std.proofs.Common.{[], List, subst, sym}
-use Rattle.lb_ranks.specs.declared.filed.Filed.{Filed}
+use Rattle.lb_index_ranks.specs.declared.filed.Filed.{Filed}
 use Rattle.lb_masks.specs.Kinds.{numbers, AreInUse, AreMarked}
 use Rattle.lb_masks.specs.declared.kinds.MaskKind.{MaskKind}
 use Rattle.lb_masks.proofs.InUse.{used_none}

@@ -1,5 +1,5 @@
 use Rattle.std.proofs.Common.{List, map, subst}
-use Rattle.lb_ranks.specs.Least.{IsLeastFrom}
+use Rattle.lb_index_ranks.specs.Least.{IsLeastFrom}
 use Rattle.lb_masks.specs.Index.{Pair, IsFiledCovering, shown}
 use Rattle.lb_masks.specs.Kinds.{IsOfKinds}
 use Rattle.lb_masks.specs.declared.kinds.MaskKind.{MaskKind}

@@ -1,6 +1,6 @@
 use Rattle.std.proofs.Common.{◌≡◌, ◌∙◌, subst, List, ℕ, map, ◌↔◌, ◌⊎◌, Contains}
 use Rattle.lb_masks.specs.Bits.{octets_of}
-use Rattle.lb_ranks.specs.Filed.{HasBut, filed_at}
+use Rattle.lb_index_ranks.specs.Filed.{HasBut, filed_at}
 use Rattle.lb_masks.specs.Index.{Pair, IsFiledWithout, pair_of, shown}
 use Rattle.lb_masks.specs.Key.{key_of, kind_at}
 use Rattle.lb_masks.specs.Kinds.{numbers, AreMarked, HasKind}

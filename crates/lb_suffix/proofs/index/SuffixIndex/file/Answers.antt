@@ -1,6 +1,6 @@
 use Rattle.std.proofs.Common.{◌≡◌, List, ℕ, OnOk, map, ◌∙◌, subst}
 use Rattle.std.proofs.lemmas.Result.{on_ok_weaker}
-use Rattle.lb_ranks.specs.Filed.{HasBesides, filed_at}
+use Rattle.lb_index_ranks.specs.Filed.{HasBesides, filed_at}
 use Rattle.lb_suffix.specs.Index.{Pair, IsFiledWith, pair_of, shown}
 use Rattle.lb_suffix.specs.Key.{key_of}
 use Rattle.lb_suffix.proofs.Pairs.{filed_pairs, keyed_put}

@@ -1,6 +1,6 @@
 use Rattle.std.proofs.Common.{List, [], reverse, map, ◌∙◌, subst}
 use Rattle.lb_name.specs.Name.{lower_name}
-use Rattle.lb_ranks.specs.Least.{IsLeastFrom}
+use Rattle.lb_index_ranks.specs.Least.{IsLeastFrom}
 use Rattle.lb_suffix.specs.Index.{Pair, IsFiledOver, shown}
 use Rattle.lb_suffix.specs.Over.{IsOver}
 use Rattle.lb_suffix.proofs.Overs.{least_same}

@@ -1,6 +1,6 @@
 use Rattle.std.proofs.Common.{List, ℕ, ◌≡◌, map, ◌∙◌, subst}
-use Rattle.lb_ranks.specs.Filed.{IsFiledAt}
-use Rattle.lb_ranks.specs.Least.{IsLeastFrom}
+use Rattle.lb_index_ranks.specs.Filed.{IsFiledAt}
+use Rattle.lb_index_ranks.specs.Least.{IsLeastFrom}
 use Rattle.lb_suffix.specs.Index.{Pair, IsFiledAtName, shown}
 use Rattle.lb_suffix.specs.Key.{key_of}
 use Rattle.lb_suffix.proofs.Overs.{least_same}

@@ -1,5 +1,5 @@
 use Rattle.std.proofs.Common.{List, ℕ, ◌≡◌, map, ◌∙◌, ap, subst}
-use Rattle.lb_ranks.specs.Filed.{TakesFirst}
+use Rattle.lb_index_ranks.specs.Filed.{TakesFirst}
 use Rattle.lb_suffix.specs.Index.{Pair, shown, TakesUnder}
 use Rattle.lb_suffix.specs.Key.{end_of, key_of}
 use Rattle.lb_suffix.proofs.Pairs.{keyed_but}

@@ -1,6 +1,6 @@
 use Rattle.std.proofs.Common.{List, ℕ, ◌≡◌, ◌↔◌, Contains, map, ◌∙◌, ap, subst, sym}
-use Rattle.lb_ranks.specs.declared.filed.Filed.{Filed}
-use Rattle.lb_ranks.specs.Filed.{filed_at, IsFrom}
+use Rattle.lb_index_ranks.specs.declared.filed.Filed.{Filed}
+use Rattle.lb_index_ranks.specs.Filed.{filed_at, IsFrom}
 use Rattle.lb_suffix.specs.Index.{Pair, shown, ArePairsInOrder, IsFiledUnder}
 use Rattle.lb_suffix.specs.Key.{end_of, key_of}
 use Rattle.lb_suffix.specs.Under.{pairs_before}

@@ -1,5 +1,5 @@
 use Rattle.std.proofs.Common.{◌≡◌, List, ℕ, map, ◌∙◌, subst}
-use Rattle.lb_ranks.specs.Filed.{HasBut, filed_at}
+use Rattle.lb_index_ranks.specs.Filed.{HasBut, filed_at}
 use Rattle.lb_suffix.specs.Index.{Pair, IsFiledWithout, pair_of, shown}
 use Rattle.lb_suffix.specs.Key.{key_of}
 use Rattle.lb_suffix.proofs.Pairs.{keyed_but, unfiled_pairs}

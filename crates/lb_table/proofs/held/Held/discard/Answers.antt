@@ -1,7 +1,7 @@
 use Rattle.std.proofs.Common.{◌≡◌, ◌<◌, ◌+◌, ◌-◌, ℕ, Some, List, true, sym, ap, subst, ◌∙◌, arith}
 use Rattle.std.specs.Option.{IsSome}
-use Rattle.lb_slots.specs.Slots.{get}
-use Rattle.lb_ring.specs.Ring.{has}
+use Rattle.lb_index_slots.specs.Slots.{get}
+use Rattle.lb_index_ring.specs.Ring.{has}
 use Rattle.lb_table.specs.declared.entry.Waiting.{Waiting}
 use Rattle.lb_table.specs.Held.{IsHeld, in_slot, line_of, query_of, without_first}
 use Rattle.std.specs.List.{find}

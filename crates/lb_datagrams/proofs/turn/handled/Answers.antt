@@ -1,4 +1,0 @@
-use Rattle.lb_datagrams.proofs.turn.handled.Goals as goal
-
-pub returns-clause-led : goal.returns-clause-led
-returns-clause-led g c = rw c.no_event.ensures c.answered.ensures.asked

@@ -1,8 +1,0 @@
-//! What holds of requests.
-
-ghost use Rattle.lb_http.specs.Laws.{OneOutcome};
-
-/// A request has one outcome, but for lack of memory.
-pub fn one_outcome()
-    ensures { OneOutcome }
-{}

@@ -1,0 +1,12 @@
+use Rattle.std.proofs.Common.{◌∙◌, ◌≡◌, ◌+◌, [], ap, arith, insert, set, rules, sym}
+use Rattle.lb_index_ranks.specs.Chunk.{all_of, chunk_at}
+use Rattle.lb_index_ranks.proofs.Chunks.{divided}
+use Rattle.lb_index_ranks.proofs.Spots.{same_at}
+use Rattle.lb_index_ranks.proofs.edits.divide.Goals as goal
+
+pub returns-clause-pairs : goal.returns-clause-pairs
+returns-clause-pairs c =
+    let cs = c.args.chunks.now.items in
+    let is : c.insert.new.self.items ≡ insert (set cs c.args.at c.divide.new.self) (c.args.at + 1) c.in_ok-upper.upper = search rules in
+    let here : c.index_mut.result.now ≡ chunk_at cs c.args.at = search (rules, same_at cs c.args.at c.index_mut.result.now [] c.requires.within) in
+    ap all_of is ∙ divided cs c.args.at (c.args.at + 1) c.divide.new.self c.in_ok-upper.upper (omega arith) c.requires.within (sym here ∙ c.in_ok-upper.ensures.upper.1)

@@ -1,0 +1,9 @@
+use Rattle.std.proofs.Common.{◌≡◌, true, ap, ◌∙◌}
+use Rattle.lb_index_ring.specs.Ring.{before, has, slots_of}
+use Rattle.lb_index_ring.proofs.Rings.{prev_is}
+use Rattle.lb_index_ring.proofs.ring.Ring.prev.Goals as goal
+
+pub returns : goal.returns
+returns c =
+    let is : has c.args.slot (slots_of c.self.inside.links.items c.self.inside.len) ≡ true = ap (has c.args.slot) c.self.view_is ∙ c.requires in
+    c.prev_in.ensures ∙ prev_is c.self.inside.links.items c.self.inside.len c.args.slot c.self.invariant is ∙ ap (before 0 c.args.slot) c.self.view_is

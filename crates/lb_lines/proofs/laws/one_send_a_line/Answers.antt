@@ -1,8 +1,0 @@
-use Rattle.lb_lines.proofs.Sends.{one_connection, one_message}
-use Rattle.lb_lines.proofs.laws.one_send_a_line.Goals as goal
-
-pub returns-clause-message : goal.returns-clause-message
-returns-clause-message c = one_message
-
-pub returns-clause-connection : goal.returns-clause-connection
-returns-clause-connection c = one_connection

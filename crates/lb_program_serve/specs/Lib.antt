@@ -1,0 +1,17 @@
+pub use Rattle.lb_command.specs.Commands
+pub use Rattle.lb_step.specs.Plain
+pub use Rattle.lb_step.specs.Snapshot
+pub use Rattle.lb_desk.specs.Book
+pub use Rattle.lb_loops_io.specs.Counts
+pub use Rattle.lb_loops_io.specs.Roster
+pub use Rattle.lb_program.specs.Faults
+pub use Rattle.lb_program.specs.Output
+pub use Rattle.lb_program.specs.Servers
+pub use Rattle.lb_program.specs.Setup
+pub mod Fault
+pub mod Listening
+pub mod News
+pub mod Operator
+pub mod Sentences
+pub mod Serving
+pub mod Typed

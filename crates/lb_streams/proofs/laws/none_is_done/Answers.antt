@@ -1,5 +1,0 @@
-use Rattle.lb_streams.proofs.Settling.{undone_new_table}
-use Rattle.lb_streams.proofs.laws.none_is_done.Goals as goal
-
-pub returns : goal.returns
-returns c = undone_new_table
