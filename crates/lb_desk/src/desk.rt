@@ -3,7 +3,7 @@
 ghost use Rattle.std.specs.Prelude.{All, IfErr, IfOk, IfSome, IsErrAnd, IsSome, IsTrue, OnErr, OnOk, length, map, min, sum_by, vec_len, ◌+◌, ◌-◌, ◌<◌, ◌==◌, ◌^◌, ◌≡◌, ◌↔◌, ◌≤◌, []};
 ghost use Rattle.std.specs.List.{list_any, range_with_len};
 ghost use Rattle.lb_step.specs.Plain.{Plain as State};
-ghost use Rattle.lb_step.specs.Snapshot.{snapshot_of};
+ghost use Rattle.lb_step.specs.Snapshot.{IsShown, snapshot_of};
 ghost use Rattle.lb_step.specs.Step.{Answers};
 ghost use Rattle.lb_desk.specs.Book.{Booked, Counted, Keeps};
 ghost use Rattle.lb_desk.specs.Entry.{TellsCaches, TellsHits, receipts_of};
@@ -64,6 +64,41 @@ pub struct Desk<J: Naming> {
     ghost opened: { opening ≡ J.opening },
 }
 
+/// What a desk has besides its book: a snapshot of its balancer, and its seats.
+fn beside<J: Naming>(
+    alloc: Global,
+    balancer: &Balancer,
+    rest: Share<J>,
+    seats: u8,
+) -> Result<(Plain, Vec<Seat<J>>), AllocError>
+    requires parts { (rest.parts ≡ seats) × (rest.amount ≡ 0) }
+    requires seats { J.seats ≡ seats }
+    ensures opening { IfOk result (λ r. (r.0 ≡ snapshot_of balancer.now) × IsShown balancer.now) }
+    ensures numbers { IfOk result (λ r. map (λ s. s.number.0) r.1.items ≡ range_with_len 0 seats) }
+    ensures idle { IfOk result (λ r. All (λ s. (s.calls ≡ 0) × (s.receipts ≡ [])) r.1.items) }
+{
+    Ok((balancer.snapshot(alloc)?, seats_by(alloc, rest, seats)?))
+}
+
+/// So many seats without calls, each with its part of this share.
+fn seats_by<J: Naming>(
+    alloc: Global,
+    mut rest: Share<J>,
+    seats: u8,
+) -> Result<Vec<Seat<J>>, AllocError>
+    requires parts { (rest.parts ≡ seats) × (rest.amount ≡ 0) }
+    requires seats { J.seats ≡ seats }
+    ensures numbers { IfOk result (λ all. map (λ s. s.number.0) all.items ≡ range_with_len 0 seats) }
+    ensures idle { IfOk result (λ all. All (λ s. (s.calls ≡ 0) × (s.receipts ≡ [])) all.items) }
+{
+    let mut all = Vec::with_capacity(alloc, usize::from(seats))?;
+    for number in 0..seats {
+        let share = rest.split_off(1, 0);
+        all.push(Seat::new(alloc, SeatId(number), share))?;
+    }
+    Ok(all)
+}
+
 impl<J: Naming> Desk<J> {
     /// A desk with its seats, whose log has at most so many calls. The one error is lack of memory.
     pub fn made(
@@ -82,22 +117,30 @@ impl<J: Naming> Desk<J> {
         ensures numbers { IfOk result (λ r. map (λ s. s.number.0) r.1.items ≡ range_with_len 0 seats) }
         ensures idle { IfOk result (λ r. All (λ s. (s.calls ≡ 0) × (s.receipts ≡ [])) r.1.items) }
     {
-        let opening = balancer.snapshot(alloc)?;
-        let (calls, mut rest) = blank.open::<J>();
-        let mut all = Vec::with_capacity(alloc, usize::from(seats))?;
-        for number in 0..seats {
-            let share = rest.split_off(1, 0);
-            all.push(Seat::new(alloc, SeatId(number), share))?;
+        let (calls, rest) = blank.open::<J>();
+        match beside(alloc, &balancer, rest, seats) {
+            Ok((opening, all)) => {
+                let book = Book::new(alloc, balancer, limit, calls);
+                Ok((Desk::of(alloc, book, opening, seats, limit), all))
+            }
+            Err(refused) => Err(refused),
         }
-        let desk = Desk {
+    }
+
+    /// A desk over this book, whose log has at most so many calls.
+    fn of(alloc: Global, book: Book<J>, opening: Plain, seats: u8, limit: u64) -> Desk<J>
+        requires seats { J.seats ≡ seats }
+        requires parts { (J.parts ≡ J.seats) × (0 < J.seats) }
+        requires opening { J.opening ≡ opening }
+    {
+        Desk {
             alloc,
-            book: Mutex::new(Book::new(alloc, balancer, limit, calls)),
+            book: Mutex::new(book),
             opening,
             seats: usize::from(seats),
             is_full: AtomicBool::new(limit == 0),
             parted: Parted::new(),
-        };
-        Ok((desk, all))
+        }
     }
 
     /// The snapshot of the balancer when the desk was made.

@@ -39,8 +39,8 @@ use tokio::time::Sleep;
 /// How many seconds a body may take to come.
 const BODY_SECONDS: u64 = 10;
 
-/// How much room a message has at least, in octets, for an answer that the cache gives is written in
-/// its query's room. It is as much as a message over UDP may have (RFC 1035 section 4.2.1).
+/// The least room of a message, in octets: an answer from the cache is written in its query's room.
+/// A message over UDP may be as long (RFC 1035 section 4.2.1).
 const MESSAGE_ROOM: usize = 512;
 
 /// The service of one connection.

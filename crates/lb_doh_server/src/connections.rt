@@ -68,7 +68,8 @@ impl<F: Future> Served<F> {
         sends: Option<Arc<Sends>>,
     ) -> Result<Served<F>, AllocError>
         requires { F.can_poll connection }
-        ensures { IfOk result (λ served. F.can_poll served.connection.value) }
+        ensures polls { IfOk result (λ served. F.can_poll served.connection.value) }
+        ensures has { IfOk result (λ served. (served.place ≡ place) × (served.sends ≡ sends)) }
     {
         Ok(Served {
             connection: Box::new(alloc, connection)?,

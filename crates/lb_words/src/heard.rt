@@ -8,7 +8,7 @@ use crate::metrics::metrics;
 use crate::recent::{Wanted, Wording, fault, recent};
 use crate::seen::Beside;
 use crate::setup::setup;
-use crate::told::{Told, ended, look};
+use crate::told::{AtDesk, Shown, Told};
 use crate::top::{By, top};
 use crate::typed::{next_word, number_of};
 use crate::watch::Watch;
@@ -121,7 +121,7 @@ impl Words {
         rt: &R,
         desk: &Desk<J>,
     ) -> Result<Vec<String>, AllocError> {
-        let told = look(rt, self.alloc, desk)?;
+        let told = AtDesk { rt, desk }.told(self.alloc)?;
         let now = self.ran(rt);
         self.watch.changes(&told, &self.sends, now)
     }
@@ -135,6 +135,18 @@ impl Words {
     ) -> Result<Heard, AllocError>
         ensures { IfOk result (λ heard. IsHeard line.now heard) }
     {
+        self.heard(rt, &AtDesk { rt, desk }, line)
+    }
+
+    /// The same, of what is shown.
+    fn heard<R: Wait + Clock, S: Shown>(
+        &self,
+        rt: &R,
+        shown: &S,
+        line: &str,
+    ) -> Result<Heard, AllocError>
+        ensures { IfOk result (λ heard. IsHeard line.now heard) }
+    {
         let bytes = line.as_bytes();
         let Some(word) = word_of(bytes) else {
             return Ok(Heard::Nothing);
@@ -142,24 +154,18 @@ impl Words {
         let (_, first_end) = next_word(bytes, 0);
         let (second, end) = next_word(bytes, first_end);
         if second == end {
-            return self.say(rt, desk, word, end);
+            return self.say(rt, shown, word, end);
         }
         match word {
-            Word::Rules => self.one_rule(rt, desk, line, second),
-            Word::Recent => self.recent(rt, desk, line, second),
-            Word::Top => self.top(rt, desk, line, second),
+            Word::Rules => self.one_rule(shown, line, second),
+            Word::Recent => self.recent(rt, shown, line, second),
+            Word::Top => self.top(rt, shown, line, second),
             _ => Ok(Heard::Fault(fault(second, FaultKind::Extra))),
         }
     }
 
     /// What `rules` says of the rule with the number that stands at a place.
-    fn one_rule<R: Wait, J: Naming>(
-        &self,
-        rt: &R,
-        desk: &Desk<J>,
-        line: &str,
-        from: usize,
-    ) -> Result<Heard, AllocError>
+    fn one_rule<S: Shown>(&self, shown: &S, line: &str, from: usize) -> Result<Heard, AllocError>
         ensures { IfOk result (λ heard. IsListed heard) }
     {
         let bytes = line.as_bytes();
@@ -171,26 +177,24 @@ impl Words {
         if next != last {
             return Ok(Heard::Fault(fault(next, FaultKind::Extra)));
         }
-        Ok(Heard::Lines(lists::rule(rt, self.alloc, desk, RuleId(id))?))
+        Ok(Heard::Lines(lists::rule(self.alloc, shown, RuleId(id))?))
     }
 
     /// What `recent` says by what stands from a place on.
-    fn recent<R: Wait + Clock, J: Naming>(
+    fn recent<R: Wait + Clock, S: Shown>(
         &self,
         rt: &R,
-        desk: &Desk<J>,
+        shown: &S,
         line: &str,
         from: usize,
     ) -> Result<Heard, AllocError>
         ensures { IfOk result (λ heard. IsListed heard) }
     {
-        let alloc = self.alloc;
-        let told = look(rt, alloc, desk)?;
-        let wanted = match Wanted::read(line, from, &told) {
-            Ok(wanted) => wanted,
-            Err(fault) => return Ok(Heard::Fault(fault)),
-        };
-        Ok(Heard::Lines(self.listed(rt, &wanted, &told)?))
+        let told = shown.told(self.alloc)?;
+        match Wanted::read(line, from, &told) {
+            Ok(wanted) => Ok(Heard::Lines(self.listed(rt, &wanted, &told)?)),
+            Err(fault) => Ok(Heard::Fault(fault)),
+        }
     }
 
     /// The last queries that are asked for.
@@ -209,69 +213,81 @@ impl Words {
     }
 
     /// What `top` says by what stands from a place on.
-    fn top<R: Wait, J: Naming>(
+    fn top<R: Wait, S: Shown>(
         &self,
         rt: &R,
-        desk: &Desk<J>,
+        shown: &S,
         line: &str,
         from: usize,
     ) -> Result<Heard, AllocError>
         ensures { IfOk result (λ heard. IsListed heard) }
     {
-        let alloc = self.alloc;
         let (begin, end) = next_word(line.as_bytes(), from);
         let Some(by) = By::named(line.get(begin..end).unwrap_or_default()) else {
             return Ok(Heard::Fault(fault(begin, FaultKind::UnknownWord)));
         };
-        let told = look(rt, alloc, desk)?;
-        let wanted = match Wanted::read(line, end, &told) {
-            Ok(wanted) => wanted,
-            Err(fault) => return Ok(Heard::Fault(fault)),
-        };
-        Ok(Heard::Lines(top(rt, alloc, &self.rings, by, wanted.most, &wanted.filter)?))
+        let told = shown.told(self.alloc)?;
+        match Wanted::read(line, end, &told) {
+            Ok(wanted) => Ok(Heard::Lines(top(rt, self.alloc, &self.rings, by, &wanted)?)),
+            Err(fault) => Ok(Heard::Fault(fault)),
+        }
     }
 
     /// What a word alone says, with which the line ends at a place.
-    fn say<R: Wait + Clock, J: Naming>(
+    fn say<R: Wait + Clock, S: Shown>(
         &self,
         rt: &R,
-        desk: &Desk<J>,
+        shown: &S,
         word: Word,
         end: usize,
     ) -> Result<Heard, AllocError>
         ensures { IfOk result (λ heard. IsSaid word heard) }
     {
-        let alloc = self.alloc;
-        let listeners = self.listeners.as_slice();
         Ok(Heard::Lines(match word {
             Word::Quit => return Ok(Heard::Quit),
-            Word::Help => help(alloc)?,
+            Word::Help => help(self.alloc)?,
             Word::Version => self.version(rt)?,
-            Word::Rules => lists::rules(rt, alloc, desk)?,
-            Word::Servers => self.servers(rt, &look(rt, alloc, desk)?)?,
-            Word::Pools => lists::pools(alloc, &look(rt, alloc, desk)?)?,
-            Word::Caches => lists::caches(alloc, &look(rt, alloc, desk)?)?,
-            Word::Counters => lists::counters(
-                alloc,
-                &look(rt, alloc, desk)?,
-                listeners,
-                &self.sends,
-            )?,
-            Word::Metrics => self.counts(rt, desk)?.ended()?,
-            Word::Setup => setup(rt, alloc, desk, listeners, self.log)?,
-            Word::Recent => self.listed(rt, &Wanted::usual(), &look(rt, alloc, desk)?)?,
+            Word::Rules => lists::rules(self.alloc, shown)?,
+            Word::Servers => self.servers(rt, shown)?,
+            Word::Pools => self.pools(shown)?,
+            Word::Caches => self.caches(shown)?,
+            Word::Counters => self.counters(shown)?,
+            Word::Metrics => self.counts(rt, shown)?.ended()?,
+            Word::Setup => setup(self.alloc, shown, self.listeners.as_slice(), self.log)?,
+            Word::Recent => self.last(rt, shown)?,
             Word::Top => return Ok(Heard::Fault(fault(end, FaultKind::Missing))),
         }))
     }
 
     /// What `servers` says.
-    fn servers<R: Clock>(&self, rt: &R, told: &Told) -> Result<String, AllocError> {
+    fn servers<R: Clock, S: Shown>(&self, rt: &R, shown: &S) -> Result<String, AllocError> {
         let beside = Beside {
             watch: &self.watch,
             sends: &self.sends,
             now: self.ran(rt),
         };
-        lists::servers(self.alloc, told, beside)
+        lists::servers(self.alloc, &shown.told(self.alloc)?, beside)
+    }
+
+    /// What `pools` says.
+    fn pools<S: Shown>(&self, shown: &S) -> Result<String, AllocError> {
+        lists::pools(self.alloc, &shown.told(self.alloc)?)
+    }
+
+    /// What `caches` says.
+    fn caches<S: Shown>(&self, shown: &S) -> Result<String, AllocError> {
+        lists::caches(self.alloc, &shown.told(self.alloc)?)
+    }
+
+    /// What `counters` says.
+    fn counters<S: Shown>(&self, shown: &S) -> Result<String, AllocError> {
+        let told = shown.told(self.alloc)?;
+        lists::counters(self.alloc, &told, self.listeners.as_slice(), &self.sends)
+    }
+
+    /// What `recent` alone says.
+    fn last<R: Wait + Clock, S: Shown>(&self, rt: &R, shown: &S) -> Result<String, AllocError> {
+        self.listed(rt, &Wanted::usual(), &shown.told(self.alloc)?)
     }
 
     /// All counts, as a page for Prometheus: what the word `metrics` says without its last line,
@@ -281,17 +297,13 @@ impl Words {
         rt: &R,
         desk: &Desk<J>,
     ) -> Result<String, AllocError> {
-        Ok(self.counts(rt, desk)?.whole())
+        Ok(self.counts(rt, &AtDesk { rt, desk })?.whole())
     }
 
     /// All counts.
-    fn counts<R: Wait + Clock, J: Naming>(
-        &self,
-        rt: &R,
-        desk: &Desk<J>,
-    ) -> Result<Lines, AllocError> {
-        let told = look(rt, self.alloc, desk)?;
-        let ended = ended(rt, self.alloc, desk, told.totals.rules)?;
+    fn counts<R: Clock, S: Shown>(&self, rt: &R, shown: &S) -> Result<Lines, AllocError> {
+        let told = shown.told(self.alloc)?;
+        let ended = shown.ended(self.alloc, told.totals.rules)?;
         metrics(
             self.alloc,
             &told,

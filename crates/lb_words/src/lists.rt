@@ -4,28 +4,22 @@ use crate::lines::Lines;
 use crate::rules::{Extent, rule_text};
 use crate::seen::Beside;
 use crate::texts::pool_named;
-use crate::told::{Backend, Counted, Store, Told, look, place_of, rule_at};
+use crate::told::{Backend, Counted, Shown, Store, Told};
 use lb_command::{Listener, Protocol};
 use lb_core::{CacheCounts, Count, Counts, ServerCounts};
-use lb_desk::{Desk, Naming};
 use lb_sends::{Clients, Closing, Refusal, Sends};
 use lb_servers::{Mode, Pool, PoolName};
 use lb_typed::{addr_word, codes_word, mode_word, policy_word, pool_word};
 use lb_wire::{Addr, RuleId};
 use std::alloc::{AllocError, Global};
 use std::num::NonZeroU16;
-use std::sync::Wait;
 
 /// Rules, one for each time that the lock is held.
-pub(crate) fn rules<R: Wait, J: Naming>(
-    rt: &R,
-    alloc: Global,
-    desk: &Desk<J>,
-) -> Result<String, AllocError> {
-    let told = look(rt, alloc, desk)?;
+pub(crate) fn rules<S: Shown>(alloc: Global, shown: &S) -> Result<String, AllocError> {
+    let told = shown.told(alloc)?;
     let mut lines = Lines::new(alloc);
     for place in 0..told.totals.rules {
-        if let Some(counted) = rule_at(rt, alloc, desk, place)? {
+        if let Some(counted) = shown.rule_at(alloc, place)? {
             let line = rule_line(alloc, place, &counted, told.pools.as_slice(), Extent::Short)?;
             lines.add(line.as_str())?;
         }
@@ -34,16 +28,11 @@ pub(crate) fn rules<R: Wait, J: Naming>(
 }
 
 /// One rule, by its number and whole.
-pub(crate) fn rule<R: Wait, J: Naming>(
-    rt: &R,
-    alloc: Global,
-    desk: &Desk<J>,
-    id: RuleId,
-) -> Result<String, AllocError> {
-    let told = look(rt, alloc, desk)?;
+pub(crate) fn rule<S: Shown>(alloc: Global, shown: &S, id: RuleId) -> Result<String, AllocError> {
+    let told = shown.told(alloc)?;
     let mut lines = Lines::new(alloc);
-    if let Some(place) = place_of(rt, desk, id)
-        && let Some(counted) = rule_at(rt, alloc, desk, place)?
+    if let Some(place) = shown.place_of(id)
+        && let Some(counted) = shown.rule_at(alloc, place)?
     {
         let line = rule_line(alloc, place, &counted, told.pools.as_slice(), Extent::Whole)?;
         lines.add(line.as_str())?;

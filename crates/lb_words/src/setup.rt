@@ -4,53 +4,66 @@ use crate::lines::Lines;
 use crate::lists::{listener_text, name_with};
 use crate::rules::stated;
 use crate::texts::pool_of;
-use crate::told::{Backend, Store, Told, look, rule_at};
+use crate::told::{Backend, Shown, Store, Told};
 use lb_chain::Rule;
 use lb_command::Listener;
 use lb_core::{CheckSpec, Command, FIRST_TIMEOUT, StatedRule, Timeout};
-use lb_desk::{Desk, Naming};
 use lb_servers::{Mode, Policy, Pool, PoolName, PoolNames, ServerSpec};
 use lb_typed::command_line;
 use std::alloc::{AllocError, Global};
-use std::sync::Wait;
 
 /// The commands that give from an empty balancer what stands now, but for numbers, after the lines
 /// of the setup file that listen and state the log's limit. What a command would say anyway is left
 /// out.
-pub(crate) fn setup<R: Wait, J: Naming>(
-    rt: &R,
+pub(crate) fn setup<S: Shown>(
     alloc: Global,
-    desk: &Desk<J>,
+    shown: &S,
     listeners: &[Listener],
     log: u32,
 ) -> Result<String, AllocError> {
-    let told = look(rt, alloc, desk)?;
+    let told = shown.told(alloc)?;
     let mut lines = Lines::new(alloc);
+    beside(alloc, &mut lines, listeners, log)?;
+    parts(alloc, &mut lines, &told)?;
+    for place in 0..told.totals.rules {
+        if let Some((_, rule, _)) = shown.rule_at(alloc, place)? {
+            rule_line(alloc, &mut lines, rule, told.pools.as_slice())?;
+        }
+    }
+    lines.ended()
+}
+
+/// The lines of a setup file that are no commands.
+fn beside(
+    alloc: Global,
+    lines: &mut Lines,
+    listeners: &[Listener],
+    log: u32,
+) -> Result<(), AllocError> {
     for listener in listeners {
         let at = listener_text(alloc, listener)?;
         let line = format!(in alloc; "listen {at}")?;
         lines.add(line.as_str())?;
     }
     let line = format!(in alloc; "log {log}")?;
-    lines.add(line.as_str())?;
+    lines.add(line.as_str())
+}
+
+/// The commands that give all but the rules.
+fn parts(alloc: Global, lines: &mut Lines, told: &Told) -> Result<(), AllocError> {
     if told.timeout != FIRST_TIMEOUT
         && let Some(timeout) = Timeout::from_millis(told.timeout)
     {
-        add(alloc, &mut lines, Command::SetTimeout(timeout))?;
+        add(alloc, lines, Command::SetTimeout(timeout))?;
     }
-    pools(alloc, &mut lines, told.pools.as_slice())?;
+    pools(alloc, lines, told.pools.as_slice())?;
     for backend in &told.servers {
-        server(alloc, &mut lines, backend, told.pools.as_slice())?;
+        server(alloc, lines, backend, told.pools.as_slice())?;
     }
     for store in &told.caches {
-        cache(alloc, &mut lines, &told, store)?;
+        cache(alloc, lines, told, store)?;
     }
-    for place in 0..told.totals.rules {
-        if let Some((_, rule, _)) = rule_at(rt, alloc, desk, place)? {
-            rule_line(alloc, &mut lines, rule, told.pools.as_slice())?;
-        }
-    }
-    lines.ended()
+    Ok(())
 }
 
 /// Adds a command as a line.

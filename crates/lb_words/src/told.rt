@@ -48,20 +48,62 @@ pub(crate) type Counted = (RuleId, Rule, u64);
 /// The number of a rule, and how many walks it ended.
 pub(crate) type Ended = (RuleId, u64);
 
-/// What stands now. Room for it is taken before the lock. The one error is lack of memory.
-pub(crate) fn look<R: Wait, J: Naming>(
-    rt: &R,
-    alloc: Global,
-    desk: &Desk<J>,
-) -> Result<Told, AllocError> {
-    let servers = Vec::with_capacity(alloc, MAX_SERVERS)?;
-    let pools = Vec::with_capacity(alloc, MAX_POOLS)?;
-    // a pool has one cache at most
-    let caches = Vec::with_capacity(alloc, MAX_POOLS)?;
-    desk.read(
-        rt,
-        |balancer, tally| copied(balancer, tally, servers, pools, caches),
-    )
+/// What is shown of a desk. Each call looks at it once, under its lock.
+pub(crate) trait Shown {
+    /// What stands now. The one error is lack of memory.
+    fn told(&self, alloc: Global) -> Result<Told, AllocError>;
+
+    /// How many walks each of the first rules ended, at most so many. The one error is lack of
+    /// memory.
+    fn ended(&self, alloc: Global, most: usize) -> Result<Vec<Ended>, AllocError>;
+
+    /// A copy of the rule at a place, if there is one. The one error is lack of memory.
+    fn rule_at(&self, alloc: Global, place: usize) -> Result<Option<Counted>, AllocError>;
+
+    /// The place of the rule with a number, if it is there.
+    fn place_of(&self, id: RuleId) -> Option<usize>;
+}
+
+/// A desk, and the runtime by which its lock is waited for.
+#[derive(Drop)]
+pub(crate) struct AtDesk<'a, R, J: Naming> {
+    pub(crate) rt: &'a R,
+    pub(crate) desk: &'a Desk<J>,
+}
+
+impl<R: Wait, J: Naming> Shown for AtDesk<'_, R, J> {
+    fn told(&self, alloc: Global) -> Result<Told, AllocError> {
+        // Room is taken before the lock.
+        let servers = Vec::with_capacity(alloc, MAX_SERVERS)?;
+        let pools = Vec::with_capacity(alloc, MAX_POOLS)?;
+        // a pool has one cache at most
+        let caches = Vec::with_capacity(alloc, MAX_POOLS)?;
+        self.desk.read(
+            self.rt,
+            |balancer, tally| copied(balancer, tally, servers, pools, caches),
+        )
+    }
+
+    fn ended(&self, alloc: Global, most: usize) -> Result<Vec<Ended>, AllocError> {
+        // Room is taken before the lock.
+        let rules = Vec::with_capacity(alloc, most)?;
+        self.desk.read(
+            self.rt,
+            |balancer, tally| counted(balancer, tally, rules, most),
+        )
+    }
+
+    fn rule_at(&self, alloc: Global, place: usize) -> Result<Option<Counted>, AllocError> {
+        self.desk.read(
+            self.rt,
+            |balancer, tally| copied_rule(alloc, balancer, tally, place),
+        )
+    }
+
+    fn place_of(&self, id: RuleId) -> Option<usize> {
+        self.desk
+            .read(self.rt, |balancer, _tally| found(balancer, id))
+    }
 }
 
 /// Copies, in room that was taken before.
@@ -111,18 +153,6 @@ fn store_of(shelf: &Shelf, tally: &Tally) -> Store {
     }
 }
 
-/// How many walks each of the first rules ended, at most so many. Room for them is taken before the
-/// lock. The one error is lack of memory.
-pub(crate) fn ended<R: Wait, J: Naming>(
-    rt: &R,
-    alloc: Global,
-    desk: &Desk<J>,
-    most: usize,
-) -> Result<Vec<Ended>, AllocError> {
-    let rules = Vec::with_capacity(alloc, most)?;
-    desk.read(rt, |balancer, tally| counted(balancer, tally, rules, most))
-}
-
 /// Copies, in room that was taken before.
 fn counted(
     balancer: &Balancer,
@@ -136,19 +166,6 @@ fn counted(
     Ok(rules)
 }
 
-/// A copy of the rule at a place, if there is one. The one error is lack of memory.
-pub(crate) fn rule_at<R: Wait, J: Naming>(
-    rt: &R,
-    alloc: Global,
-    desk: &Desk<J>,
-    place: usize,
-) -> Result<Option<Counted>, AllocError> {
-    desk.read(
-        rt,
-        |balancer, tally| copied_rule(alloc, balancer, tally, place),
-    )
-}
-
 fn copied_rule(
     alloc: Global,
     balancer: &Balancer,
@@ -160,11 +177,6 @@ fn copied_rule(
     };
     let rule = numbered.rule.copy(alloc)?;
     Ok(Some((numbered.id, rule, tally.by_number.of_rule(numbered.id))))
-}
-
-/// The place of the rule with a number, if it is there.
-pub(crate) fn place_of<R: Wait, J: Naming>(rt: &R, desk: &Desk<J>, id: RuleId) -> Option<usize> {
-    desk.read(rt, |balancer, _tally| found(balancer, id))
 }
 
 fn found(balancer: &Balancer, id: RuleId) -> Option<usize> {

@@ -1,7 +1,7 @@
 //! What the last queries have most often: clients, names or rules.
 
 use crate::lines::Lines;
-use crate::recent::{Filter, OFF, push_labels};
+use crate::recent::{OFF, Wanted, push_labels};
 use crate::texts::push_number;
 use lb_recent::{Question, Record, Rings};
 use lb_typed::addr_word;
@@ -72,15 +72,14 @@ fn octets_of(addr: &Addr) -> &[u8] {
     }
 }
 
-/// What so many of the last queries have that a filter takes, the most frequent first, with their
+/// What the last queries that are asked for have most often, as many as are asked for, with their
 /// count and their share of all that the filter takes.
 pub(crate) fn top<R: Wait>(
     rt: &R,
     alloc: Global,
     rings: &Rings,
     by: By,
-    most: usize,
-    filter: &Filter,
+    wanted: &Wanted,
 ) -> Result<String, AllocError> {
     let mut lines = Lines::new(alloc);
     if rings.room() == 0 {
@@ -88,9 +87,9 @@ pub(crate) fn top<R: Wait>(
         return lines.ended();
     }
     let all = rings.room() as usize;
-    let found = rings.newest(rt, alloc, all, |record| filter.takes(record))?;
+    let found = rings.newest(rt, alloc, all, |record| wanted.filter.takes(record))?;
     let counted = counted(alloc, by, found.as_slice())?;
-    for (key, count) in counted.iter().take(most) {
+    for (key, count) in counted.iter().take(wanted.most) {
         let line = key_line(alloc, key, *count, found.len())?;
         lines.add(line.as_str())?;
     }

@@ -1,7 +1,7 @@
 use Rattle.std.proofs.Common.{[], ap, arith, ◌∙◌, ◌≡◌}
 use Rattle.std.specs.List.{range_with_len}
 use Rattle.lb_desk.proofs.Numbers.{each_grown, numbers_grown}
-use Rattle.lb_desk.proofs.desk.Desk.made.Goals as goal
+use Rattle.lb_desk.proofs.desk.seats_by.Goals as goal
 
 pub loop-number-preserved : goal.loop-number-preserved
 loop-number-preserved g c =
