@@ -1,6 +1,6 @@
 //! The connections of the listeners.
 
-ghost use Rattle.std.specs.Prelude.{IfOk};
+ghost use Rattle.std.specs.Prelude.{IfOk, ◌≡◌};
 ghost use Rattle.futures.specs.Task.{Keeps};
 
 use crate::answering::Front;
