@@ -7,7 +7,7 @@ ghost use Rattle.lb_program_serve.specs.Serving.{Closes, Fails, Served, ServedOn
 
 use crate::crew::OTHER_SEATED;
 use crate::fault::Fault;
-use crate::handlers::{Handlers, OtherSeats};
+use crate::handlers::Handlers;
 use crate::hears::Hears;
 use crate::listening::Listening;
 use crate::log::{LogFile, keep};
@@ -16,7 +16,7 @@ use crate::parts::{Context, OwnConsole, Runners, runners_at};
 use crate::switches::{MOST_LOOPS, Switches};
 use crate::threads::{FrontEnd, LoopsEnd, run_beside};
 use lb_core::Balancer;
-use lb_desk::{CloseFault, Desk, Naming, Seat};
+use lb_desk::{Desk, Naming, Seat};
 use lb_doh::posts_cross_threads;
 use lb_loops::{Caller, Ended, callers_cross_threads};
 use lb_metrics::Page;
@@ -116,29 +116,16 @@ fn serve_named<
     let (rt, alloc) = cx;
     let limit = u64::from(ready.plan.setup.log());
     let (desk, mut seats) = Desk::<J>::made(alloc, blank, balancer, limit, count)?;
-    let Some(others) = taken(&mut seats) else {
-        return Err(Fault::Closing(CloseFault::MissingSeat));
-    };
     let Ready {
         plan,
         listening,
         log,
     } = ready;
     let given = (&plan, listening);
-    match run_at_desk((rt, alloc), &desk, &mut seats, others, given, output) {
+    match run_at_desk((rt, alloc), &desk, &mut seats, given, output) {
         Ok(client) => close(alloc, desk, seats, client, log, output),
         Err(fault) => Err(fault),
     }
-}
-
-/// The seats besides those of the loops of datagrams, out of these.
-fn taken<J: Naming>(seats: &mut Vec<Seat<J>>) -> Option<OtherSeats<J>> {
-    Some(OtherSeats {
-        streams: seats.pop()?,
-        clock: seats.pop()?,
-        console: seats.pop()?,
-        front: seats.pop()?,
-    })
 }
 
 /// Puts the seats of these handlers into a list. The one error is lack of memory.
@@ -229,8 +216,7 @@ fn told(written: io::Result<()>) -> Result<(), Fault>
 }
 
 /// Runs the loops, the console and the front until serving ends, and gives the client that said
-/// stop. The seats of the loops of datagrams are taken out of their list, and all seats come into
-/// it.
+/// stop. The seats are taken out of their list, and come into it again.
 fn run_at_desk<
     'a,
     J: Naming + Send + Sync,
@@ -245,7 +231,6 @@ fn run_at_desk<
     cx: Context<'a, R>,
     desk: &'a Desk<J>,
     seats: &mut Vec<Seat<J>>,
-    others: OtherSeats<J>,
     given: (&Plan, Listening),
     output: &mut W,
 ) -> Result<Option<TcpStream>, Fault>
@@ -256,7 +241,7 @@ fn run_at_desk<
     callers_cross_threads::<J, R>();
     pages_cross_threads::<J, R>();
     let (plan, listening) = given;
-    let runners = match runners_at(cx, desk, seats, others, plan, listening) {
+    let runners = match runners_at(cx, desk, seats, plan, listening) {
         Ok(runners) => runners,
         Err(fault) => return Err(fault),
     };

@@ -21,6 +21,18 @@ pub(crate) struct OtherSeats<J: Naming> {
     pub(crate) front: Seat<J>,
 }
 
+impl<J: Naming> OtherSeats<J> {
+    /// The last four of these seats, out of their list. None if there are fewer.
+    pub(crate) fn taken(seats: &mut Vec<Seat<J>>) -> Option<OtherSeats<J>> {
+        Some(OtherSeats {
+            streams: seats.pop()?,
+            clock: seats.pop()?,
+            console: seats.pop()?,
+            front: seats.pop()?,
+        })
+    }
+}
+
 /// The handlers of events: of the loops, of the console, and of the front of DNS on HTTP.
 #[derive(Drop)]
 pub(crate) struct Handlers<T> {

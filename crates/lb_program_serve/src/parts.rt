@@ -20,7 +20,7 @@ use crate::switches::Switches;
 use crate::threads::{Fronting, LoopParts, Over, Services};
 use futures::channel::oneshot;
 use lb_command::Listener;
-use lb_desk::{Desk, Naming, Seat};
+use lb_desk::{CloseFault, Desk, Naming, Seat};
 use lb_doh::{HttpPosts, Requests};
 use lb_doh_server::{Bound, FrontParts, front_runtime};
 use lb_loops::{
@@ -72,18 +72,20 @@ pub(crate) type DeskRunners<'a, R, J> = Runners<'a, R, Caller<'a, R, J>, DeskPag
 /// The runtime, and the allocator.
 pub(crate) type Context<'a, R> = (&'a R, Global);
 
-/// What the loops, the console and the services by HTTP are made of at a desk. The seats of the
-/// loops of datagrams are taken out of their list.
+/// What the loops, the console and the services by HTTP are made of at a desk. The seats are taken
+/// out of their list.
 pub(crate) fn runners_at<'a, J: Naming, R: Wait + Net + Clock + RandomSource>(
     cx: Context<'a, R>,
     desk: &'a Desk<J>,
     seats: &mut Vec<Seat<J>>,
-    others: OtherSeats<J>,
     plan: &Plan,
     listening: Listening,
 ) -> Result<DeskRunners<'a, R, J>, Fault>
     ensures { IfOk result (λ p. AreFronts p.loops.streams.fronts.items p.loops.clock.fronts.items plan.now.setup.listeners) }
 {
+    let Some(others) = OtherSeats::taken(seats) else {
+        return Err(Fault::Closing(CloseFault::MissingSeat));
+    };
     let (shared, rings) = shared_by(cx.1, plan, seats.len())?;
     let handlers = callers(cx, desk, seats, others, (&rings, &shared.sends))?;
     let page = page_of(cx, desk, plan, &shared.sends)?;
