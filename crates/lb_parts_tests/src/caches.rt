@@ -73,29 +73,54 @@ fn are_lives(list: &[CachedReply], lives: &[u32]) -> bool {
     list.len() == lives.len()
 }
 
+/// Puts the replies of `LIVES` into a cache.
+fn fill(alloc: Global, cache: &mut Cache) -> Result<(), Fail> {
+    for (kind, name, rtype, life) in LIVES {
+        let under = key(alloc, *kind, name, *rtype)?;
+        put(cache, under, *life)?;
+    }
+    Ok(())
+}
+
+/// Whether the list is by transport and then by octets.
+fn is_in_order(alloc: Global, cache: &Cache) -> Result<bool, AllocError> {
+    let list = cache.list(alloc).or_else(|_refused| cache.list(alloc))?;
+    Ok(are_lives(list.as_slice(), &[3, 4, 2, 1]))
+}
+
+/// The age of the reply for example.com at a second.
+fn age_at(alloc: Global, cache: &Cache, moment: u64) -> Result<u64, Fail> {
+    let under = key(alloc, Datagram, EXAMPLE, 1)?;
+    let hit = cache.look(&under, moment).ok_or("no such reply")?;
+    Ok(u64::from(hit.secs))
+}
+
+/// Whether so many replies are dead at a moment, and so many are left once they are purged.
+fn is_purged(cache: &mut Cache, moment: u64, dead: usize, left: usize) -> bool {
+    cache.purge_dead(moment) == dead && cache.len() == left
+}
+
+/// Whether a cache has the limits with which it was made.
+fn has_limits(cache: &Cache) -> bool {
+    cache.max().get() == 10 && cache.max_ttl().get() == 86_400 && cache.skips() == [10].as_slice()
+}
+
+/// What holds of a cache with the replies of `LIVES`.
+fn lists_and_purges(alloc: Global, cache: &mut Cache) -> Result<(), Fail> {
+    held(0, is_in_order(alloc, cache)?)?;
+    held(1, age_at(alloc, cache, 1000)? == 0)?;
+    held(2, is_purged(cache, 2999, 0, 4))?;
+    held(3, is_purged(cache, 3000, 1, 3))?;
+    held(4, has_limits(cache))
+}
+
 /// The list is by transport and then by octets. A reply is found at a moment before its own, which
 /// no run of lines has. The dead are purged and counted.
 #[test]
 fn by_transport_and_then_by_octets(rt: HostRuntime) -> Result<(), Fail> {
-    let alloc = rt.alloc();
-    let mut cache = cache(alloc, 10)?;
-    for (kind, name, rtype, life) in LIVES {
-        let under = key(alloc, *kind, name, *rtype)?;
-        put(&mut cache, under, *life)?;
-    }
-    let list = cache.list(alloc).or_else(|_refused| cache.list(alloc))?;
-    held(0, are_lives(list.as_slice(), &[3, 4, 2, 1]))?;
-    let under = key(alloc, Datagram, EXAMPLE, 1)?;
-    let hit = cache.look(&under, 1000).ok_or("no such reply")?;
-    held(1, hit.secs == 0)?;
-    held(2, cache.purge_dead(2999) == 0 && cache.len() == 4)?;
-    held(3, cache.purge_dead(3000) == 1 && cache.len() == 3)?;
-    held(
-        4,
-        cache.max().get() == 10
-            && cache.max_ttl().get() == 86_400
-            && cache.skips() == [10].as_slice(),
-    )
+    let mut cache = cache(rt.alloc(), 10)?;
+    fill(rt.alloc(), &mut cache)?;
+    lists_and_purges(rt.alloc(), &mut cache)
 }
 
 /// What stands after the header without its ID of a query for example.com, type A and class IN.
@@ -186,21 +211,26 @@ fn are_listed(
     )
 }
 
+/// Two caches come, and others in their place, and one goes.
+fn come_and_go(alloc: Global, caches: &mut Caches) -> Result<(), Fail> {
+    attach(alloc, caches, 1, 10, None)?;
+    attach(alloc, caches, 2, 1, None)?;
+    held(0, keeps(alloc, caches, 2, Datagram)?)?;
+    held(1, keeps(alloc, caches, 1, Stream)?)?;
+    held(2, keeps(alloc, caches, 1, Datagram)?)?;
+    held(3, are_listed(alloc, caches, &[1, 2], &[1, 1, 2])?)?;
+    held(4, caches.expunge(CacheId(3), &Covered::All) == 0)?;
+    attach(alloc, caches, 3, 5, Some(CacheId(2)))?;
+    held(5, are_listed(alloc, caches, &[1, 3], &[1, 1])?)?;
+    caches.detach(CacheId(1));
+    held(6, are_listed(alloc, caches, &[3], &[])?)
+}
+
 /// Caches are listed by number, and what they keep by cache. One that is not there keeps nothing.
 #[test]
 fn two_caches(rt: HostRuntime) -> Result<(), Fail> {
     let mut caches = Caches::new(rt.alloc());
-    attach(rt.alloc(), &mut caches, 1, 10, None)?;
-    attach(rt.alloc(), &mut caches, 2, 1, None)?;
-    held(0, keeps(rt.alloc(), &mut caches, 2, Datagram)?)?;
-    held(1, keeps(rt.alloc(), &mut caches, 1, Stream)?)?;
-    held(2, keeps(rt.alloc(), &mut caches, 1, Datagram)?)?;
-    held(3, are_listed(rt.alloc(), &caches, &[1, 2], &[1, 1, 2])?)?;
-    held(4, caches.expunge(CacheId(3), &Covered::All) == 0)?;
-    attach(rt.alloc(), &mut caches, 3, 5, Some(CacheId(2)))?;
-    held(5, are_listed(rt.alloc(), &caches, &[1, 3], &[1, 1])?)?;
-    caches.detach(CacheId(1));
-    held(6, are_listed(rt.alloc(), &caches, &[3], &[])?)
+    come_and_go(rt.alloc(), &mut caches)
 }
 
 /// The cache with a number keeps so many replies at most, each for a day at most.

@@ -228,14 +228,19 @@ const ADDED: &[(usize, Asks)] = &[
 /// A chain of the rules 2, 4 and 1.
 fn edited(alloc: Global) -> Result<Clock, Fail> {
     let mut clock = Clock::new(alloc);
+    edit(alloc, &mut clock)?;
+    Ok(clock)
+}
+
+/// Adds the rules of `ADDED`, and moves and removes some.
+fn edit(alloc: Global, clock: &mut Clock) -> Result<(), Fail> {
     for (place, asks) in ADDED {
         let _id = clock.add(*place, rule(alloc, *asks, Does::Nothing)?)?;
     }
     // from 4, 1, 2, 3 to 4, 2, 3, 1, to 4, 2, 1 and to 2, 4, 1
     clock.shift(1, 3)?;
     clock.remove(3)?;
-    clock.shift(4, 1)?;
-    Ok(clock)
+    Ok(clock.shift(4, 1)?)
 }
 
 /// The rules with their passes, once the limiter of rule 4 counted a query.
@@ -260,15 +265,20 @@ const OUT: &[(u64, &[RulePass])] = &[(2, &[]), (4, &[]), (1, &[])];
 #[test]
 fn edits_and_their_faults(rt: HostRuntime) -> Result<(), Fail> {
     let mut clock = edited(rt.alloc())?;
-    let _walked = clock.comes(1000)?;
-    held(0, lists(rt.alloc(), &clock.chain, Some(2000), OUT)?)?;
-    held(1, lists(rt.alloc(), &clock.chain, None, COUNTED)?)?;
+    counts_and_forgets(rt.alloc(), &mut clock)?;
     held(
         2,
         ChainFault::NoMemory.number() == 5 && ChainFault::NoMoreIds.number() == 6,
     )?;
     let unused = Passed::default();
     held(3, unused.rule == RuleId(0) && unused.limiter == 0)
+}
+
+/// The limiter of rule 4 counts a query, which is out of its window a second later.
+fn counts_and_forgets(alloc: Global, clock: &mut Clock) -> Result<(), Fail> {
+    let _walked = clock.comes(1000)?;
+    held(0, lists(alloc, &clock.chain, Some(2000), OUT)?)?;
+    held(1, lists(alloc, &clock.chain, None, COUNTED)?)
 }
 
 /// An answer with an address.
