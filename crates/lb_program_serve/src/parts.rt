@@ -350,21 +350,43 @@ impl Tools {
         ensures { IfOk result (λ tools. AreFronts tools.fronts.0.items tools.fronts.1.items plan.now.setup.listeners) }
     {
         let (shared, rings) = common;
-        let (rt, alloc) = cx;
-        let console = ConsoleSockets::made(rt, alloc, consoles)?;
-        let waker = console.waker()?;
+        let (console, waker) = console_of(cx, consoles)?;
+        let (streams, roster, sends) = holds_of(shared, sockets)?;
         let words = words_of(cx, plan, &shared.sends, rings)?;
-        let fronts = fronts_for_two(alloc, plan.setup.listeners())?;
+        let fronts = fronts_for_two(cx.1, plan.setup.listeners())?;
         Ok(Tools {
             words,
             console,
             waker,
             fronts,
-            streams: sockets.streams.waker()?,
-            roster: Arc::try_clone(&shared.roster)?,
-            sends: Arc::try_clone(&shared.sends)?,
+            streams,
+            roster,
+            sends,
         })
     }
+}
+
+/// The sockets of the console, and what wakes it.
+fn console_of<R: Net>(
+    cx: Context<'_, R>,
+    consoles: Vec<TcpListener>,
+) -> Result<(ConsoleSockets, mio::Waker), Fault> {
+    let (rt, alloc) = cx;
+    let console = ConsoleSockets::made(rt, alloc, consoles)?;
+    let waker = console.waker()?;
+    Ok((console, waker))
+}
+
+/// What wakes the loop of streams, and holds of the roster and of the counts of failed sends.
+type Holds = (PollWaker, Arc<Mutex<Roster>>, Arc<Sends>);
+
+/// Holds of what is shared, and of sockets.
+fn holds_of<R: Net + Clock>(shared: &Shared, sockets: &Sockets<'_, R>) -> Result<Holds, Fault> {
+    Ok((
+        sockets.streams.waker()?,
+        Arc::try_clone(&shared.roster)?,
+        Arc::try_clone(&shared.sends)?,
+    ))
 }
 
 /// The fronts of these lines, for two loops.
@@ -506,25 +528,59 @@ fn assembled<'a, R: Wait + Net + Clock + RandomSource, T: Hears, G: Page>(
     ensures { IfOk result (λ p. (p.loops.streams.fronts ≡ made.entry.loops.fronts.0) × (p.loops.clock.fronts ≡ made.entry.loops.fronts.1)) }
 {
     let (handlers, page) = own;
-    let (http, listener) = listeners;
+    let Handlers {
+        datagrams,
+        streams,
+        clock,
+        console,
+        front,
+    } = handlers;
     let Made {
         rows,
         loops,
-        console,
-        front,
+        console: of_console,
+        front: of_front,
         over,
         page_end,
     } = made;
+    let of_http = (of_front, front, page, page_end);
+    match rest_of(cx, rows, datagrams, &loops.outside, listeners, of_http) {
+        Ok((rows, services)) => Ok(Runners {
+            loops: loops.with(rows, (streams, clock)),
+            console: of_console.with(cx, servers, console),
+            over,
+            services,
+        }),
+        Err(fault) => Err(fault),
+    }
+}
+
+/// What the services by HTTP are made of: the front's parts and its handler of events, the page of
+/// metrics, if there is one, and what ends its service.
+type OfHttp<'a, R, T, G> = (OfFront<'a, R>, T, Option<G>, oneshot::Receiver<()>);
+
+/// What the loops of datagrams are made of, and the services by HTTP.
+fn rest_of<'a, R: Wait + Net + Clock + RandomSource, T: Hears, G: Page>(
+    cx: Context<'a, R>,
+    rows: Rows<'a, R>,
+    takers: Vec<T>,
+    outside: &SystemOutside<'a, R>,
+    listeners: Listeners,
+    of_http: OfHttp<'a, R, T, G>,
+) -> Result<(RowWithRoom<'a, R, T>, OwnServices<'a, R, T, G>), Fault> {
+    let rows = row_of(cx.1, rows, takers, outside)?;
+    Ok((rows, services_of(cx, listeners, of_http)?))
+}
+
+/// The services by HTTP.
+fn services_of<'a, R: Wait + Net + Clock + RandomSource, T: Drop, G: Page>(
+    cx: Context<'a, R>,
+    listeners: Listeners,
+    of_http: OfHttp<'a, R, T, G>,
+) -> Result<OwnServices<'a, R, T, G>, Fault> {
+    let (http, listener) = listeners;
+    let (front, taker, page, page_end) = of_http;
     let metrics = metrics_at(cx, listener, page, page_end)?;
-    let front = front.with(cx, http, handlers.front)?;
-    let rows = match row_of(cx.1, rows, handlers.datagrams, &loops.outside) {
-        Ok(rows) => rows,
-        Err(refused) => return Err(Fault::from(refused)),
-    };
-    Ok(Runners {
-        loops: loops.with(rows, (handlers.streams, handlers.clock)),
-        console: console.with(cx, servers, handlers.console),
-        over,
-        services: Services { front, metrics },
-    })
+    let front = front.with(cx, http, taker)?;
+    Ok(Services { front, metrics })
 }

@@ -144,8 +144,8 @@ pub(crate) struct Devices<'a, R: Wait + Net + Clock + RandomSource> {
     pub(crate) sockets: Sockets<'a, R>,
     pub(crate) halts: Halts,
     pub(crate) ties: Ties,
-    /// What hands answers to requests by HTTP for the loop of streams, and for the clock.
-    pub(crate) posts: (HttpPosts<'a, R>, HttpPosts<'a, R>),
+    /// For the loop of streams, and for the clock.
+    pub(crate) posts: Posts<'a, R>,
     pub(crate) outside: SystemOutside<'a, R>,
 }
 
@@ -157,16 +157,45 @@ impl<'a, R: Wait + Net + Clock + RandomSource> Devices<'a, R> {
         plan: &Plan,
         shared: &Shared,
     ) -> Result<Devices<'a, R>, Fault> {
+        let (ties, posts, outside) = tied(cx, shared)?;
         let limits = limits_of(Clients::beside(plan), &plan.switches);
-        let sockets = Sockets::made(cx, bound, limits, Arc::try_clone(&shared.sends)?)?;
+        let (sockets, halts) = open(cx, bound, limits, shared)?;
         Ok(Devices {
-            halts: Halts::made(cx.1, &sockets, &shared.stop)?,
             sockets,
-            ties: Ties::made(cx.1)?,
-            posts: shared.posts(cx)?,
-            outside: SystemOutside::new(cx.0)?,
+            halts,
+            ties,
+            posts,
+            outside,
         })
     }
+}
+
+/// The sockets of the loops, and what ends these.
+fn open<'a, R: Net + Clock>(
+    cx: Context<'a, R>,
+    bound: BoundSockets,
+    limits: Limits,
+    shared: &Shared,
+) -> Result<(Sockets<'a, R>, Halts), Fault> {
+    let sockets = Sockets::made(cx, bound, limits, Arc::try_clone(&shared.sends)?)?;
+    let halts = Halts::made(cx.1, &sockets, &shared.stop)?;
+    Ok((sockets, halts))
+}
+
+/// What hands answers to requests by HTTP, for two loops.
+type Posts<'a, R> = (HttpPosts<'a, R>, HttpPosts<'a, R>);
+
+/// What ties threads together, what hands answers to requests by HTTP, and the source of moments
+/// and words.
+fn tied<'a, R: Wait + Clock + RandomSource>(
+    cx: Context<'a, R>,
+    shared: &Shared,
+) -> Result<(Ties, Posts<'a, R>, SystemOutside<'a, R>), Fault> {
+    Ok((
+        Ties::made(cx.1)?,
+        shared.posts(cx)?,
+        SystemOutside::new(cx.0)?,
+    ))
 }
 
 /// How many clients over TCP may be connected.
