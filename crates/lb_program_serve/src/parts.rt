@@ -377,10 +377,10 @@ fn console_of<R: Net>(
     Ok((console, waker))
 }
 
-/// What wakes the loop of streams, and holds of the roster and of the counts of failed sends.
+/// What wakes the loop of streams, and references to the roster and to the counts of failed sends.
 type Holds = (PollWaker, Arc<Mutex<Roster>>, Arc<Sends>);
 
-/// Holds of what is shared, and of sockets.
+/// What wakes the loop of streams, and references to what is shared.
 fn holds_of<R: Net + Clock>(shared: &Shared, sockets: &Sockets<'_, R>) -> Result<Holds, Fault> {
     Ok((
         sockets.streams.waker()?,
